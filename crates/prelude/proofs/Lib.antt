@@ -1,0 +1,5 @@
+pub mod Tests
+pub mod Scan
+pub mod Tab
+pub mod Bits
+pub mod Pages

@@ -1,0 +1,268 @@
+-- Laws of the scans over numbers below a bound.
+use mathlib.Core.Path.{_≡_, refl, sym, ap, _∙_}
+use mathlib.Core.Bool.{Bool, true, false, not, cond, _&&_}
+use Prim.Native.Nat.{ℕ, zero, suc, _+_, _-_, _≤_, _<_}
+use native.Mathlib.Nat.{not-suc-le-zero, add-zero, zero-add}
+use native.Mathlib.Numerals.{add-one}
+use native.Mathlib.Omega.{arith}
+use lib.Dec.{ltb, eqb}
+use borrow.Author.Tests.{ltb-true, ltb-false, eqb-true, eqb-false, lt-ltb, eq-eqb, ne-eqb}
+use Rattle.prelude.specs.Scan.{firstFrom, first, count, all, allPairs, nth, argmax, least}
+use Rattle.prelude.proofs.Tests.{by-test, clash, and-l, and-r, and-i, not-i}
+
+-- ---- all
+
+pub all-at : (n : ℕ) (p : ℕ → Bool) → all n p ≡ true → (i : ℕ) → i < n → p i ≡ true
+unfolding all
+all-at zero p h i l = absurd (not-suc-le-zero l)
+all-at (suc n) p h i l = by-test (eqb i n)
+    (λ e. rw (eqb-true i n e) (and-r (all n p) (p n) h))
+    (λ e. all-at n p (and-l (all n p) (p n) h) i (let z = eqb-false i n e in omega arith))
+
+pub all-of : (n : ℕ) (p : ℕ → Bool) → ((i : ℕ) → i < n → p i ≡ true) → all n p ≡ true
+unfolding all
+all-of zero p f = refl
+all-of (suc n) p f = and-i (all-of n p (λ i l. f i (omega arith))) (f n (omega arith))
+
+pub pairs-at : (n : ℕ) (p : ℕ → ℕ → Bool) → allPairs n p ≡ true → (i j : ℕ) → i < j → j < n → p i j ≡ true
+unfolding allPairs
+pairs-at n p h i j il jl = all-at j (λ k. p k j) (all-at n (λ m. all m (λ k. p k m)) h j jl) i il
+
+pub pairs-of : (n : ℕ) (p : ℕ → ℕ → Bool) → ((i j : ℕ) → i < j → j < n → p i j ≡ true) → allPairs n p ≡ true
+unfolding allPairs
+pairs-of n p f = all-of n (λ m. all m (λ k. p k m)) (λ j jl. all-of j (λ k. p k j) (λ i il. f i j il jl))
+
+-- a loop that keeps a flag: none passed yet, and one more turn
+pub all-none : (p : ℕ → Bool) → all 0 p ≡ true
+unfolding all
+all-none p = refl
+
+pub all-more : (p : ℕ → Bool) (i : ℕ) {ok ok′ : Bool} → ok ≡ all i p → ok′ ≡ (ok && p i) → ok′ ≡ all (i + 1) p
+unfolding all
+all-more p i {ok} e q = q ∙ rw (e, add-one i)
+
+-- ---- first
+
+pub record First (i n : ℕ) (p : ℕ → Bool) (r : ℕ) : Type 0 where
+  pub low : i ≤ r
+  pub high : r ≤ i + n
+  pub hit : r < i + n → p r ≡ true
+  pub miss : (j : ℕ) → i ≤ j → j < r → p j ≡ false
+
+pub firstFrom-is : (i n : ℕ) (p : ℕ → Bool) → First i n p (firstFrom i n p)
+unfolding firstFrom
+firstFrom-is i zero p = record { low = omega arith; high = omega arith; hit = λ l. absurd (omega arith); miss = λ j a b. absurd (omega arith) }
+firstFrom-is i (suc n) p = by-test (p i)
+    (λ e. rw (e, firstFrom) (record { low = omega arith; high = omega arith; hit = λ l. e; miss = λ j a b. absurd (omega arith) }))
+    (λ e. rw (e, firstFrom) (let h = firstFrom-is (suc i) n p in record {
+      low = omega arith;
+      high = omega arith;
+      hit = λ l. h .hit (omega arith);
+      miss = λ j a b. by-test (eqb j i)
+          (λ q. rw (eqb-true j i q) e)
+          (λ q. h .miss j (let z = eqb-false j i q in omega arith) b);
+    }))
+
+module _ (n : ℕ) (p : ℕ → Bool) where
+  pub first-le : first n p ≤ n
+  unfolding first
+  first-le = let h = firstFrom-is 0 n p in omega arith
+
+  pub first-hit : first n p < n → p (first n p) ≡ true
+  unfolding first
+  first-hit l = firstFrom-is 0 n p .hit (omega arith)
+
+  pub first-miss : (j : ℕ) → j < first n p → p j ≡ false
+  unfolding first
+  first-miss j l = firstFrom-is 0 n p .miss j (omega arith) l
+
+  -- where one passes, the first does, and stands no later
+  pub first-at : (j : ℕ) → j < n → p j ≡ true → first n p ≤ j
+  first-at j l e = by-test (ltb j (first n p)) (λ q. clash e (first-miss j (ltb-true j (first n p) q))) (λ q. let z = ltb-false j (first n p) q in omega arith)
+
+-- ---- count
+
+pub count-le : (n : ℕ) (p : ℕ → Bool) → count n p ≤ n
+unfolding count
+count-le zero p = omega arith
+count-le (suc n) p = by-test (p n) (λ e. rw e (let h = count-le n p in omega arith)) (λ e. rw e (let h = count-le n p in omega arith))
+
+-- a count is monotone in the bound, and grows past a number that passes
+pub count-mono : (n k : ℕ) (p : ℕ → Bool) → n ≤ k → count n p ≤ count k p
+unfolding count
+count-mono n zero p l = rw (let e : n ≡ 0 = omega arith in e) (omega arith)
+count-mono n (suc k) p l = by-test (eqb n (suc k))
+    (λ e. rw (eqb-true n (suc k) e) (omega arith))
+    (λ e. let h = count-mono n k p (let z = eqb-false n (suc k) e in omega arith) in omega arith)
+
+pub count-past : (i n : ℕ) (p : ℕ → Bool) → i < n → p i ≡ true → count i p < count n p
+unfolding count
+count-past i n p l e = let h : cond (p i) 1 0 + count i p ≤ count n p = count-mono (suc i) n p l in let h2 : 1 + count i p ≤ count n p = (rw e at h) in omega arith
+
+pub count-none : (n : ℕ) (p : ℕ → Bool) → ((j : ℕ) → j < n → p j ≡ false) → count n p ≡ 0
+unfolding count
+count-none zero p f = refl
+count-none (suc n) p f = rw (f n (omega arith)) (let h = count-none n p (λ j l. f j (omega arith)) in omega arith)
+
+-- a count that is not 0 has a member
+pub count-some : (n : ℕ) (p : ℕ → Bool) → 0 < count n p → first n p < n
+count-some n p h = by-test (ltb (first n p) n) (λ e. ltb-true (first n p) n e)
+    (λ e. absurd (let z = count-none n p (λ j l. first-miss n p j (let y = ltb-false (first n p) n e in omega arith)) in omega arith))
+
+-- two tests alike below n have one count
+pub count-same : (n : ℕ) (p q : ℕ → Bool) → ((j : ℕ) → j < n → p j ≡ q j) → count n p ≡ count n q
+unfolding count
+count-same zero p q f = refl
+count-same (suc n) p q f = rw (f n (omega arith)) (let h = count-same n p q (λ j l. f j (omega arith)) in omega arith)
+
+-- a count falls apart by a second test
+pub count-split : (n : ℕ) (p q : ℕ → Bool) → count n p ≡ count n (λ i. p i && q i) + count n (λ i. p i && not (q i))
+unfolding count
+count-split zero p q = refl
+count-split (suc n) p q = let h = count-split n p q in by-test (p n)
+    (λ e. by-test (q n) (λ k. rw (e, k) (omega arith)) (λ k. rw (e, k) (omega arith)))
+    (λ e. rw e (omega arith))
+
+-- one number less
+pub count-remove : (n : ℕ) (p : ℕ → Bool) (x : ℕ) → x < n → p x ≡ true → count n p ≡ suc (count n (λ i. p i && not (eqb i x)))
+unfolding count
+count-remove zero p x l e = absurd (not-suc-le-zero l)
+count-remove (suc n) p x l e = by-test (eqb n x)
+    (λ k. let k2 = eqb-true n x k in let e2 : p n ≡ true = (rw k2 e) in
+    let h = count-same n p (λ i. p i && not (eqb i x)) (λ j jl. let ne : eqb j x ≡ false = ne-eqb j x (λ w. absurd (omega arith)) in by-test (p j) (λ t. rw (t, ne)) (λ t. rw t)) in
+    rw (e2, k) (omega arith))
+    (λ k. let k2 = eqb-false n x k in let h = count-remove n p x (omega arith) e in by-test (p n)
+    (λ t. rw (t, k) (omega arith))
+    (λ t. rw t (omega arith)))
+
+-- no more numbers pass p below n than pass q below k, where h takes each to one of its own
+pub count-inj : (n k : ℕ) (p q : ℕ → Bool) (h : ℕ → ℕ) → ((i : ℕ) → i < n → p i ≡ true → (h i < k) × (q (h i) ≡ true))
+    → ((i j : ℕ) → i < n → j < n → p i ≡ true → p j ≡ true → h i ≡ h j → i ≡ j) → count n p ≤ count k q
+unfolding count
+count-inj zero k p q h f g = omega arith
+count-inj (suc n) k p q h f g = by-test (p n)
+    (λ e. let a = f n (omega arith) e in let w = count-remove k q (h n) (a .0) (a .1) in
+    let ih = count-inj n k p (λ i. q i && not (eqb i (h n))) h
+    (λ i l t. let b = f i (omega arith) t in (b .0, and-i (b .1) (not-i (ne-eqb (h i) (h n) (λ y. let ij = g i n (omega arith) (omega arith) t e y in omega arith)))))
+    (λ i j l l2 t t2 y. g i j (omega arith) (omega arith) t t2 y) in
+    rw e (omega arith))
+    (λ e. rw e (let ih = count-inj n k p q h (λ i l t. f i (omega arith) t) (λ i j l l2 t t2 y. g i j (omega arith) (omega arith) t t2 y) in omega arith))
+
+-- at most one passes
+pub count-one : (n : ℕ) (p : ℕ → Bool) → ((i j : ℕ) → i < n → j < n → p i ≡ true → p j ≡ true → i ≡ j) → count n p ≤ 1
+unfolding count
+count-one n p f = count-inj n 1 p (λ i. true) (λ i. 0) (λ i l t. (omega arith, refl)) (λ i j l l2 t t2 e. f i j l l2 t t2)
+
+-- ---- nth
+
+-- the passing number with r passing ones below it
+pub nth-is : (n : ℕ) (p : ℕ → Bool) (r : ℕ) → nth n p r < n → (p (nth n p r) ≡ true) × (count (nth n p r) p ≡ r)
+unfolding nth
+nth-is n p r l = let h = first-hit n (λ i. p i && eqb (count i p) r) l in
+    (and-l (p (nth n p r)) _ h, eqb-true (count (nth n p r) p) r (and-r (p (nth n p r)) _ h))
+
+-- two passing numbers with as many below are one
+pub rank-inj : (p : ℕ → Bool) (i j : ℕ) → p i ≡ true → p j ≡ true → count i p ≡ count j p → i ≡ j
+rank-inj p i j a b e = by-test (ltb i j)
+    (λ q. absurd (let h = count-past i j p (ltb-true i j q) a in omega arith))
+    (λ q. by-test (ltb j i)
+    (λ s. absurd (let h = count-past j i p (ltb-true j i s) b in omega arith))
+    (λ s. let x = ltb-false i j q in let y = ltb-false j i s in omega arith))
+
+-- there is none past the count
+pub nth-none : (n : ℕ) (p : ℕ → Bool) (r : ℕ) → count n p ≤ r → n ≤ nth n p r
+nth-none n p r l = by-test (ltb (nth n p r) n)
+    (λ e. let w = ltb-true _ n e in let h = nth-is n p r w in let c = count-past (nth n p r) n p w (h .0) in let d = h .1 in absurd (omega arith))
+    (λ e. ltb-false _ n e)
+
+pub nth-rank : (n : ℕ) (p : ℕ → Bool) (i : ℕ) → i < n → p i ≡ true → nth n p (count i p) ≡ i
+unfolding nth
+nth-rank n p i l e =
+    let q : ℕ → Bool = λ j. p j && eqb (count j p) (count i p) in
+    let at = first-at n q i l (and-i e (eq-eqb (count i p) (count i p) refl)) in
+    let h = nth-is n p (count i p) (omega arith) in
+    rank-inj p (nth n p (count i p)) i (h .0) e (h .1)
+
+-- there is an r-th where more than r pass
+pub nth-some : (n : ℕ) (p : ℕ → Bool) (r : ℕ) → r < count n p → nth n p r < n
+unfolding nth count
+nth-some zero p r l = absurd (omega arith)
+nth-some (suc n) p r l = by-test (ltb r (count n p))
+    (λ q. let l2 = nth-some n p r (ltb-true r (count n p) q) in let h = nth-is n p r l2 in
+    let at = first-at (suc n) (λ j. p j && eqb (count j p) r) (nth n p r) (omega arith) (and-i (h .0) (eq-eqb _ _ (h .1))) in omega arith)
+    (λ q. by-test (p n)
+    (λ e. let g = ltb-false r (count n p) q in let l3 : r < 1 + count n p = (rw e at l) in
+    let at = first-at (suc n) (λ j. p j && eqb (count j p) r) n (omega arith) (and-i e (eq-eqb (count n p) r (omega arith))) in omega arith)
+    (λ e. absurd (let g = ltb-false r (count n p) q in let l3 : r < 0 + count n p = (rw e at l) in omega arith)))
+
+-- ---- argmax
+
+pub argmax-lt : (n : ℕ) (g : ℕ → ℕ) → 0 < n → argmax n g < n
+unfolding argmax
+argmax-lt zero g l = absurd (omega arith)
+argmax-lt (suc zero) g l = by-test (ltb (g 0) (g 0)) (λ e. rw e (omega arith)) (λ e. rw e (omega arith))
+argmax-lt (suc (suc n)) g l = let h = argmax-lt (suc n) g (omega arith) in
+    by-test (ltb (g (argmax (suc n) g)) (g (suc n))) (λ e. rw e (omega arith)) (λ e. rw e (omega arith))
+
+pub argmax-ge : (n : ℕ) (g : ℕ → ℕ) (i : ℕ) → i < n → g i ≤ g (argmax n g)
+unfolding argmax
+argmax-ge zero g i l = absurd (omega arith)
+argmax-ge (suc n) g i l = by-test (ltb (g (argmax n g)) (g n))
+    (λ e. rw e (at (λ l2. let h = argmax-ge n g i l2 in let z = ltb-true (g (argmax n g)) (g n) e in omega arith) (omega arith)))
+    (λ e. rw e (at (λ l2. argmax-ge n g i l2) (ltb-false (g (argmax n g)) (g n) e)))
+  where
+    at : {m : ℕ} → (i < n → g i ≤ m) → g n ≤ m → g i ≤ m
+    at f h = by-test (eqb i n) (λ q. rw (eqb-true i n q) h) (λ q. f (let z = eqb-false i n q in omega arith))
+
+-- ---- least
+
+pub least-le : (n : ℕ) (g : ℕ → ℕ) (d i : ℕ) → i < n → least n g d ≤ g i
+unfolding least
+least-le zero g d i l = absurd (omega arith)
+least-le (suc n) g d i l = by-test (eqb i n)
+    (λ e. rw (eqb-true i n e) (by-test (ltb (g n) (least n g d)) (λ q. rw q (omega arith)) (λ q. rw q (ltb-false (g n) (least n g d) q))))
+    (λ e. let h = least-le n g d i (let w = eqb-false i n e in omega arith) in
+    by-test (ltb (g n) (least n g d)) (λ q. rw q (let w = ltb-true (g n) (least n g d) q in omega arith)) (λ q. rw q h))
+
+pub least-is : (n : ℕ) (g : ℕ → ℕ) (d : ℕ) → least n g d < d → (i : ℕ) × (i < n) × (g i ≡ least n g d)
+unfolding least
+least-is zero g d = λ l. absurd (omega arith)
+least-is (suc n) g d = by-test (ltb (g n) (least n g d))
+    (λ q. rw q (λ l. (n, omega arith, refl)))
+    (λ q. rw q (λ l. let h = least-is n g d l in let h1 = h .1 in (h .0, omega arith, h .2)))
+
+-- ---- a list of n entries that has each number below n
+
+module _ (n : ℕ) (u : ℕ → ℕ) (has : (f : ℕ) → f < n → (i : ℕ) × (i < n) × (u i ≡ f)) where
+  abbrev position : ℕ → ℕ
+  position f = first n (λ k. eqb (u k) f)
+
+  position-is : (f : ℕ) → f < n → (position f < n) × (u (position f) ≡ f)
+  position-is f l =
+      let h = has f l in
+      let at = first-at n (λ k. eqb (u k) f) (h .0) (h .1) (eq-eqb (u (h .0)) f (h .2)) in
+      let hl = h .1 in
+      let pl : position f < n = omega arith in
+      (pl, eqb-true (u (position f)) f (first-hit n (λ k. eqb (u k) f) pl))
+
+  -- no index is left over: else n numbers would have places among n - 1 indices
+  none-over : (i : ℕ) → i < n → ((f : ℕ) → f < n → position f ≡ i → ⊥) → ⊥
+  none-over i l out =
+      let every-one = count-same n (λ k. true) (λ k. true) (λ j jl. refl) in
+      let r = count-remove n (λ k. true) i l refl in
+      let c = count-inj n n (λ k. true) (λ k. true && not (eqb k i)) position
+      (λ f fl t. (position-is f fl .0, not-i (ne-eqb (position f) i (out f fl))))
+      (λ f g fl gl t t2 e. sym (position-is f fl .1) ∙ ap u e ∙ position-is g gl .1) in
+      omega arith
+
+  -- so each entry is below n, and stands once
+  pub listed-at : (i : ℕ) → i < n → (u i < n) × (first n (λ k. eqb (u k) (u i)) ≡ i)
+  listed-at i l = by-test (ltb (u i) n && eqb (position (u i)) i)
+      (λ e. (ltb-true (u i) n (and-l (ltb (u i) n) (eqb (position (u i)) i) e), eqb-true (position (u i)) i (and-r (ltb (u i) n) (eqb (position (u i)) i) e)))
+      (λ e. absurd (none-over i l (λ f fl q.
+      let h = position-is f fl in
+      let v : u i ≡ f = sym (ap u q) ∙ h .1 in
+      clash (and-i {a = ltb (u i) n} {b = eqb (position (u i)) i} (rw v (lt-ltb f n fl)) (rw v (eq-eqb (position f) i q))) e)))
+
+  pub listed-once : (i j : ℕ) → i < n → j < n → u i ≡ u j → i ≡ j
+  listed-once i j il jl e = sym (listed-at i il .1) ∙ ap position e ∙ listed-at j jl .1

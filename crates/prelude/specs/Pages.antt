@@ -1,0 +1,23 @@
+-- A list as a run of pages of s elements each: page i is the s elements from i * s on.
+use mathlib.Core.List.{List, [], _∷_, _++_}
+use Prim.Native.Nat.{ℕ, _+_, _*_}
+use lib.ListN.{take, drop}
+use Rattle.prelude.specs.Scan.{tab}
+
+module _ {A : Type 0} where
+  -- page i of l
+  unfoldable pub pageAt : ℕ → List A → ℕ → List A
+  pageAt s l i = take s (drop (i * s) l)
+
+  -- l with pg as page i
+  unfoldable pub putPage : ℕ → List A → ℕ → List A → List A
+  putPage s l i pg = take (i * s) l ++ (pg ++ drop (i * s + s) l)
+
+  -- l cut into its first n pages
+  unfoldable pub pagesOf : ℕ → ℕ → List A → List (List A)
+  pagesOf s n l = tab n (pageAt s l)
+
+  -- pages joined to one list
+  unfoldable pub flat : List (List A) → List A
+  flat [] = []
+  flat (p ∷ l) = p ++ flat l

@@ -1,1 +1,12 @@
 pub mod Soundness
+pub mod Lookup
+pub mod Reflects
+pub mod Kept
+pub mod Plan
+pub mod Consistent
+pub mod Steps
+pub mod Flush
+pub mod Opening
+pub mod EachPage
+pub mod Buffers
+pub mod Demand3

@@ -1,20 +1,18 @@
 -- The soundness test and the facts of a sound record say the same.
-use mathlib.Core.Path.{_≡_, refl, sym, ap, _∙_}
+use mathlib.Core.Path.{_≡_, sym, _∙_}
 use mathlib.Core.Logic.{_⊎_, inl, inr}
-use mathlib.Core.Bool.{Bool, true, false, not, _&&_, _||_}
-use mathlib.Core.List.{[], _∷_}
-use Prim.Native.Nat.{ℕ, zero, suc, _+_, _*_, _^_, _≤_, _<_}
+use mathlib.Core.Bool.{Bool, true, not, _&&_, _||_}
+use Prim.Native.Nat.{ℕ, _*_, _^_, _≤_, _<_}
 use native.Mathlib.Nat.{mul-le-mul}
 use native.Mathlib.Omega.{arith}
-use lib.Dec.{leb, ltb, eqb}
-use lib.ListN.{length}
-use borrow.Author.Tests.{leb-true, ltb-true, ltb-false, eqb-true, eqb-false, le-leb, lt-ltb, le-ltb, eq-eqb, ne-eqb}
+use lib.Dec.{ltb, eqb}
+use borrow.Author.Tests.{leb-true, ltb-true, ltb-false, eqb-true, eqb-false, le-leb, lt-ltb, eq-eqb, ne-eqb}
 use Rattle.prelude.specs.Scan.{first, count, all, allPairs}
-use Rattle.prelude.proofs.Tests.{each, every-of, by-test, clash, and-l, and-r, and-i, or-l, or-r, or-cases, not-t, not-i}
+use Rattle.prelude.proofs.Tests.{each, every-of, by-test, clash, and-l, and-r, or-l, or-r, or-cases, not-t, not-i}
 use Rattle.prelude.proofs.Scan.{all-at, all-of, pairs-at, pairs-of, count-some, count-one, count-past, first-hit, listed-at, listed-once}
 use Rattle.model.specs.Sizes.{Sizes, vacant, sizesOk, InLimits}
 use Rattle.model.specs.Directory.{Directory, slotAt, frameAt, validAt, recencyAt, inFrame}
-use Rattle.model.specs.Soundness.{shapeOk, slotOk, frameOk, slotsDiffer, framesDiffer, cachedOnce, listedOnce, slotPast, framePast, sound, Shape, Entries, Listed, Past, Sound}
+use Rattle.model.specs.Soundness.{shapeOk, slotOk, frameOk, slotsDiffer, framesDiffer, cachedOnce, listedOnce, slotPast, framePast, sound, Shape, Entries, Listed, Sound}
 
 -- ---- sizes
 

@@ -1,0 +1,355 @@
+-- Demand 3: one theorem about a whole list of calls after an accepted opening.
+use mathlib.Core.Path.{_≡_, refl, sym, ap, _∙_}
+use mathlib.Core.Logic.{_⊎_, inl, inr}
+use mathlib.Core.Bool.{Bool, true, false, cond, _&&_}
+use mathlib.Core.List.{List, [], _∷_}
+use Prim.Native.Nat.{ℕ, zero, suc, _-_, _*_, _/_, _<_}
+use native.Mathlib.Nat.{not-suc-le-zero}
+use native.Mathlib.Omega.{arith}
+use lib.Dec.{ltb, eqb}
+use lib.ListN.{length, getD, set, replicate, getD-replicate}
+use lib.Seq.{getD-set-same, getD-set-other}
+use borrow.Author.Tests.{ltb-true, eqb-true, eqb-false, lt-ltb}
+use Rattle.prelude.specs.Pages.{pageAt, pagesOf, flat}
+use Rattle.prelude.proofs.Tests.{by-test, clash, each}
+use Rattle.prelude.proofs.Scan.{count-le}
+use Rattle.prelude.proofs.Tab.{getD-tab}
+use Rattle.model.specs.Sizes.{Sizes, vacant}
+use Rattle.model.specs.Policy.{Choice, Plan, plan, wayOf, erasedBy, mergeReads, mergedBy, Due, clean, due, dueOf, isWorn, lowestWorn}
+use Rattle.model.specs.Moves.{Memory, wornBy, joined, written, stepped, readPage, steppedPages}
+use Rattle.model.specs.Calls.{writeDone, stepDone, stepClean, flushDone, isRefused, Call, read, write, step, flush, State, Outcome, turnedDown, checked, readOutcome, writeOutcome, stepOutcome, Tally, steps, flushOutcome, decide, stepsPages, callPages, Page, Buffers, lentOk, openStore, Store, Result, zeroPage, memoryOf, buffersOf, told, lentBuffer, filledBuffer, carriedOut, call}
+use Rattle.model.specs.Lists.{Chosen, Picks, AllPick, Put, Accepted, Reference, arrayAfter, logAfter, beforeAfter, isFlush, bookSays, fed, opened, ReadGives, After, Claim, Demand3}
+use Rattle.model.proofs.Soundness.{limits-of, facts-sound}
+use Rattle.model.proofs.Lookup.{block-lt}
+use Rattle.model.proofs.Consistent.{Consistent, write-good}
+use Rattle.model.proofs.Steps.{Ready, due-elim, wornBy-length, steps-clean}
+use Rattle.model.proofs.Flush.{read-is, read-good, step-good, empty-flash, Moved, moved-none, step-moved, write-moves, flush-all}
+use Rattle.model.proofs.Opening.{opened-good, Accept, open-accepted, cached-once}
+use Rattle.model.proofs.EachPage.{written-each, step-each, flush-each}
+use Rattle.model.proofs.Buffers.{OfS, zero-long, Whole, memory-of-buffers, lent-buffers, buffers-of-memory, memory-whole, memory-lengths, page-of-flat}
+
+-- ---- a refused outcome leaves the state alone
+
+abbrev KeepsRefused : State → Outcome → Type 0
+KeepsRefused k o = isRefused (o .answer) ≡ true → o .state ≡ k
+
+module _ (sz : Sizes) (k : State) where
+  checked-keeps : (n long : ℕ) (o : Outcome) → KeepsRefused k o → KeepsRefused k (checked sz k n long o)
+  unfolding checked
+  checked-keeps n long o h = by-test (eqb long (sz .S))
+      (λ e. rw (e, checked) (by-test (ltb n (sz .N * sz .K)) (λ e′. rw e′ h) (λ e′. rw e′ (λ q. refl))))
+      (λ e. rw (e, checked) (λ q. refl))
+
+  write-keeps : (n : ℕ) (p : Plan) → KeepsRefused k (writeOutcome sz k n p)
+  unfolding writeOutcome
+  write-keeps n p = by-test (isWorn sz (k .wear) (erasedBy (k .directory) p))
+      (λ e. rw (e, writeOutcome) (λ q. refl))
+      (λ e. rw (e, writeOutcome) (λ q. clash q refl))
+
+  step-keeps : (q : Due) → KeepsRefused k (stepOutcome sz k q)
+  unfolding stepOutcome
+  step-keeps clean = λ q. refl
+  step-keeps (due b f) = by-test (isWorn sz (k .wear) b) (λ e. rw (e, stepOutcome) (λ q. refl)) (λ e. rw (e, stepOutcome) (λ q. clash q refl))
+
+  flush-keeps : (pick : Choice) → KeepsRefused k (flushOutcome pick sz k)
+  unfolding flushOutcome
+  flush-keeps pick = by-test (ltb (lowestWorn sz (k .directory) (k .wear)) (sz .N)) (λ e. rw (e, flushOutcome) (λ q. refl)) (λ e. rw (e, flushOutcome) (λ q. clash q refl))
+
+  pub decide-keeps : (pick : Choice) (c : Call ℕ) → KeepsRefused k (decide pick sz k c)
+  unfolding decide readOutcome
+  decide-keeps pick (read n long) = checked-keeps n long (readOutcome sz k n) (λ q. clash q refl)
+  decide-keeps pick (write n long) = checked-keeps n long _ (write-keeps n _)
+  decide-keeps pick step = step-keeps (dueOf pick sz (k .directory))
+  decide-keeps pick flush = flush-keeps pick
+
+-- an element does not depend on what stands past the end
+getD-any : {A : Type 0} (l : List A) (i : ℕ) (x y : A) → i < length l → getD l i x ≡ getD l i y
+getD-any [] i x y h = absurd (not-suc-le-zero h)
+getD-any (z ∷ l) zero x y h = refl
+getD-any (z ∷ l) (suc i) x y h = getD-any l i x y (omega arith)
+
+-- ---- what a refused call leaves beside the store
+
+array-kept : (a : List Page) (c : Call Page) → arrayAfter a c true ≡ a
+unfolding arrayAfter
+array-kept a (read n x) = refl
+array-kept a (write n x) = refl
+array-kept a step = refl
+array-kept a flush = refl
+
+log-kept : (l : List Put) (c : Call Page) → logAfter l c true ≡ l
+unfolding logAfter
+log-kept l (read n x) = refl
+log-kept l (write n x) = refl
+log-kept l step = refl
+log-kept l flush = refl
+
+not-flushed : (c : Call Page) → (isFlush c && false) ≡ false
+not-flushed (read n x) = refl
+not-flushed (write n x) = refl
+not-flushed step = refl
+not-flushed flush = refl
+
+before-at : (sz : Sizes) (k : List (List Put)) (l : List Put) (w w′ : List ℕ) (b : ℕ) → b < sz .N
+    → getD (beforeAfter sz k l w w′) b [] ≡ cond (ltb (getD w b 0) (getD w′ b 0)) l (getD k b [])
+unfolding beforeAfter
+before-at sz k l w w′ b bl = getD-tab (sz .N) _ [] b bl
+
+-- ---- the invariant of a list that began with the flash pages o
+
+module _ (sz : Sizes) (o : List Page) where
+  abbrev blank : Page
+  blank = zeroPage sz
+
+  record Inv (r : Reference) (m : Memory Page) : Type 0 where
+    good : Consistent blank sz (r .book .directory) m (r .array)
+    whole : Whole sz m
+    wear-length : length (r .book .wear) ≡ sz .N
+    flash-from : (n : ℕ) → n < sz .N * sz .K
+        → (getD (m .flash) n blank ≡ getD o n blank) ⊎ Accepted n (getD (m .flash) n blank) (getD (r .before) (n / sz .K) [])
+    array-from : (n : ℕ) → n < sz .N * sz .K → (getD (r .array) n blank ≡ getD o n blank) ⊎ Accepted n (getD (r .array) n blank) (r .log)
+    before-in : (b : ℕ) → b < sz .N → (n : ℕ) (x : Page) → Accepted n x (getD (r .before) b []) → Accepted n x (r .log)
+    flushed-is : r .flushed ≡ true → m .flash ≡ r .array
+
+  module _ (r : Reference) (m : Memory Page) (i : Inv r m) where
+    -- from one call to the next
+    advance : (r′ : Reference) (m′ : Memory Page) → Consistent blank sz (r′ .book .directory) m′ (r′ .array) → Whole sz m′ → length (r′ .book .wear) ≡ sz .N
+        → Moved blank sz (r .array) m (r .book .wear) m′ (r′ .book .wear)
+        → r′ .before ≡ beforeAfter sz (r .before) (r .log) (r .book .wear) (r′ .book .wear)
+        → ((n : ℕ) (x : Page) → Accepted n x (r .log) → Accepted n x (r′ .log))
+        → ((n : ℕ) → n < sz .N * sz .K → (getD (r′ .array) n blank ≡ getD o n blank) ⊎ Accepted n (getD (r′ .array) n blank) (r′ .log))
+        → (r′ .flushed ≡ true → m′ .flash ≡ r′ .array) → Inv r′ m′
+    advance r′ m′ g wh wl mv bf lg af fl = record {
+      good = g;
+      whole = wh;
+      wear-length = wl;
+      array-from = af;
+      flushed-is = fl;
+      flash-from = λ n l. let b : ℕ = n / sz .K in let bl = block-lt sz (g .numbers .limits) n l in elim (mv .page n l) [
+        | inl e ↦ rw (e, before-is b bl) (elim (i .flash-from n l) [
+          | inl q ↦ inl q
+          | inr q ↦ inr (by-test (ltb (getD (r .book .wear) b 0) (getD (r′ .book .wear) b 0))
+              (λ t. rw t (i .before-in b bl n _ q))
+              (λ t. rw t q))
+        ])
+        | inr e ↦ rw (e .1, before-is b bl, lt-ltb _ _ (e .0)) (i .array-from n l)
+      ];
+      before-in = λ b bl n x h. let t = (rw (before-is b bl) at h) in lg n x (earlier b bl n x (ltb (getD (r .book .wear) b 0) (getD (r′ .book .wear) b 0)) t);
+    }
+      where
+        before-is : (b : ℕ) → b < sz .N → getD (r′ .before) b [] ≡ cond (ltb (getD (r .book .wear) b 0) (getD (r′ .book .wear) b 0)) (r .log) (getD (r .before) b [])
+        before-is b bl = ap (λ (l : List (List Put)). getD l b []) bf ∙ before-at sz (r .before) (r .log) (r .book .wear) (r′ .book .wear) b bl
+
+        earlier : (b : ℕ) → b < sz .N → (n : ℕ) (x : Page) (t : Bool) → Accepted n x (cond t (r .log) (getD (r .before) b [])) → Accepted n x (r .log)
+        earlier b bl n x true h = h
+        earlier b bl n x false h = i .before-in b bl n x h
+
+    module _ (pick : Choice) (picks : Picks pick) where
+      -- the pages after a call, by its outcome
+      abbrev pagesAfter : Call Page → Outcome → Memory Page
+      pagesAfter c u = cond (isRefused (u .answer)) m (callPages pick sz blank (r .book) m c)
+
+      abbrev Next : Call Page → Outcome → Type 0
+      Next c u = Inv (fed sz r c u) (pagesAfter c u)
+
+      refused-next : (c : Call Page) (n b : ℕ) → Next c (turnedDown (r .book) n b)
+      unfolding fed
+      refused-next c n b = advance (fed sz r c (turnedDown (r .book) n b)) m (rw (array-kept (r .array) c) (i .good)) (i .whole) (i .wear-length) (moved-none blank sz _ m m _ refl) refl
+          (λ k x h. rw (log-kept (r .log) c) h) (λ k l. rw (array-kept (r .array) c, log-kept (r .log) c) (i .array-from k l)) (λ h. clash h (not-flushed c))
+
+      checked-next : (c : Call Page) (n long : ℕ) (u : Outcome) → (long ≡ sz .S → n < sz .N * sz .K → Next c u) → Next c (checked sz (r .book) n long u)
+      unfolding checked
+      checked-next c n long u h = by-test (eqb long (sz .S))
+          (λ e. rw (e, checked) (by-test (ltb n (sz .N * sz .K)) (λ e′. rw e′ (h (eqb-true _ _ e) (ltb-true _ _ e′))) (λ e′. rw e′ (refused-next c 5 vacant))))
+          (λ e. rw (e, checked) (refused-next c 2 vacant))
+
+      read-next : (n : ℕ) (x : Page) → Next (read n x) (decide pick sz (r .book) (read n (length x)))
+      unfolding decide readOutcome fed arrayAfter logAfter callPages
+      read-next n x = checked-next (read n x) n (length x) _ (λ s l. advance (fed sz r (read n x) (readOutcome sz (r .book) n)) m
+          (read-good blank sz (r .book .directory) m (r .array) (i .good) n) (i .whole) (i .wear-length) (moved-none blank sz _ m m _ refl) refl (λ k y h. h) (i .array-from) (λ h. clash h refl))
+
+      abbrev wrote : ℕ → Plan → Outcome
+      wrote n p = record {
+        answer = writeDone (wayOf p) (erasedBy (r .book .directory) p) (mergedBy sz (r .book .directory) p);
+        state = record { directory = written sz (r .book .directory) n p; wear = wornBy (r .book .wear) (erasedBy (r .book .directory) p) };
+      }
+
+      write-ok : (n : ℕ) (x : Page) → length x ≡ sz .S → n < sz .N * sz .K → Next (write n x) (wrote n (plan pick sz (r .book .directory) (r .book .wear) n))
+      unfolding fed arrayAfter logAfter callPages
+      write-ok n x xl l = let d = r .book .directory in let w = r .book .wear in let p = plan pick sz d w n in
+          advance (fed sz r (write n x) (wrote n p)) (callPages pick sz blank (r .book) m (write n x))
+          (write-good blank pick picks sz d w m (r .array) (i .good) n l x)
+          (written-each blank (OfS sz) (zero-long sz) sz d m n x p (i .whole) xl)
+          (wornBy-length w _ ∙ i .wear-length)
+          (write-moves blank sz d m (r .array) (i .good) w (i .wear-length) pick picks n x)
+          refl (λ a y h. inr h)
+          (λ a al. by-test (eqb a n)
+          (λ e. let e2 = eqb-true a n e in inr (inl (sym e2, sym (ap (λ (j : ℕ). getD (set (r .array) n x) j blank) e2 ∙ getD-set-same (r .array) n x blank (let h = i .good .array-length in omega arith)))))
+          (λ e. rw (getD-set-other (r .array) n a x blank (eqb-false a n e)) (elim (i .array-from a al) [ inl q ↦ inl q | inr q ↦ inr (inr q) ])))
+          (λ h. clash h refl)
+
+      write-next : (n : ℕ) (x : Page) → Next (write n x) (decide pick sz (r .book) (write n (length x)))
+      unfolding decide writeOutcome
+      write-next n x = checked-next (write n x) n (length x) _ (λ s l. by-test (isWorn sz (r .book .wear) (erasedBy (r .book .directory) (plan pick sz (r .book .directory) (r .book .wear) n)))
+          (λ e. rw (e, writeOutcome) (refused-next (write n x) 6 _))
+          (λ e. rw (e, writeOutcome) (write-ok n x s l)))
+
+      stepDue : ℕ → ℕ → Outcome
+      stepDue b f = record {
+        answer = stepDone b (mergeReads sz (joined sz (r .book .directory) b f) f);
+        state = record { directory = stepped sz (r .book .directory) (due b f); wear = wornBy (r .book .wear) b };
+      }
+
+      step-ok : (b f : ℕ) → Ready sz (r .book .directory) b f → dueOf pick sz (r .book .directory) ≡ due b f → Next step (stepDue b f)
+      unfolding fed arrayAfter logAfter callPages stepDue
+      step-ok b f y e = let d = r .book .directory in let w = r .book .wear in rw e (advance (fed sz r step (stepDue b f)) (steppedPages blank sz d m (due b f))
+          (step-good blank sz d m (r .array) (i .good) b f y)
+          (step-each blank (OfS sz) (zero-long sz) sz d m (due b f) (i .whole))
+          (wornBy-length w b ∙ i .wear-length)
+          (step-moved blank sz d m (r .array) (i .good) w (i .wear-length) b f y)
+          refl (λ a x h. h) (i .array-from) (λ h. clash h refl))
+
+      clean-ok : dueOf pick sz (r .book .directory) ≡ clean → Next step (record { answer = stepClean; state = r .book })
+      unfolding fed arrayAfter logAfter callPages steppedPages
+      clean-ok e = rw e (advance (fed sz r step (record { answer = stepClean; state = r .book })) m (i .good) (i .whole) (i .wear-length) (moved-none blank sz _ m m _ refl) refl (λ a x h. h) (i .array-from) (λ h. clash h refl))
+
+      step-next : Next step (decide pick sz (r .book) step)
+      unfolding decide stepOutcome stepDue
+      step-next = due-elim sz (r .book .directory) (i .good .numbers) pick picks (λ q. dueOf pick sz (r .book .directory) ≡ q → Next step (stepOutcome sz (r .book) q))
+          (λ b f y e. by-test (isWorn sz (r .book .wear) b)
+          (λ q. rw (q, stepOutcome) (refused-next step 6 b))
+          (λ q. rw (q, stepOutcome) (step-ok b f y e)))
+          (λ v e. clean-ok e)
+          refl
+
+      start : Tally
+      start = record { state = r .book; rewrites = 0; merges = 0 }
+
+      flushOk : Outcome
+      flushOk = let t = steps pick sz (sz .N) start in record { answer = flushDone (t .rewrites) (t .merges); state = t .state }
+
+      flush-ok : Next flush flushOk
+      unfolding fed arrayAfter logAfter callPages start flushOk
+      flush-ok = let m′ = stepsPages pick sz blank (sz .N) (r .book .directory) m in
+          let h = flush-all blank pick picks sz (r .array) (sz .N) start m (i .good) (i .wear-length) in
+          let c = steps-clean pick picks sz (sz .N) start (i .good .numbers) (i .wear-length) (count-le (sz .N) _) in
+          advance (fed sz r flush flushOk) m′ (h .good) (flush-each blank (OfS sz) (zero-long sz) sz pick (sz .N) (r .book .directory) m (i .whole)) (c .wear-length) (h .moved) refl (λ a x q. q) (i .array-from)
+          (λ q. empty-flash blank sz (steps pick sz (sz .N) start .state .directory) m′ (r .array) (h .good) (c .void))
+
+      flush-next : Next flush (decide pick sz (r .book) flush)
+      unfolding decide flushOutcome start flushOk
+      flush-next = by-test (ltb (lowestWorn sz (r .book .directory) (r .book .wear)) (sz .N))
+          (λ e. rw (e, flushOutcome) (refused-next flush 6 _))
+          (λ e. rw (e, flushOutcome) flush-ok)
+
+      next : (c : Call Page) → Next c (decide pick sz (r .book) (told c))
+      next (read n x) = read-next n x
+      next (write n x) = write-next n x
+      next step = step-next
+      next flush = flush-next
+
+      -- ---- the store's call is the book's, with the pages beside it
+
+      abbrev store : Store
+      store = record { cache = record { sizes = sz; directory = r .book .directory }; lent = buffersOf m (r .book .wear) }
+
+      abbrev bufferAfter : Call Page → Outcome → Page
+      bufferAfter c u = cond (isRefused (u .answer)) (lentBuffer c) (filledBuffer sz (r .book .directory) m c)
+
+      abbrev resultOf : Call Page → Outcome → Result
+      resultOf c u = record {
+        answer = u .answer;
+        store = record { cache = record { sizes = sz; directory = u .state .directory }; lent = buffersOf (pagesAfter c u) (u .state .wear) };
+        page = bufferAfter c u;
+      }
+
+      carried-out : (c : Call Page) (u : Outcome) → KeepsRefused (r .book) u → carriedOut pick store c u ≡ resultOf c u
+      unfolding carriedOut buffersOf
+      carried-out c u keeps = by-test (isRefused (u .answer))
+          (λ e. rw (e, carriedOut) (ap (λ (k : State). record { answer = u .answer; store = record { cache = record { sizes = sz; directory = k .directory }; lent = buffersOf m (k .wear) }; page = lentBuffer c }) (sym (keeps e))))
+          (λ e. rw (e, carriedOut) (ap (λ (x : Memory Page). record {
+            answer = u .answer;
+            store = record { cache = record { sizes = sz; directory = u .state .directory }; lent = buffersOf (callPages pick sz blank (r .book) x c) (u .state .wear) };
+            page = filledBuffer sz (r .book .directory) x c;
+          })
+          (memory-of-buffers sz m (i .whole) (i .good .flash-length) (i .good .pspace-length) (i .good .bspace-length) (r .book .wear))))
+
+      call-is : (c : Call Page) → call pick store c ≡ resultOf c (decide pick sz (r .book) (told c))
+      unfolding call buffersOf
+      call-is c = let g = i .good in
+          rw (facts-sound sz (r .book .directory) (g .numbers), call)
+          (rw (lent-buffers sz m (i .whole) (g .flash-length) (g .pspace-length) (g .bspace-length) (r .book .wear) (i .wear-length))
+          (carried-out c (decide pick sz (r .book) (told c)) (decide-keeps sz (r .book) pick (told c))))
+
+      -- an accepted read gives the array's page
+      read-gives : (n : ℕ) (x : Page) → isRefused (decide pick sz (r .book) (read n (length x)) .answer) ≡ false → readPage blank sz (r .book .directory) m n ≡ getD (r .array) n []
+      unfolding decide checked
+      read-gives n x = by-test (eqb (length x) (sz .S))
+          (λ e. rw (e, checked) (by-test (ltb n (sz .N * sz .K))
+          (λ e′. rw e′ (λ h. let l = ltb-true _ _ e′ in read-is blank sz (r .book .directory) m (r .array) (i .good) n l ∙ getD-any (r .array) n blank [] (let q = i .good .array-length in omega arith)))
+          (λ e′. rw e′ (λ h. clash refl h))))
+          (λ e. rw (e, checked) (λ h. clash refl h))
+
+      reads : (c : Call Page) → ReadGives (r .array) c (resultOf c (decide pick sz (r .book) (told c)))
+      reads (read n x) = λ h. rw h (read-gives n x h)
+      reads (write n x) = tt
+      reads step = tt
+      reads flush = tt
+
+  -- at the end of the list
+  after : (u : Buffers) → ((n : ℕ) → n < sz .N * sz .K → pageAt (sz .S) (u .flash) n ≡ getD o n blank) → (r : Reference) (m : Memory Page) → Inv r m
+      → After sz u (record { cache = record { sizes = sz; directory = r .book .directory }; lent = buffersOf m (r .book .wear) }) r
+  unfolding buffersOf
+  after u h r m i = record {
+    cached-once = λ n l. cached-once sz (r .book .directory) (i .good .numbers) n l;
+    flash-from = λ n l. rw (page-of-flat sz (m .flash) (i .whole .flash) n (let q = i .good .flash-length in omega arith), h n l) (i .flash-from n l);
+    wear-is = refl;
+    flushed-is = λ q. ap flat (i .flushed-is q);
+  }
+
+  claim : (u : Buffers) → ((n : ℕ) → n < sz .N * sz .K → pageAt (sz .S) (u .flash) n ≡ getD o n blank) → (cs : List Chosen) → AllPick cs → (r : Reference) (m : Memory Page) → Inv r m
+      → Claim sz u (record { cache = record { sizes = sz; directory = r .book .directory }; lent = buffersOf m (r .book .wear) }) r cs
+  unfolding fed
+  claim u h [] p r m i = after u h r m i
+  claim u h (t ∷ cs) p r m i = rw (call-is r m i (t .choice) (p .0) (t .call)) (record {
+    answers = refl;
+    reads = reads r m i (t .choice) (p .0) (t .call);
+    then = claim u h cs (p .1) (fed sz r (t .call) (bookSays sz r t)) _ (next r m i (t .choice) (p .0) (t .call));
+  })
+
+-- ---- from an accepted opening
+
+none-before : (sz : Sizes) (b : ℕ) → b < sz .N → _≡_ {A = List Put} (getD (replicate (sz .N) []) b []) []
+none-before sz b l = getD-replicate (sz .N) b [] [] l
+
+module _ (sz : Sizes) (u : Buffers) (a : Accept sz u) where
+  lengths : (length (u .flash) ≡ sz .N * sz .K * sz .S) × (length (u .wear) ≡ sz .N) × (length (u .pspace) ≡ sz .P * sz .S) × (length (u .bspace) ≡ sz .B * sz .K * sz .S)
+  unfolding lentOk
+  lengths = let e = each _ (a .lent-ok) in (eqb-true _ _ (e .0), eqb-true _ _ (e .1 .0), eqb-true _ _ (e .1 .1 .0), eqb-true _ _ (e .1 .1 .1 .0))
+
+  abbrev pages : List Page
+  pages = memoryOf sz u .flash
+
+  opened-inv : Inv sz pages (opened sz u) (memoryOf sz u)
+  unfolding opened memoryOf
+  opened-inv = let l = lengths in let ls = memory-lengths sz u (l .0) (l .2) (l .3) in record {
+    good = opened-good sz (limits-of sz (a .sizes-ok)) (zeroPage sz) (memoryOf sz u) (ls .0) (ls .1) (ls .2);
+    whole = memory-whole sz u (l .0) (l .2) (l .3);
+    wear-length = l .1;
+    flash-from = λ n q. inl refl;
+    array-from = λ n q. inl refl;
+    before-in = λ b bl n x h. (rw (none-before sz b bl) at h);
+    flushed-is = λ h. clash h refl;
+  }
+
+  opened-page : (n : ℕ) → n < sz .N * sz .K → pageAt (sz .S) (u .flash) n ≡ getD pages n (zeroPage sz)
+  unfolding memoryOf pagesOf
+  opened-page n l = sym (getD-tab (sz .N * sz .K) (pageAt (sz .S) (u .flash)) (zeroPage sz) n l)
+
+  opened-claim : (cs : List Chosen) → AllPick cs → Claim sz u (record { cache = openStore sz u .cache; lent = u }) (opened sz u) cs
+  unfolding opened
+  opened-claim cs p = let l = lengths in rw (a .cache-is) (rw (buffers-of-memory sz u (l .0) (l .2) (l .3)) at (claim sz pages u opened-page cs p (opened sz u) (memoryOf sz u) opened-inv))
+
+-- demand 3
+pub demand-3 : Demand3
+demand-3 sz u h cs p = opened-claim sz u (open-accepted sz u h) cs p

@@ -1,0 +1,182 @@
+-- How directory, pages and wear change. Each move has a part over numbers and a part over pages; a page is a value of any type.
+use mathlib.Core.Bool.{Bool, true, false, not, cond, _&&_, _||_}
+use mathlib.Core.List.{List}
+use Prim.Native.Nat.{ℕ, suc, _+_, _*_, _/_, _%_}
+use lib.Dec.{ltb, eqb}
+use lib.ListN.{getD, set}
+use Rattle.prelude.specs.Scan.{first, count, nth, tab}
+use Rattle.prelude.specs.Bits.{bit, mask}
+use Rattle.model.specs.Sizes.{Sizes, vacant}
+use Rattle.model.specs.Directory.{Directory, slotAt, frameAt, validAt, recencyAt}
+use Rattle.model.specs.Policy.{inBlock, slotOf, inSlots, frameWith, readWay, Plan, slotHit, frameHit, freeSlot, join, fill, exchange, evict, Due, clean, due}
+
+-- flash of N×K pages, p-space of P, b-space of B×K
+pub record Memory (A : Type 0) : Type 0 where
+  pub flash : List A
+  pub pspace : List A
+  pub bspace : List A
+
+-- ---- the chip; filler stands for a page past the end of a list
+
+module _ {A : Type 0} (filler : A) where
+  -- page n of flash, as the chip reads it
+  unfoldable pub flashPage : Memory A → ℕ → A
+  flashPage m n = getD (m .flash) n filler
+
+  -- flash with block b erased and all its K pages programmed, offset o with pg o
+  unfoldable pub programmed : Sizes → List A → ℕ → (ℕ → A) → List A
+  programmed sz fl b pg = tab (sz .N * sz .K) (λ n. cond (eqb (n / sz .K) b) (pg (n % sz .K)) (getD fl n filler))
+
+-- one more erasure of block b (vacant: none)
+unfoldable pub worn : List ℕ → ℕ → List ℕ
+worn w b = set w b (suc (getD w b 0))
+
+unfoldable pub wornBy : List ℕ → ℕ → List ℕ
+wornBy w b = cond (ltb b vacant) (worn w b) w
+
+-- ---- a frame becomes most recent
+
+unfoldable pub recencyAfter : Sizes → Directory → ℕ → List ℕ
+recencyAfter sz d f =
+    let at = first (sz .B) (λ i. eqb (recencyAt d i) f) in
+    tab 8 (λ i. cond (ltb i at) (recencyAt d i) (cond (ltb (suc i) (sz .B)) (recencyAt d (suc i)) (cond (ltb i (sz .B)) f (recencyAt d i))))
+
+unfoldable pub touched : Sizes → Directory → ℕ → Directory
+touched sz d f = record { slots = d .slots; frames = d .frames; valid = d .valid; recency = recencyAfter sz d f }
+
+-- ---- a page is put into a slot, or into a frame
+
+unfoldable pub putSlot : Directory → ℕ → ℕ → Directory
+putSlot d i n = record { slots = set (d .slots) i n; frames = d .frames; valid = d .valid; recency = d .recency }
+
+-- page n goes into the first vacant slot
+unfoldable pub entered : Sizes → Directory → ℕ → Directory
+entered sz d n = putSlot d (slotOf sz d vacant) n
+
+module _ {A : Type 0} where
+  unfoldable pub putSlotPage : Memory A → ℕ → A → Memory A
+  putSlotPage m i x = record { flash = m .flash; pspace = set (m .pspace) i x; bspace = m .bspace }
+
+  unfoldable pub putFramePage : Memory A → ℕ → A → Memory A
+  putFramePage m k x = record { flash = m .flash; pspace = m .pspace; bspace = set (m .bspace) k x }
+
+-- ---- the pages of block b in slots join frame f, which is b's or vacant (ways 4, 5, 7, and a flush step)
+
+unfoldable pub joined : Sizes → Directory → ℕ → ℕ → Directory
+joined sz d b f = record {
+  slots = tab 128 (λ i. cond (inBlock sz d b i) vacant (slotAt d i));
+  frames = set (d .frames) f b;
+  valid = set (d .valid) f (mask (sz .K) (λ o. bit (validAt d f) o || inSlots sz d (b * sz .K + o)));
+  recency = d .recency;
+}
+
+module _ {A : Type 0} (filler : A) where
+  -- b-space with block b's pages in slots copied to their offsets in frame f
+  unfoldable pub filled : Sizes → Directory → Memory A → ℕ → ℕ → List A
+  filled sz d m b f = tab (sz .B * sz .K) (λ k.
+      cond (eqb (k / sz .K) f && inSlots sz d (b * sz .K + k % sz .K))
+      (getD (m .pspace) (slotOf sz d (b * sz .K + k % sz .K)) filler)
+      (getD (m .bspace) k filler))
+
+  unfoldable pub joinedPages : Sizes → Directory → Memory A → ℕ → ℕ → Memory A
+  joinedPages sz d m b f = record { flash = m .flash; pspace = m .pspace; bspace = filled sz d m b f }
+
+-- ---- way 6: the pages of block b in slots exchange with the old pages of frame f
+
+-- an old page of the frame that no victim page of equal offset meets
+unfoldable pub unmet : Sizes → Directory → ℕ → ℕ → ℕ → Bool
+unmet sz d b f o = bit (validAt d f) o && not (inSlots sz d (b * sz .K + o))
+
+-- a vacated slot whose victim page meets no old page of equal offset
+unfoldable pub spare : Sizes → Directory → ℕ → ℕ → ℕ → Bool
+spare sz d b f i = inBlock sz d b i && not (bit (validAt d f) (slotAt d i % sz .K))
+
+-- the offset of the old page that vacated slot i takes: its own offset where the two meet; else the old pages left, offsets upward, go to
+-- the slots left, numbers upward; K where none is left
+unfoldable pub taken : Sizes → Directory → ℕ → ℕ → ℕ → ℕ
+taken sz d b f i = cond (spare sz d b f i) (nth (sz .K) (unmet sz d b f) (count i (spare sz d b f))) (slotAt d i % sz .K)
+
+-- the number that vacated slot i then has
+unfoldable pub givenSlot : Sizes → Directory → ℕ → ℕ → ℕ → ℕ
+givenSlot sz d b f i = cond (ltb (taken sz d b f i) (sz .K)) (frameAt d f * sz .K + taken sz d b f i) vacant
+
+-- the frame is then the victim's, with only the victim pages valid
+unfoldable pub exchanged : Sizes → Directory → ℕ → ℕ → Directory
+exchanged sz d b f = record {
+  slots = tab 128 (λ i. cond (inBlock sz d b i) (givenSlot sz d b f i) (slotAt d i));
+  frames = set (d .frames) f b;
+  valid = set (d .valid) f (mask (sz .K) (λ o. inSlots sz d (b * sz .K + o)));
+  recency = d .recency;
+}
+
+module _ {A : Type 0} (filler : A) where
+  unfoldable pub exchangedPages : Sizes → Directory → Memory A → ℕ → ℕ → Memory A
+  exchangedPages sz d m b f = record {
+    flash = m .flash;
+    pspace = tab (sz .P) (λ i.
+        cond (inBlock sz d b i && ltb (taken sz d b f i) (sz .K)) (getD (m .bspace) (f * sz .K + taken sz d b f i) filler) (getD (m .pspace) i filler));
+    bspace = filled filler sz d m b f;
+  }
+
+-- ---- a rewrite of frame f, of block b, which is vacated then
+
+unfoldable pub vacated : Directory → ℕ → Directory
+vacated d f = record { slots = d .slots; frames = set (d .frames) f vacant; valid = set (d .valid) f 0; recency = d .recency }
+
+module _ {A : Type 0} (filler : A) where
+  -- the page at offset o: the frame's where it is valid, else a merge read
+  unfoldable pub merged : Sizes → Directory → Memory A → ℕ → ℕ → ℕ → A
+  merged sz d m b f o = cond (bit (validAt d f) o) (getD (m .bspace) (f * sz .K + o) filler) (flashPage filler m (b * sz .K + o))
+
+  -- the merged pages stand in the frame's own stretch of b-space, and all K are programmed
+  unfoldable pub rewrittenPages : Sizes → Directory → Memory A → ℕ → ℕ → Memory A
+  rewrittenPages sz d m b f = record {
+    flash = programmed filler sz (m .flash) b (merged sz d m b f);
+    pspace = m .pspace;
+    bspace = tab (sz .B * sz .K) (λ k. cond (eqb (k / sz .K) f) (merged sz d m b f (k % sz .K)) (getD (m .bspace) k filler));
+  }
+
+-- ---- the read, the write, the flush step
+
+-- a read by way 2 makes the frame most recent
+unfoldable pub readDirectory : Sizes → Directory → ℕ → Directory
+readDirectory sz d n = elim (eqb (readWay sz d n) 2) [ true ↦ touched sz d (frameWith sz d n) | false ↦ d ]
+
+unfoldable pub written : Sizes → Directory → ℕ → Plan → Directory
+written sz d n (slotHit i) = d
+written sz d n (frameHit f) = touched sz d f
+written sz d n (freeSlot i) = putSlot d i n
+written sz d n (join v f) = entered sz (touched sz (joined sz d v f) f) n
+written sz d n (fill v f) = entered sz (touched sz (joined sz d v f) f) n
+written sz d n (exchange v f) = entered sz (touched sz (exchanged sz d v f) f) n
+written sz d n (evict v f) = entered sz (touched sz (joined sz (vacated d f) v f) f) n
+
+-- the block's pages in slots join its frame, and the frame is rewritten and vacated; the order of use does not change
+unfoldable pub stepped : Sizes → Directory → Due → Directory
+stepped sz d clean = d
+stepped sz d (due b f) = vacated (joined sz d b f) f
+
+module _ {A : Type 0} (filler : A) where
+  -- the page that a reader is given
+  unfoldable pub readPage : Sizes → Directory → Memory A → ℕ → A
+  readPage sz d m n = elim (inSlots sz d n) [
+    | true ↦ getD (m .pspace) (slotOf sz d n) filler
+    | false ↦ elim (ltb (frameWith sz d n) (sz .B)) [
+      | true ↦ getD (m .bspace) (frameWith sz d n * sz .K + n % sz .K) filler
+      | false ↦ flashPage filler m n
+    ]
+  ]
+
+  unfoldable pub writtenPages : Sizes → Directory → Memory A → ℕ → A → Plan → Memory A
+  writtenPages sz d m n x (slotHit i) = putSlotPage m i x
+  writtenPages sz d m n x (frameHit f) = putFramePage m (f * sz .K + n % sz .K) x
+  writtenPages sz d m n x (freeSlot i) = putSlotPage m i x
+  writtenPages sz d m n x (join v f) = putSlotPage (joinedPages filler sz d m v f) (slotOf sz (joined sz d v f) vacant) x
+  writtenPages sz d m n x (fill v f) = putSlotPage (joinedPages filler sz d m v f) (slotOf sz (joined sz d v f) vacant) x
+  writtenPages sz d m n x (exchange v f) = putSlotPage (exchangedPages filler sz d m v f) (slotOf sz (exchanged sz d v f) vacant) x
+  writtenPages sz d m n x (evict v f) =
+      putSlotPage (joinedPages filler sz (vacated d f) (rewrittenPages filler sz d m (frameAt d f) f) v f) (slotOf sz (joined sz (vacated d f) v f) vacant) x
+
+  unfoldable pub steppedPages : Sizes → Directory → Memory A → Due → Memory A
+  steppedPages sz d m clean = m
+  steppedPages sz d m (due b f) = rewrittenPages filler sz (joined sz d b f) (joinedPages filler sz d m b f) b f

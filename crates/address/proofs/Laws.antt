@@ -1,6 +1,6 @@
 -- The laws of the block-and-offset rule.
 use mathlib.Core.Path.{_≡_, ap}
-use Prim.Native.Nat.{ℕ, _+_, _*_, _/_, _%_, _<_}
+use Prim.Native.Nat.{ℕ, _*_, _<_}
 use native.Mathlib.Nat.{div-add-mod', mod-lt, div-lt-iff-lt-mul}
 use lib.Arith.{digits-div, digits-mod, digits-lt}
 use Rattle.address.specs.declared.PageNo.{PageNo}

@@ -3,18 +3,19 @@ use mathlib.Core.Path.{_≡_, refl, sym, ap, _∙_}
 use mathlib.Core.Logic.{_≢_}
 use mathlib.Core.Bool.{Bool, true, false, cond, _||_}
 use Prim.Native.Nat.{ℕ, zero, suc, _+_, _-_, _*_, _/_, _%_, _^_, _≤_, _<_, max}
-use native.Mathlib.Nat.{not-suc-le-zero, zero-add, zero-lt-suc, div-eq-of-lt, pow-suc, add-mul-div-right, add-mul-mod-self-right, add-comm, one-mul, zero-div, mod-lt}
+use native.Mathlib.Nat.{not-suc-le-zero, add-zero, add-mul, zero-add, zero-lt-suc, div-eq-of-lt, pow-suc, add-mul-div-right, add-mul-mod-self-right, add-comm, one-mul, zero-div, mod-lt}
+use native.Mathlib.Numerals.{add-one}
 use native.Mathlib.Omega.{arith}
-use lib.Dec.{ltb, eqb}
+use lib.Dec.{ltb, leb, eqb}
 use lib.Arith.{digits-div, digits-mod}
-use lib.Pow.{pow-pos, pow-lt, pow-add, pow-mono}
-use lib.Bits.{bitOr, or-step, or-shr, or-lt}
+use lib.Pow.{pow-pos, pow-lt, pow-add, pow-mono, split, field, mod-mod-pow, shr-shr, shl-shr, shl-exact}
+use lib.Bits.{bitOr, or-step, or-shr, or-lt, or-block, or-zero-r}
 use lib.Count.{ones, ones-cat}
-use borrow.Author.Tests.{ltb-true, ltb-false, eqb-true, eqb-false}
+use borrow.Author.Tests.{ltb-true, ltb-false, leb-true, eqb-true, eqb-false, lt-ltb, le-leb}
 use Rattle.prelude.specs.Scan.{count}
 use Rattle.prelude.specs.Bits.{bit, mask, withBit, firstBits}
-use Rattle.prelude.proofs.Tests.{by-test, clash}
-use Rattle.prelude.proofs.Scan.{count-same}
+use Rattle.prelude.proofs.Tests.{by-test, clash, or-r, or-false, same-test}
+use Rattle.prelude.proofs.Scan.{count-same, count-upto, count-add}
 
 pub mask-lt : (n : ℕ) (p : ℕ → Bool) → mask n p < 2 ^ n
 unfolding mask
@@ -122,3 +123,115 @@ pub bit-or : (a b i : ℕ) → bit (bitOr a b) i ≡ (bit a i || bit b i)
 unfolding bit
 bit-or a b i = let x : ℕ = a / 2 ^ i % 2 in let y : ℕ = b / 2 ^ i % 2 in let xl : x < 2 = mod-lt (a / 2 ^ i) (zero-lt-suc 1) in let yl : y < 2 = mod-lt (b / 2 ^ i) (zero-lt-suc 1) in
     ap (λ (t : ℕ). eqb (t % 2) 1) (or-shr a b i ∙ or-step (a / 2 ^ i) (b / 2 ^ i)) ∙ ap (λ (t : ℕ). eqb t 1) (digits-mod _ (let h : max x y < 2 = omega arith in h)) ∙ max-bit x y xl yl
+
+-- ---- one number more
+
+-- `1 << i` at 64 bits
+pub shl-one : (i : ℕ) → i < 64 → 1 * 2 ^ i % 2 ^ 64 ≡ 2 ^ i
+shl-one i h = shl-exact {a = 1} 1 i 64 (omega arith) (omega arith) ∙ one-mul (2 ^ i)
+
+-- the set of i alone
+pub bit-one : (i : ℕ) → bit (2 ^ i) i ≡ true
+bit-one i = ap (λ (x : ℕ). bit x i) (sym (add-zero (2 ^ i))) ∙ bit-top i 0 (pow-pos i)
+
+pub bit-one-other : (i j : ℕ) → i ≢ j → bit (2 ^ i) j ≡ false
+bit-one-other i j ne = by-test (ltb j i)
+    (λ t. ap (λ (x : ℕ). bit x j) (sym (add-zero (2 ^ i))) ∙ bit-above i 0 j (ltb-true j i t) ∙ bit-zero j)
+    (λ t. bit-none j (2 ^ i) (pow-lt (let h = ltb-false j i t in omega arith)))
+
+or-one : (q : ℕ) → bitOr q 1 ≡ q + (1 - q % 2)
+or-one q = or-step q 1 ∙ rw (or-zero-r (q / 2)) (omega arith)
+
+module _ (v i : ℕ) where
+  -- `v | (1 << i)`: v above i and below i, and digit i
+  or-parts : bitOr v (2 ^ i) ≡ (v / 2 ^ i + (1 - v / 2 ^ i % 2)) * 2 ^ i + v % 2 ^ i
+  or-parts =
+      let e : 1 * 2 ^ i + 0 ≡ 2 ^ i = omega arith in
+      let b = or-block i (v / 2 ^ i) 1 (v % 2 ^ i) 0 (mod-lt v (pow-pos i)) (pow-pos i) in
+      rw (split v i, e, or-one (v / 2 ^ i), or-zero-r (v % 2 ^ i)) at b
+
+  pub with-again : bit v i ≡ true → withBit v i ≡ v
+  unfolding withBit
+  with-again h = rw h
+
+  pub with-new : bit v i ≡ false → withBit v i ≡ v + 2 ^ i
+  unfolding withBit
+  with-new h = rw h
+
+  pub or-with : bitOr v (2 ^ i) ≡ withBit v i
+  unfolding bit
+  or-with = or-parts ∙ by-test (bit v i)
+      (λ t. let o = eqb-true (v / 2 ^ i % 2) 1 t in rw (o, add-zero (v / 2 ^ i), split v i) (sym (with-again t)))
+      (λ t. let n = eqb-false (v / 2 ^ i % 2) 1 t in let z : v / 2 ^ i % 2 ≡ 0 = omega arith in
+      rw (z, add-mul (v / 2 ^ i) 1 (2 ^ i)) (let s = split v i in let w = with-new t in omega arith))
+
+  pub bit-with-same : bit (withBit v i) i ≡ true
+  bit-with-same = ap (λ (x : ℕ). bit x i) (sym or-with) ∙ bit-or v (2 ^ i) i ∙ or-r (bit v i) (bit-one i)
+
+  pub bit-with-other : (j : ℕ) → i ≢ j → bit (withBit v i) j ≡ bit v j
+  bit-with-other j ne = ap (λ (x : ℕ). bit x j) (sym or-with) ∙ bit-or v (2 ^ i) j ∙ rw (bit-one-other i j ne) (or-false (bit v j))
+
+  pub with-lt : (k : ℕ) → v < 2 ^ k → i < k → withBit v i < 2 ^ k
+  with-lt k hv hi = rw (← or-with) (or-lt k v (2 ^ i) hv (pow-lt hi))
+
+  -- one more in the count
+  pub count-with : (n : ℕ) → i < n → bit v i ≡ false → count n (bit (withBit v i)) ≡ suc (count n (bit v))
+  count-with n l h = count-add n (bit v) (bit (withBit v i)) i l h bit-with-same (λ j ne. bit-with-other j (λ e. ne (sym e)))
+
+-- a set built number by number
+pub mask-hit : (o : ℕ) (p : ℕ → Bool) → p o ≡ true → withBit (mask o p) o ≡ mask (o + 1) p
+unfolding mask
+mask-hit o p h = with-new (mask o p) o (bit-none o (mask o p) (mask-lt o p)) ∙ rw (add-one o, h) (add-comm (mask o p) (2 ^ o))
+
+pub mask-miss : (o : ℕ) (p : ℕ → Bool) → p o ≡ false → mask (o + 1) p ≡ mask o p
+unfolding mask
+mask-miss o p h = rw (add-one o, h) (zero-add (mask o p))
+
+-- ---- the numbers below k
+
+-- no number from k on
+pub bit-high : (k v i : ℕ) → v < 2 ^ k → k ≤ i → bit v i ≡ false
+bit-high k v i h g = bit-none i v (omega (arith, pow-mono g))
+
+-- the count of a set of numbers below k is its count over these
+pub count-within : (k n v : ℕ) → v < 2 ^ k → k ≤ n → count n (bit v) ≡ count k (bit v)
+count-within k n v h g = count-upto k n (bit v) g (λ j a b. bit-high k v j h a)
+
+pub first-is-mask : (k : ℕ) → firstBits k ≡ mask k (λ i. true)
+unfolding firstBits mask
+first-is-mask zero = refl
+first-is-mask (suc k) = let h : 2 ^ k - 1 ≡ mask k (λ i. true) = first-is-mask k in let p = pow-pos k in rw pow-suc (omega arith)
+
+pub bit-first : (k i : ℕ) → i < k → bit (firstBits k) i ≡ true
+bit-first k i h = ap (λ (x : ℕ). bit x i) (first-is-mask k) ∙ bit-mask k (λ j. true) i h
+
+pub first-lt : (k : ℕ) → firstBits k < 2 ^ k
+unfolding firstBits
+first-lt k = omega (arith, pow-pos k)
+
+-- `v <= firstBits k`
+pub first-test : (v k : ℕ) → leb v (firstBits k) ≡ ltb v (2 ^ k)
+unfolding firstBits
+first-test v k = let p = pow-pos k in same-test
+    (λ t. let h = leb-true v (2 ^ k - 1) t in lt-ltb v (2 ^ k) (omega arith))
+    (λ t. let h = ltb-true v (2 ^ k) t in le-leb v (2 ^ k - 1) (omega arith))
+
+-- ---- a set moved by r within words of 64
+
+bit-mod : (v k i : ℕ) → i < k → bit (v % 2 ^ k) i ≡ bit v i
+unfolding bit
+bit-mod v k i h =
+    let e : k ≡ (k - i - 1 + 1) + i = omega arith in
+    rw (e, field v (k - i - 1 + 1) i) (ap (λ (x : ℕ). eqb x 1) (mod-mod-pow (v / 2 ^ i) (k - i - 1) 1))
+
+-- `v << r`: what stays in the word
+pub shl-bit : (v r o : ℕ) → r + o < 64 → bit (v * 2 ^ r % 2 ^ 64) (r + o) ≡ bit v o
+unfolding bit
+shl-bit v r o h = bit-mod (v * 2 ^ r) 64 (r + o) h ∙ rw (← shr-shr (v * 2 ^ r) r o, shl-shr v r)
+
+-- `(v >> 1) >> (63 - r)`: what goes to the next word
+pub shr-bit : (v r o : ℕ) → r < 64 → 64 ≤ r + o → bit (v / 2 ^ 1 / 2 ^ (63 - r)) (r + o - 64) ≡ bit v o
+unfolding bit
+shr-bit v r o l h =
+    let e : 1 + ((63 - r) + (r + o - 64)) ≡ o = omega arith in
+    rw (shr-shr (v / 2 ^ 1) (63 - r) (r + o - 64), shr-shr v 1 ((63 - r) + (r + o - 64)), e)

@@ -135,6 +135,20 @@ count-remove (suc n) p x l e = by-test (eqb n x)
     (λ t. rw (t, k) (omega arith))
     (λ t. rw t (omega arith)))
 
+-- one number more
+pub count-add : (n : ℕ) (p q : ℕ → Bool) (x : ℕ) → x < n → p x ≡ false → q x ≡ true → ((j : ℕ) → (j ≡ x → ⊥) → q j ≡ p j) → count n q ≡ suc (count n p)
+count-add n p q x l a b f = count-remove n q x l b ∙ ap suc (count-same n (λ i. q i && not (eqb i x)) p (λ j jl. by-test (eqb j x)
+    (λ t. let e = eqb-true j x t in by-test (q j) (λ u. rw (t, u, e) (sym a)) (λ u. rw (u, e) (sym a)))
+    (λ t. by-test (q j) (λ u. rw (t, u) (sym u ∙ f j (eqb-false j x t))) (λ u. rw u (sym u ∙ f j (eqb-false j x t))))))
+
+-- none passes from k on
+pub count-upto : (k n : ℕ) (p : ℕ → Bool) → k ≤ n → ((j : ℕ) → k ≤ j → j < n → p j ≡ false) → count n p ≡ count k p
+unfolding count
+count-upto k zero p l f = rw (let e : k ≡ 0 = omega arith in e)
+count-upto k (suc n) p l f = by-test (eqb k (suc n))
+    (λ t. rw (eqb-true k (suc n) t))
+    (λ t. let ne = eqb-false k (suc n) t in rw (f n (omega arith) (omega arith)) (let h = count-upto k n p (omega arith) (λ j a b. f j a (omega arith)) in omega arith))
+
 -- no more numbers pass p below n than pass q below k, where h takes each to one of its own
 pub count-inj : (n k : ℕ) (p q : ℕ → Bool) (h : ℕ → ℕ) → ((i : ℕ) → i < n → p i ≡ true → (h i < k) × (q (h i) ≡ true))
     → ((i j : ℕ) → i < n → j < n → p i ≡ true → p j ≡ true → h i ≡ h j → i ≡ j) → count n p ≤ count k q

@@ -1,0 +1,37 @@
+-- A part `&mut l[a..e]` that is lent, with a = i * s and e = a + s, is page i, and comes back as page i. So is a block, of size k * s.
+use mathlib.Core.Path.{_≡_, ap, _∙_}
+use mathlib.Core.List.{List}
+use Prim.Native.Nat.{ℕ, _+_, _-_, _*_, _≤_, _<_}
+use native.Mathlib.Omega.{arith}
+use lib.ListN.{length}
+use borrow.Rule.Slice.PartMut.{putMid, midOf, post-is}
+use Rattle.prelude.specs.Pages.{pageAt, putPage}
+use Rattle.prelude.proofs.Pages.{ends-before, length-pageAt, page-of-block, put-in-block}
+
+-- the part lent
+abbrev pub part : {A : Type 0} → ℕ → List A → ℕ → List A
+part s l i = midOf (i * s) (i * s + s - i * s) l
+
+-- l with x in the place of the part
+abbrev pub putPart : {A : Type 0} → ℕ → List A → ℕ → List A → List A
+putPart s l i x = putMid (i * s) (i * s + s - i * s) l x
+
+module _ {A : Type 0} (s : ℕ) (l : List A) (i : ℕ) where
+  pub got : part s l i ≡ pageAt s l i
+  unfolding pageAt
+  got = let e : i * s + s - i * s ≡ s = omega arith in rw e
+
+  pub put : (pg : List A) → putPart s l i pg ≡ putPage s l i pg
+  unfolding putPage
+  put pg = rw (post-is (i * s) (i * s + s) l (omega arith))
+
+-- the page at offset o of the block f that is lent
+module _ {A : Type 0} (s k : ℕ) (l : List A) (f o : ℕ) (inside : o < k) (fits : f * (k * s) + k * s ≤ length l) where
+  pub in-part : o * s + s ≤ length (part (k * s) l f)
+  in-part = rw (got (k * s) l f, length-pageAt (k * s) l f fits) (ends-before s inside)
+
+  pub got-in : pageAt s (part (k * s) l f) o ≡ pageAt s l (f * k + o)
+  got-in = rw (got (k * s) l f) (page-of-block s k l f o inside)
+
+  pub put-in : (x pg : List A) → x ≡ putPage s (part (k * s) l f) o pg → putPart (k * s) l f x ≡ putPage s l (f * k + o) pg
+  put-in x pg e = put (k * s) l f x ∙ ap (putPage (k * s) l f) (e ∙ ap (λ (y : List A). putPage s y o pg) (got (k * s) l f)) ∙ put-in-block s k l f o inside pg fits

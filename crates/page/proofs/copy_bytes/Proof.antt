@@ -1,0 +1,60 @@
+use mathlib.Core.Path.{_≡_, refl, sym, _∙_}
+use Prim.Native.Nat.{_≤_, _<_, _-_}
+use native.Mathlib.Omega.{arith}
+use lib.ListN.{length, length-set}
+use Rattle.page.proofs.Overlay.{overlay, overlay-zero, overlay-step, overlay-all}
+use Rattle.page.proofs.copy_bytes.Statement.{statement}
+use Rattle.page.proofs.copy_bytes.Tie as tie
+
+abbrev Inv-loop : tie.InvT-loop
+Inv-loop dst₀ src n i₀ dst i = (i ≤ length dst₀) × ((length dst ≡ length dst₀) × (dst ≡ overlay i src dst₀))
+
+abbrev μ-loop : tie.MeasureT-loop
+μ-loop dst₀ src n i₀ dst i = length dst₀ - i
+
+loop-holds : tie.Need-loop-holds Inv-loop μ-loop
+loop-holds c = (omega arith, (refl, overlay-zero _ _))
+
+shared-slice-read-dst : tie.Need-shared-slice-read-dst Inv-loop μ-loop
+shared-slice-read-dst c = omega arith
+
+slice-write-dst : tie.Need-slice-write-dst Inv-loop μ-loop
+slice-write-dst c = omega arith
+
+add-i : tie.Need-add-i Inv-loop μ-loop
+add-i c = omega arith
+
+loop-less : tie.Need-loop-less Inv-loop μ-loop
+loop-less c = omega arith
+
+loop-again : tie.Need-loop-again Inv-loop μ-loop
+loop-again c =
+    let at = c .before .before in
+    let src = at .before .args .src .now in
+    let dst₀ = at .before .args .dst .now in
+    let h : at .loop .i < length src = omega arith in
+    let k : at .loop .i < length dst₀ = omega arith in
+    (omega arith, (simp length-set (at .loop .inv .1 .0), rw (at .loop .inv .1 .1) (overlay-step _ src dst₀ h k)))
+
+same-length : tie.Need-same-length Inv-loop μ-loop
+same-length c = c .before .loop .inv .1 .0
+
+returns : tie.Need-returns Inv-loop μ-loop
+returns c =
+    let at = c .before in
+    at .loop .inv .1 .1 ∙ overlay-all _ _ _ (sym (at .before .pre)) (omega arith)
+
+pub copy-bytes-spec : {M : Type 1} → statement M
+copy-bytes-spec =
+    tie.close
+    (tie.spec
+    Inv-loop
+    μ-loop
+    loop-holds
+    shared-slice-read-dst
+    slice-write-dst
+    add-i
+    loop-less
+    loop-again
+    same-length
+    returns)

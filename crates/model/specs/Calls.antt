@@ -191,12 +191,17 @@ unfoldable pub zeroPage : Sizes → Page
 zeroPage sz = replicate (sz .S) 0
 
 -- buffers as pages, and back
+abbrev pub flashPages : Sizes → List ℕ → List Page
+flashPages sz l = pagesOf (sz .S) (sz .N * sz .K) l
+
+abbrev pub slotPages : Sizes → List ℕ → List Page
+slotPages sz l = pagesOf (sz .S) (sz .P) l
+
+abbrev pub framePages : Sizes → List ℕ → List Page
+framePages sz l = pagesOf (sz .S) (sz .B * sz .K) l
+
 unfoldable pub memoryOf : Sizes → Buffers → Memory Page
-memoryOf sz u = record {
-  flash = pagesOf (sz .S) (sz .N * sz .K) (u .flash);
-  pspace = pagesOf (sz .S) (sz .P) (u .pspace);
-  bspace = pagesOf (sz .S) (sz .B * sz .K) (u .bspace);
-}
+memoryOf sz u = record { flash = flashPages sz (u .flash); pspace = slotPages sz (u .pspace); bspace = framePages sz (u .bspace) }
 
 unfoldable pub buffersOf : Memory Page → List ℕ → Buffers
 buffersOf m w = record { flash = flat (m .flash); wear = w; pspace = flat (m .pspace); bspace = flat (m .bspace) }

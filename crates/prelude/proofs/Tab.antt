@@ -1,7 +1,7 @@
--- Laws of lists built by a rule, and of loops that settle a list entry by entry.
+-- Laws of lists built by a rule or mapped, and of loops that settle a list entry by entry.
 use mathlib.Core.Path.{_≡_, refl, sym, ap, _∙_}
 use mathlib.Core.Bool.{Bool, cond}
-use mathlib.Core.List.{List}
+use mathlib.Core.List.{List, [], _∷_, map}
 use Prim.Native.Nat.{ℕ, zero, suc, _+_, _≤_, _<_}
 use native.Mathlib.Nat.{not-suc-le-zero, add-zero, zero-add}
 use native.Mathlib.Omega.{arith}
@@ -69,3 +69,16 @@ module _ {A : Type 0} (d : A) (n : ℕ) (new : ℕ → A) (old : List A) where
 
   pub done-all : (o : ℕ) (l : List A) → Done d n new old o l → n ≤ o → l ≡ tab n new
   done-all o l h a = ext-getD d l (tab n new) (h .long ∙ sym (length-tab n new)) (λ j k. let q = h .long in let jl : j < n = omega arith in h .each j jl ∙ rw (lt-ltb j o (omega arith)) (sym (getD-tab n new d j jl)))
+
+-- ---- maps
+
+module _ {A B : Type 0} (f : A → B) where
+  pub map-set : (l : List A) (i : ℕ) (x : A) → map f (set l i x) ≡ set (map f l) i (f x)
+  map-set [] i x = refl
+  map-set (y ∷ l) zero x = refl
+  map-set (y ∷ l) (suc i) x = ap (λ (t : List B). f y ∷ t) (map-set l i x)
+
+  -- what g undoes at each element it undoes at each list
+  pub map-undo : (g : B → A) → ((x : A) → g (f x) ≡ x) → (l : List A) → map g (map f l) ≡ l
+  map-undo g h [] = refl
+  map-undo g h (x ∷ l) = ap (λ (y : A). y ∷ map g (map f l)) (h x) ∙ ap (λ (t : List A). x ∷ t) (map-undo g h l)

@@ -1,7 +1,7 @@
 -- Laws of tests: cases, conjunctions, disjunctions, and lists of tests as facts.
 use mathlib.Core.Path.{_≡_, refl, sym, ap, _∙_}
 use mathlib.Core.Logic.{_⊎_, inl, inr}
-use mathlib.Core.Bool.{Bool, true, false, not, cond, _&&_, _||_}
+use mathlib.Core.Bool.{Bool, true, false, not, cond, _&&_, _||_, and-assoc, and-true}
 use mathlib.Core.List.{List, [], _∷_}
 use Prim.Native.Nat.{ℕ}
 use native.Mathlib.Omega.{arith}
@@ -81,3 +81,22 @@ pub every-of : (l : List Bool) → Each l → every l ≡ true
 unfolding every
 every-of [] h = refl
 every-of (b ∷ l) h = and-i (h .0) (every-of l (h .1))
+
+-- tests joined as code joins them, `a & b & c`, which nests to the left
+abbrev pub joined : Bool → List Bool → Bool
+joined a [] = a
+joined a (b ∷ l) = joined (a && b) l
+
+joined-every : (a : Bool) (l : List Bool) → joined a l ≡ (a && every l)
+unfolding every
+joined-every a [] = sym (and-true a)
+joined-every a (b ∷ l) = joined-every (a && b) l ∙ and-assoc a b (every l)
+
+abbrev pub chain : List Bool → Bool
+chain [] = true
+chain (a ∷ l) = joined a l
+
+pub chain-every : (l : List Bool) → chain l ≡ every l
+unfolding every
+chain-every [] = refl
+chain-every (a ∷ l) = joined-every a l

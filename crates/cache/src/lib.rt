@@ -1,0 +1,79 @@
+// The cache record's numbers by value: its sizes and its directory, which says what stands where.
+use address::BlockNo;
+use address::PageNo;
+ghost use mathlib.Core.Path.{_≡_};
+ghost use Rattle.model.specs.Sizes.{sizesOk};
+ghost use Rattle.model.specs.Directory.{blankCache, vacantDirectory};
+ghost use Rattle.cache.specs.View.{sizesOf, directoryOf};
+
+// What stands in a slot or a frame that holds nothing.
+pub const VACANT: u32 = 4294967295;
+
+// The five sizes and the wear limit that an opening sets.
+#[repr(C)]
+pub struct Sizes {
+    pub page_size: u32,
+    pub pages_per_block: u32,
+    pub blocks: u32,
+    pub slots: u32,
+    pub frames: u32,
+    pub wear_limit: u32,
+}
+
+impl Sizes {
+    // The sizes of the blank record.
+    pub fn blank() -> Sizes
+        ensures { λ r. ⌜ sizesOf r ≡ blankCache .sizes ⌝ }
+    {
+        Sizes {
+            page_size: 0,
+            pages_per_block: 0,
+            blocks: 0,
+            slots: 0,
+            frames: 0,
+            wear_limit: 0,
+        }
+    }
+
+    // Whether each size and the wear limit are within their limits.
+    pub fn ok(self) -> bool
+        ensures { λ r. ⌜ r ≡ sizesOk (sizesOf self) ⌝ }
+    {
+        (1 <= self.page_size)
+            & (self.page_size <= 2048)
+            & (2 <= self.pages_per_block)
+            & (self.pages_per_block <= 64)
+            & (1 <= self.blocks)
+            & (self.blocks <= 4096)
+            & (1 <= self.slots)
+            & (self.slots <= 128)
+            & (1 <= self.frames)
+            & (self.frames <= 8)
+            & (1 <= self.wear_limit)
+            & (self.wear_limit <= 1000000)
+    }
+}
+
+// A page number or VACANT for each slot (document 01's place), a block number or VACANT for each frame, the valid pages of
+// each frame, and the frames by their use (document 01's order of use), least recent first.
+#[repr(C)]
+pub struct Directory {
+    pub slots: [PageNo; 128],
+    pub frames: [BlockNo; 8],
+    pub valid: [u64; 8],
+    pub recency: [u8; 8],
+}
+
+impl Directory {
+    // Nothing is cached, and the order of use is 0 to 7.
+    pub fn vacant() -> Directory
+        ensures { λ r. ⌜ directoryOf r ≡ vacantDirectory ⌝ }
+    {
+        Directory {
+            slots: [PageNo(VACANT); 128],
+            frames: [BlockNo(VACANT); 8],
+            valid: [0u64; 8],
+            recency: [0, 1, 2, 3, 4, 5, 6, 7],
+        }
+    }
+}

@@ -10,3 +10,4 @@ pub mod Opening
 pub mod EachPage
 pub mod Buffers
 pub mod Demand3
+pub mod Table

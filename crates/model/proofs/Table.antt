@@ -1,0 +1,670 @@
+-- The histories of document 01 that are proved, as rows of one table, and rows that tell apart what those cannot.
+use mathlib.Core.Path.{_≡_, refl}
+use mathlib.Core.List.{List, [], _∷_, map, reverse}
+use Prim.Native.Nat.{ℕ, _*_}
+use lib.ListN.{getD, replicate, take}
+use Rattle.prelude.specs.Tests.{every}
+use Rattle.prelude.specs.Scan.{firstFrom, first, count, all, allPairs, nth, argmax, least, tabFrom, tab}
+use Rattle.prelude.specs.Bits.{bit, mask}
+use Rattle.prelude.specs.Pages.{pageAt, pagesOf, flat}
+use Rattle.model.specs.Sizes.{Sizes, vacant, sizesOk}
+use Rattle.model.specs.Directory.{inFrame, vacantDirectory, blankCache}
+use Rattle.model.specs.Soundness.{shapeOk, slotOk, frameOk, slotsDiffer, framesDiffer, cachedOnce, listedOnce, slotPast, framePast, sound}
+use Rattle.model.specs.Policy.{inBlock, slotOf, inSlots, frameWith, frameOf, validCount, slotCount, readWay, leastRecent, victim, fewestValid, evictable, evictionPlan, plan, occupied, lowestInSlots, dueOf, cached, isWorn, lowestWorn}
+use Rattle.model.specs.Moves.{flashPage, programmed, worn, wornBy, recencyAfter, touched, putSlot, entered, putSlotPage, putFramePage, joined, filled, joinedPages, unmet, spare, taken, givenSlot, exchanged, exchangedPages, vacated, merged, rewrittenPages, readDirectory, written, stepped, readPage, writtenPages, steppedPages}
+use Rattle.model.specs.Calls.{Answer, openDone, readDone, writeDone, stepDone, stepClean, flushDone, refused, Call, read, write, step, flush, checked, readOutcome, writeOutcome, stepOutcome, steps, flushOutcome, decide, stepsPages, callPages, Page, Buffers, lentOk, openStore, Store, zeroPage, memoryOf, buffersOf, carriedOut, call}
+
+-- what a history gives: the opening's answer, each call's answer and the first byte then in its page buffer, and at the end the first P
+-- slots, the first B frames, valid sets and order entries, flash and wear
+record Gives : Type 0 where
+  opening : Answer
+  answers : List Answer
+  bytes : List ℕ
+  slots : List ℕ
+  frames : List ℕ
+  valid : List ℕ
+  recency : List ℕ
+  flash : List ℕ
+  wear : List ℕ
+
+-- an opening on erased flash with the wear given, and the calls after it
+record Row : Type 0 where
+  sizes : Sizes
+  wear : List ℕ
+  calls : List (Call Page)
+  gives : Gives
+
+erased : Sizes → List ℕ → Buffers
+erased sz w = record {
+  flash = replicate (sz .N * sz .K * sz .S) 255;
+  wear = w;
+  pspace = replicate (sz .P * sz .S) 0;
+  bspace = replicate (sz .B * sz .K * sz .S) 0;
+}
+
+runs : Sizes → Answer → Store → List (Call Page) → List Answer → List ℕ → Gives
+runs sz a s [] ys bs = record {
+  opening = a;
+  answers = reverse ys;
+  bytes = reverse bs;
+  slots = take (sz .P) (s .cache .directory .slots);
+  frames = take (sz .B) (s .cache .directory .frames);
+  valid = take (sz .B) (s .cache .directory .valid);
+  recency = take (sz .B) (s .cache .directory .recency);
+  flash = s .lent .flash;
+  wear = s .lent .wear;
+}
+runs sz a s (c ∷ cs) ys bs = let r = call leastRecent s c in runs sz a (r .store) cs (r .answer ∷ ys) (getD (r .page) 0 0 ∷ bs)
+
+gave : Row → Gives
+gave r = let o = openStore (r .sizes) (erased (r .sizes) (r .wear)) in
+    runs (r .sizes) (o .answer) (record { cache = o .cache; lent = erased (r .sizes) (r .wear) }) (r .calls) [] []
+
+gives : Row → Gives
+gives r = r .gives
+
+-- a write that rewrites nothing
+abbrev way : ℕ → Answer
+way n = writeDone n vacant 0
+
+-- script A
+abbrev sizesA : Sizes
+sizesA = record { S = 1; K = 2; N = 3; P = 2; B = 1; W = 9 }
+
+-- P4 to P9 and P11
+abbrev sizesB : Sizes
+sizesB = record { S = 1; K = 4; N = 3; P = 3; B = 1; W = 9 }
+
+-- two frames
+abbrev two : Sizes
+two = record { S = 1; K = 2; N = 5; P = 2; B = 2; W = 9 }
+
+-- two frames, four pages a block
+abbrev wide : Sizes
+wide = record { S = 1; K = 4; N = 4; P = 3; B = 2; W = 9 }
+
+-- ---- P1 to P11
+
+-- P1: script A's four writes
+p1 : Row
+p1 = record {
+  sizes = sizesA;
+  wear = 0 ∷ 0 ∷ 0 ∷ [];
+  calls = write 0 (10 ∷ []) ∷ write 2 (20 ∷ []) ∷ write 4 (30 ∷ []) ∷ write 3 (40 ∷ []) ∷ [];
+  gives = record {
+    opening = openDone;
+    answers = way 3 ∷ way 3 ∷ way 5 ∷ writeDone 7 0 1 ∷ [];
+    bytes = 10 ∷ 20 ∷ 30 ∷ 40 ∷ [];
+    slots = 4 ∷ 3 ∷ [];
+    frames = 1 ∷ [];
+    valid = 1 ∷ [];
+    recency = 0 ∷ [];
+    flash = 10 ∷ 255 ∷ 255 ∷ 255 ∷ 255 ∷ 255 ∷ [];
+    wear = 1 ∷ 0 ∷ 0 ∷ [];
+  };
+}
+
+-- P2: its flush
+p2 : Row
+p2 = record {
+  sizes = sizesA;
+  wear = 0 ∷ 0 ∷ 0 ∷ [];
+  calls = write 0 (10 ∷ []) ∷ write 2 (20 ∷ []) ∷ write 4 (30 ∷ []) ∷ write 3 (40 ∷ []) ∷ read 2 (0 ∷ []) ∷ read 1 (0 ∷ []) ∷ flush ∷ [];
+  gives = record {
+    opening = openDone;
+    answers = way 3 ∷ way 3 ∷ way 5 ∷ writeDone 7 0 1 ∷ readDone 2 ∷ readDone 3 ∷ flushDone 2 1 ∷ [];
+    bytes = 10 ∷ 20 ∷ 30 ∷ 40 ∷ 20 ∷ 255 ∷ 0 ∷ [];
+    slots = vacant ∷ vacant ∷ [];
+    frames = vacant ∷ [];
+    valid = 0 ∷ [];
+    recency = 0 ∷ [];
+    flash = 10 ∷ 255 ∷ 20 ∷ 40 ∷ 30 ∷ 255 ∷ [];
+    wear = 1 ∷ 1 ∷ 1 ∷ [];
+  };
+}
+
+-- P3: its refused read
+p3 : Row
+p3 = record {
+  sizes = sizesA;
+  wear = 0 ∷ 0 ∷ 0 ∷ [];
+  calls = write 0 (10 ∷ []) ∷ write 2 (20 ∷ []) ∷ write 4 (30 ∷ []) ∷ write 3 (40 ∷ []) ∷ read 2 (0 ∷ []) ∷ read 1 (0 ∷ []) ∷ flush ∷ read 6 (7 ∷ []) ∷ [];
+  gives = record {
+    opening = openDone;
+    answers = way 3 ∷ way 3 ∷ way 5 ∷ writeDone 7 0 1 ∷ readDone 2 ∷ readDone 3 ∷ flushDone 2 1 ∷ refused 5 vacant ∷ [];
+    bytes = 10 ∷ 20 ∷ 30 ∷ 40 ∷ 20 ∷ 255 ∷ 0 ∷ 7 ∷ [];
+    slots = vacant ∷ vacant ∷ [];
+    frames = vacant ∷ [];
+    valid = 0 ∷ [];
+    recency = 0 ∷ [];
+    flash = 10 ∷ 255 ∷ 20 ∷ 40 ∷ 30 ∷ 255 ∷ [];
+    wear = 1 ∷ 1 ∷ 1 ∷ [];
+  };
+}
+
+-- P4: of the writes 0, 4, 8, 9, 5 the fourth is way 5
+p4 : Row
+p4 = record {
+  sizes = sizesB;
+  wear = 0 ∷ 0 ∷ 0 ∷ [];
+  calls = write 0 (10 ∷ []) ∷ write 4 (20 ∷ []) ∷ write 8 (30 ∷ []) ∷ write 9 (40 ∷ []) ∷ [];
+  gives = record {
+    opening = openDone;
+    answers = way 3 ∷ way 3 ∷ way 3 ∷ way 5 ∷ [];
+    bytes = 10 ∷ 20 ∷ 30 ∷ 40 ∷ [];
+    slots = 9 ∷ 4 ∷ 8 ∷ [];
+    frames = 0 ∷ [];
+    valid = 1 ∷ [];
+    recency = 0 ∷ [];
+    flash = 255 ∷ 255 ∷ 255 ∷ 255 ∷ 255 ∷ 255 ∷ 255 ∷ 255 ∷ 255 ∷ 255 ∷ 255 ∷ 255 ∷ [];
+    wear = 0 ∷ 0 ∷ 0 ∷ [];
+  };
+}
+
+-- P5: the fifth is way 6; slots then 5, 4, 0, frame block 2 with bits 3, no erasure
+p5 : Row
+p5 = record {
+  sizes = sizesB;
+  wear = 0 ∷ 0 ∷ 0 ∷ [];
+  calls = write 0 (10 ∷ []) ∷ write 4 (20 ∷ []) ∷ write 8 (30 ∷ []) ∷ write 9 (40 ∷ []) ∷ write 5 (50 ∷ []) ∷ [];
+  gives = record {
+    opening = openDone;
+    answers = way 3 ∷ way 3 ∷ way 3 ∷ way 5 ∷ way 6 ∷ [];
+    bytes = 10 ∷ 20 ∷ 30 ∷ 40 ∷ 50 ∷ [];
+    slots = 5 ∷ 4 ∷ 0 ∷ [];
+    frames = 2 ∷ [];
+    valid = 3 ∷ [];
+    recency = 0 ∷ [];
+    flash = 255 ∷ 255 ∷ 255 ∷ 255 ∷ 255 ∷ 255 ∷ 255 ∷ 255 ∷ 255 ∷ 255 ∷ 255 ∷ 255 ∷ [];
+    wear = 0 ∷ 0 ∷ 0 ∷ [];
+  };
+}
+
+-- P6: then 6 is way 7, block 2, 2 merge reads
+p6 : Row
+p6 = record {
+  sizes = sizesB;
+  wear = 0 ∷ 0 ∷ 0 ∷ [];
+  calls = write 0 (10 ∷ []) ∷ write 4 (20 ∷ []) ∷ write 8 (30 ∷ []) ∷ write 9 (40 ∷ []) ∷ write 5 (50 ∷ []) ∷ write 6 (60 ∷ []) ∷ [];
+  gives = record {
+    opening = openDone;
+    answers = way 3 ∷ way 3 ∷ way 3 ∷ way 5 ∷ way 6 ∷ writeDone 7 2 2 ∷ [];
+    bytes = 10 ∷ 20 ∷ 30 ∷ 40 ∷ 50 ∷ 60 ∷ [];
+    slots = 6 ∷ vacant ∷ 0 ∷ [];
+    frames = 1 ∷ [];
+    valid = 3 ∷ [];
+    recency = 0 ∷ [];
+    flash = 255 ∷ 255 ∷ 255 ∷ 255 ∷ 255 ∷ 255 ∷ 255 ∷ 255 ∷ 30 ∷ 40 ∷ 255 ∷ 255 ∷ [];
+    wear = 0 ∷ 0 ∷ 1 ∷ [];
+  };
+}
+
+-- P7: then 8 is way 3; 1 is way 7, block 1; 2 is way 4
+p7 : Row
+p7 = record {
+  sizes = sizesB;
+  wear = 0 ∷ 0 ∷ 0 ∷ [];
+  calls = write 0 (10 ∷ []) ∷ write 4 (20 ∷ []) ∷ write 8 (30 ∷ []) ∷ write 9 (40 ∷ []) ∷ write 5 (50 ∷ []) ∷ write 6 (60 ∷ []) ∷ write 8 (70 ∷ []) ∷ write 1 (80 ∷ []) ∷ write 2 (90 ∷ []) ∷ [];
+  gives = record {
+    opening = openDone;
+    answers = way 3 ∷ way 3 ∷ way 3 ∷ way 5 ∷ way 6 ∷ writeDone 7 2 2 ∷ way 3 ∷ writeDone 7 1 2 ∷ way 4 ∷ [];
+    bytes = 10 ∷ 20 ∷ 30 ∷ 40 ∷ 50 ∷ 60 ∷ 70 ∷ 80 ∷ 90 ∷ [];
+    slots = 6 ∷ 8 ∷ 2 ∷ [];
+    frames = 0 ∷ [];
+    valid = 3 ∷ [];
+    recency = 0 ∷ [];
+    flash = 255 ∷ 255 ∷ 255 ∷ 255 ∷ 20 ∷ 50 ∷ 255 ∷ 255 ∷ 30 ∷ 40 ∷ 255 ∷ 255 ∷ [];
+    wear = 0 ∷ 1 ∷ 1 ∷ [];
+  };
+}
+
+-- P8: 0, 4, 5, 8, 1, 9: the last is way 7, because 2 is not fewer than 2
+p8 : Row
+p8 = record {
+  sizes = sizesB;
+  wear = 0 ∷ 0 ∷ 0 ∷ [];
+  calls = write 0 (10 ∷ []) ∷ write 4 (20 ∷ []) ∷ write 5 (30 ∷ []) ∷ write 8 (40 ∷ []) ∷ write 1 (50 ∷ []) ∷ write 9 (60 ∷ []) ∷ [];
+  gives = record {
+    opening = openDone;
+    answers = way 3 ∷ way 3 ∷ way 3 ∷ way 5 ∷ way 3 ∷ writeDone 7 1 2 ∷ [];
+    bytes = 10 ∷ 20 ∷ 30 ∷ 40 ∷ 50 ∷ 60 ∷ [];
+    slots = 9 ∷ 8 ∷ vacant ∷ [];
+    frames = 0 ∷ [];
+    valid = 3 ∷ [];
+    recency = 0 ∷ [];
+    flash = 255 ∷ 255 ∷ 255 ∷ 255 ∷ 20 ∷ 30 ∷ 255 ∷ 255 ∷ 255 ∷ 255 ∷ 255 ∷ 255 ∷ [];
+    wear = 0 ∷ 1 ∷ 0 ∷ [];
+  };
+}
+
+-- P9: page N×K-1 is read, page N×K refused
+p9 : Row
+p9 = record {
+  sizes = sizesB;
+  wear = 0 ∷ 0 ∷ 0 ∷ [];
+  calls = read 11 (1 ∷ []) ∷ read 12 (1 ∷ []) ∷ write 12 (1 ∷ []) ∷ [];
+  gives = record {
+    opening = openDone;
+    answers = readDone 3 ∷ refused 5 vacant ∷ refused 5 vacant ∷ [];
+    bytes = 255 ∷ 1 ∷ 1 ∷ [];
+    slots = vacant ∷ vacant ∷ vacant ∷ [];
+    frames = vacant ∷ [];
+    valid = 0 ∷ [];
+    recency = 0 ∷ [];
+    flash = 255 ∷ 255 ∷ 255 ∷ 255 ∷ 255 ∷ 255 ∷ 255 ∷ 255 ∷ 255 ∷ 255 ∷ 255 ∷ 255 ∷ [];
+    wear = 0 ∷ 0 ∷ 0 ∷ [];
+  };
+}
+
+-- P10: wear W-1 is rewritten
+p10 : Row
+p10 = record {
+  sizes = sizesA;
+  wear = 8 ∷ 0 ∷ 0 ∷ [];
+  calls = write 0 (10 ∷ []) ∷ write 2 (20 ∷ []) ∷ write 4 (30 ∷ []) ∷ write 3 (40 ∷ []) ∷ [];
+  gives = record {
+    opening = openDone;
+    answers = way 3 ∷ way 3 ∷ way 5 ∷ writeDone 7 0 1 ∷ [];
+    bytes = 10 ∷ 20 ∷ 30 ∷ 40 ∷ [];
+    slots = 4 ∷ 3 ∷ [];
+    frames = 1 ∷ [];
+    valid = 1 ∷ [];
+    recency = 0 ∷ [];
+    flash = 10 ∷ 255 ∷ 255 ∷ 255 ∷ 255 ∷ 255 ∷ [];
+    wear = 9 ∷ 0 ∷ 0 ∷ [];
+  };
+}
+
+-- P10: wear W is refused
+p10-worn : Row
+p10-worn = record {
+  sizes = sizesA;
+  wear = 9 ∷ 0 ∷ 0 ∷ [];
+  calls = write 0 (10 ∷ []) ∷ write 2 (20 ∷ []) ∷ write 4 (30 ∷ []) ∷ write 3 (40 ∷ []) ∷ [];
+  gives = record {
+    opening = openDone;
+    answers = way 3 ∷ way 3 ∷ way 5 ∷ refused 6 0 ∷ [];
+    bytes = 10 ∷ 20 ∷ 30 ∷ 40 ∷ [];
+    slots = 4 ∷ 2 ∷ [];
+    frames = 0 ∷ [];
+    valid = 1 ∷ [];
+    recency = 0 ∷ [];
+    flash = 255 ∷ 255 ∷ 255 ∷ 255 ∷ 255 ∷ 255 ∷ [];
+    wear = 9 ∷ 0 ∷ 0 ∷ [];
+  };
+}
+
+-- P11: the flush of a clean store has 0 rewrites, and its step is clean
+p11 : Row
+p11 = record {
+  sizes = sizesB;
+  wear = 0 ∷ 0 ∷ 0 ∷ [];
+  calls = flush ∷ step ∷ [];
+  gives = record {
+    opening = openDone;
+    answers = flushDone 0 0 ∷ stepClean ∷ [];
+    bytes = 0 ∷ 0 ∷ [];
+    slots = vacant ∷ vacant ∷ vacant ∷ [];
+    frames = vacant ∷ [];
+    valid = 0 ∷ [];
+    recency = 0 ∷ [];
+    flash = 255 ∷ 255 ∷ 255 ∷ 255 ∷ 255 ∷ 255 ∷ 255 ∷ 255 ∷ 255 ∷ 255 ∷ 255 ∷ 255 ∷ [];
+    wear = 0 ∷ 0 ∷ 0 ∷ [];
+  };
+}
+
+-- ---- two frames, and the slips of document 01
+
+-- a read hit in a frame makes it recent: way 7 then takes the other
+read-hit : Row
+read-hit = record {
+  sizes = two;
+  wear = 0 ∷ 0 ∷ 0 ∷ 0 ∷ 0 ∷ [];
+  calls = write 0 (1 ∷ []) ∷ write 2 (2 ∷ []) ∷ write 4 (3 ∷ []) ∷ write 6 (4 ∷ []) ∷ read 0 (0 ∷ []) ∷ write 8 (5 ∷ []) ∷ [];
+  gives = record {
+    opening = openDone;
+    answers = way 3 ∷ way 3 ∷ way 5 ∷ way 5 ∷ readDone 2 ∷ writeDone 7 1 1 ∷ [];
+    bytes = 1 ∷ 2 ∷ 3 ∷ 4 ∷ 1 ∷ 5 ∷ [];
+    slots = 8 ∷ 6 ∷ [];
+    frames = 0 ∷ 2 ∷ [];
+    valid = 1 ∷ 1 ∷ [];
+    recency = 0 ∷ 1 ∷ [];
+    flash = 255 ∷ 255 ∷ 2 ∷ 255 ∷ 255 ∷ 255 ∷ 255 ∷ 255 ∷ 255 ∷ 255 ∷ [];
+    wear = 0 ∷ 1 ∷ 0 ∷ 0 ∷ 0 ∷ [];
+  };
+}
+
+-- a write hit in a frame makes it recent
+write-hit : Row
+write-hit = record {
+  sizes = two;
+  wear = 0 ∷ 0 ∷ 0 ∷ 0 ∷ 0 ∷ [];
+  calls = write 0 (1 ∷ []) ∷ write 2 (2 ∷ []) ∷ write 4 (3 ∷ []) ∷ write 6 (4 ∷ []) ∷ write 0 (6 ∷ []) ∷ write 8 (5 ∷ []) ∷ [];
+  gives = record {
+    opening = openDone;
+    answers = way 3 ∷ way 3 ∷ way 5 ∷ way 5 ∷ way 2 ∷ writeDone 7 1 1 ∷ [];
+    bytes = 1 ∷ 2 ∷ 3 ∷ 4 ∷ 6 ∷ 5 ∷ [];
+    slots = 8 ∷ 6 ∷ [];
+    frames = 0 ∷ 2 ∷ [];
+    valid = 1 ∷ 1 ∷ [];
+    recency = 0 ∷ 1 ∷ [];
+    flash = 255 ∷ 255 ∷ 2 ∷ 255 ∷ 255 ∷ 255 ∷ 255 ∷ 255 ∷ 255 ∷ 255 ∷ [];
+    wear = 0 ∷ 1 ∷ 0 ∷ 0 ∷ 0 ∷ [];
+  };
+}
+
+-- hits in a slot leave the order alone, though their block has a frame
+slot-hit : Row
+slot-hit = record {
+  sizes = wide;
+  wear = 0 ∷ 0 ∷ 0 ∷ 0 ∷ [];
+  calls = write 10 (1 ∷ []) ∷ write 7 (2 ∷ []) ∷ write 15 (3 ∷ []) ∷ write 8 (4 ∷ []) ∷ write 4 (5 ∷ []) ∷ write 4 (6 ∷ []) ∷ read 4 (0 ∷ []) ∷ step ∷ [];
+  gives = record {
+    opening = openDone;
+    answers = way 3 ∷ way 3 ∷ way 3 ∷ way 5 ∷ way 5 ∷ way 1 ∷ readDone 1 ∷ stepDone 1 2 ∷ [];
+    bytes = 1 ∷ 2 ∷ 3 ∷ 4 ∷ 5 ∷ 6 ∷ 6 ∷ 0 ∷ [];
+    slots = vacant ∷ vacant ∷ 15 ∷ [];
+    frames = vacant ∷ 2 ∷ [];
+    valid = 0 ∷ 5 ∷ [];
+    recency = 0 ∷ 1 ∷ [];
+    flash = 255 ∷ 255 ∷ 255 ∷ 255 ∷ 6 ∷ 255 ∷ 255 ∷ 2 ∷ 255 ∷ 255 ∷ 255 ∷ 255 ∷ 255 ∷ 255 ∷ 255 ∷ 255 ∷ [];
+    wear = 0 ∷ 1 ∷ 0 ∷ 0 ∷ [];
+  };
+}
+
+-- a join makes its frame recent
+join-recent : Row
+join-recent = record {
+  sizes = two;
+  wear = 0 ∷ 0 ∷ 0 ∷ 0 ∷ 0 ∷ [];
+  calls = write 7 (1 ∷ []) ∷ write 2 (2 ∷ []) ∷ write 0 (3 ∷ []) ∷ write 3 (4 ∷ []) ∷ write 4 (5 ∷ []) ∷ write 6 (6 ∷ []) ∷ [];
+  gives = record {
+    opening = openDone;
+    answers = way 3 ∷ way 3 ∷ way 5 ∷ way 5 ∷ way 4 ∷ writeDone 7 0 1 ∷ [];
+    bytes = 1 ∷ 2 ∷ 3 ∷ 4 ∷ 5 ∷ 6 ∷ [];
+    slots = 7 ∷ 6 ∷ [];
+    frames = 1 ∷ 2 ∷ [];
+    valid = 3 ∷ 1 ∷ [];
+    recency = 0 ∷ 1 ∷ [];
+    flash = 3 ∷ 255 ∷ 255 ∷ 255 ∷ 255 ∷ 255 ∷ 255 ∷ 255 ∷ 255 ∷ 255 ∷ [];
+    wear = 1 ∷ 0 ∷ 0 ∷ 0 ∷ 0 ∷ [];
+  };
+}
+
+-- way 6 takes the least recent of frames with equally few pages
+tie-frames : Row
+tie-frames = record {
+  sizes = two;
+  wear = 0 ∷ 0 ∷ 0 ∷ 0 ∷ 0 ∷ [];
+  calls = write 1 (1 ∷ []) ∷ write 3 (2 ∷ []) ∷ write 9 (3 ∷ []) ∷ write 8 (4 ∷ []) ∷ write 4 (5 ∷ []) ∷ [];
+  gives = record {
+    opening = openDone;
+    answers = way 3 ∷ way 3 ∷ way 5 ∷ way 5 ∷ way 6 ∷ [];
+    bytes = 1 ∷ 2 ∷ 3 ∷ 4 ∷ 5 ∷ [];
+    slots = 1 ∷ 4 ∷ [];
+    frames = 4 ∷ 1 ∷ [];
+    valid = 3 ∷ 2 ∷ [];
+    recency = 1 ∷ 0 ∷ [];
+    flash = 255 ∷ 255 ∷ 255 ∷ 255 ∷ 255 ∷ 255 ∷ 255 ∷ 255 ∷ 255 ∷ 255 ∷ [];
+    wear = 0 ∷ 0 ∷ 0 ∷ 0 ∷ 0 ∷ [];
+  };
+}
+
+-- the victim is the lowest of blocks with equally many pages
+tie-blocks : Row
+tie-blocks = record {
+  sizes = two;
+  wear = 0 ∷ 0 ∷ 0 ∷ 0 ∷ 0 ∷ [];
+  calls = write 8 (1 ∷ []) ∷ write 1 (2 ∷ []) ∷ write 4 (3 ∷ []) ∷ [];
+  gives = record {
+    opening = openDone;
+    answers = way 3 ∷ way 3 ∷ way 5 ∷ [];
+    bytes = 1 ∷ 2 ∷ 3 ∷ [];
+    slots = 8 ∷ 4 ∷ [];
+    frames = 0 ∷ vacant ∷ [];
+    valid = 2 ∷ 0 ∷ [];
+    recency = 1 ∷ 0 ∷ [];
+    flash = 255 ∷ 255 ∷ 255 ∷ 255 ∷ 255 ∷ 255 ∷ 255 ∷ 255 ∷ 255 ∷ 255 ∷ [];
+    wear = 0 ∷ 0 ∷ 0 ∷ 0 ∷ 0 ∷ [];
+  };
+}
+
+-- way 6 gives the old pages left to the vacated slots by slot number, not by page number
+slot-order : Row
+slot-order = record {
+  sizes = wide;
+  wear = 0 ∷ 0 ∷ 0 ∷ 0 ∷ [];
+  calls = write 10 (1 ∷ []) ∷ write 15 (2 ∷ []) ∷ write 5 (3 ∷ []) ∷ write 1 (4 ∷ []) ∷ write 8 (5 ∷ []) ∷ write 0 (6 ∷ []) ∷ [];
+  gives = record {
+    opening = openDone;
+    answers = way 3 ∷ way 3 ∷ way 3 ∷ way 5 ∷ way 5 ∷ way 6 ∷ [];
+    bytes = 1 ∷ 2 ∷ 3 ∷ 4 ∷ 5 ∷ 6 ∷ [];
+    slots = 5 ∷ 15 ∷ 0 ∷ [];
+    frames = 2 ∷ 0 ∷ [];
+    valid = 5 ∷ 2 ∷ [];
+    recency = 1 ∷ 0 ∷ [];
+    flash = 255 ∷ 255 ∷ 255 ∷ 255 ∷ 255 ∷ 255 ∷ 255 ∷ 255 ∷ 255 ∷ 255 ∷ 255 ∷ 255 ∷ 255 ∷ 255 ∷ 255 ∷ 255 ∷ [];
+    wear = 0 ∷ 0 ∷ 0 ∷ 0 ∷ [];
+  };
+}
+
+-- a flush step leaves the order alone
+step-order : Row
+step-order = record {
+  sizes = two;
+  wear = 0 ∷ 0 ∷ 0 ∷ 0 ∷ 0 ∷ [];
+  calls = write 0 (1 ∷ []) ∷ write 2 (2 ∷ []) ∷ write 4 (3 ∷ []) ∷ write 6 (4 ∷ []) ∷ read 0 (0 ∷ []) ∷ step ∷ [];
+  gives = record {
+    opening = openDone;
+    answers = way 3 ∷ way 3 ∷ way 5 ∷ way 5 ∷ readDone 2 ∷ stepDone 1 1 ∷ [];
+    bytes = 1 ∷ 2 ∷ 3 ∷ 4 ∷ 1 ∷ 0 ∷ [];
+    slots = 4 ∷ 6 ∷ [];
+    frames = 0 ∷ vacant ∷ [];
+    valid = 1 ∷ 0 ∷ [];
+    recency = 1 ∷ 0 ∷ [];
+    flash = 255 ∷ 255 ∷ 2 ∷ 255 ∷ 255 ∷ 255 ∷ 255 ∷ 255 ∷ 255 ∷ 255 ∷ [];
+    wear = 0 ∷ 1 ∷ 0 ∷ 0 ∷ 0 ∷ [];
+  };
+}
+
+-- a step's merge reads are counted after the join
+merge-count : Row
+merge-count = record {
+  sizes = wide;
+  wear = 0 ∷ 0 ∷ 0 ∷ 0 ∷ [];
+  calls = write 4 (1 ∷ []) ∷ write 8 (2 ∷ []) ∷ write 12 (3 ∷ []) ∷ write 5 (4 ∷ []) ∷ step ∷ [];
+  gives = record {
+    opening = openDone;
+    answers = way 3 ∷ way 3 ∷ way 3 ∷ way 5 ∷ stepDone 1 2 ∷ [];
+    bytes = 1 ∷ 2 ∷ 3 ∷ 4 ∷ 0 ∷ [];
+    slots = vacant ∷ 8 ∷ 12 ∷ [];
+    frames = vacant ∷ vacant ∷ [];
+    valid = 0 ∷ 0 ∷ [];
+    recency = 1 ∷ 0 ∷ [];
+    flash = 255 ∷ 255 ∷ 255 ∷ 255 ∷ 1 ∷ 4 ∷ 255 ∷ 255 ∷ 255 ∷ 255 ∷ 255 ∷ 255 ∷ 255 ∷ 255 ∷ 255 ∷ 255 ∷ [];
+    wear = 0 ∷ 1 ∷ 0 ∷ 0 ∷ [];
+  };
+}
+
+-- a flush goes over frames, then slots: 4 blocks cached, 4 rewrites
+flush-all : Row
+flush-all = record {
+  sizes = two;
+  wear = 0 ∷ 0 ∷ 0 ∷ 0 ∷ 0 ∷ [];
+  calls = write 0 (1 ∷ []) ∷ write 2 (2 ∷ []) ∷ write 4 (3 ∷ []) ∷ write 9 (4 ∷ []) ∷ flush ∷ read 0 (0 ∷ []) ∷ read 9 (0 ∷ []) ∷ [];
+  gives = record {
+    opening = openDone;
+    answers = way 3 ∷ way 3 ∷ way 5 ∷ way 5 ∷ flushDone 4 4 ∷ readDone 3 ∷ readDone 3 ∷ [];
+    bytes = 1 ∷ 2 ∷ 3 ∷ 4 ∷ 0 ∷ 1 ∷ 4 ∷ [];
+    slots = vacant ∷ vacant ∷ [];
+    frames = vacant ∷ vacant ∷ [];
+    valid = 0 ∷ 0 ∷ [];
+    recency = 0 ∷ 1 ∷ [];
+    flash = 1 ∷ 255 ∷ 2 ∷ 255 ∷ 3 ∷ 255 ∷ 255 ∷ 255 ∷ 255 ∷ 4 ∷ [];
+    wear = 1 ∷ 1 ∷ 1 ∷ 0 ∷ 1 ∷ [];
+  };
+}
+
+-- refusal 6 of a write, a step and a flush; the flush names the lowest worn block, the others the one due
+worn-blocks : Row
+worn-blocks = record {
+  sizes = two;
+  wear = 0 ∷ 9 ∷ 0 ∷ 9 ∷ 0 ∷ [];
+  calls = write 6 (1 ∷ []) ∷ write 8 (2 ∷ []) ∷ write 2 (3 ∷ []) ∷ write 0 (4 ∷ []) ∷ write 4 (5 ∷ []) ∷ step ∷ flush ∷ read 6 (0 ∷ []) ∷ step ∷ [];
+  gives = record {
+    opening = openDone;
+    answers = way 3 ∷ way 3 ∷ way 5 ∷ way 5 ∷ refused 6 3 ∷ refused 6 3 ∷ refused 6 1 ∷ readDone 2 ∷ refused 6 1 ∷ [];
+    bytes = 1 ∷ 2 ∷ 3 ∷ 4 ∷ 5 ∷ 0 ∷ 0 ∷ 1 ∷ 0 ∷ [];
+    slots = 0 ∷ 8 ∷ [];
+    frames = 3 ∷ 1 ∷ [];
+    valid = 1 ∷ 1 ∷ [];
+    recency = 1 ∷ 0 ∷ [];
+    flash = 255 ∷ 255 ∷ 255 ∷ 255 ∷ 255 ∷ 255 ∷ 255 ∷ 255 ∷ 255 ∷ 255 ∷ [];
+    wear = 0 ∷ 9 ∷ 0 ∷ 9 ∷ 0 ∷ [];
+  };
+}
+
+-- a read from flash caches nothing
+read-miss : Row
+read-miss = record {
+  sizes = two;
+  wear = 0 ∷ 0 ∷ 0 ∷ 0 ∷ 0 ∷ [];
+  calls = read 3 (0 ∷ []) ∷ write 5 (2 ∷ []) ∷ write 3 (3 ∷ []) ∷ write 3 (4 ∷ []) ∷ read 3 (0 ∷ []) ∷ [];
+  gives = record {
+    opening = openDone;
+    answers = readDone 3 ∷ way 3 ∷ way 3 ∷ way 1 ∷ readDone 1 ∷ [];
+    bytes = 255 ∷ 2 ∷ 3 ∷ 4 ∷ 4 ∷ [];
+    slots = 5 ∷ 3 ∷ [];
+    frames = vacant ∷ vacant ∷ [];
+    valid = 0 ∷ 0 ∷ [];
+    recency = 0 ∷ 1 ∷ [];
+    flash = 255 ∷ 255 ∷ 255 ∷ 255 ∷ 255 ∷ 255 ∷ 255 ∷ 255 ∷ 255 ∷ 255 ∷ [];
+    wear = 0 ∷ 0 ∷ 0 ∷ 0 ∷ 0 ∷ [];
+  };
+}
+
+-- a block that has a frame gets no second one
+one-frame : Row
+one-frame = record {
+  sizes = two;
+  wear = 0 ∷ 0 ∷ 0 ∷ 0 ∷ 0 ∷ [];
+  calls = write 5 (1 ∷ []) ∷ write 7 (2 ∷ []) ∷ write 4 (3 ∷ []) ∷ write 8 (4 ∷ []) ∷ write 6 (5 ∷ []) ∷ [];
+  gives = record {
+    opening = openDone;
+    answers = way 3 ∷ way 3 ∷ way 5 ∷ way 4 ∷ way 5 ∷ [];
+    bytes = 1 ∷ 2 ∷ 3 ∷ 4 ∷ 5 ∷ [];
+    slots = 8 ∷ 6 ∷ [];
+    frames = 2 ∷ 3 ∷ [];
+    valid = 3 ∷ 2 ∷ [];
+    recency = 0 ∷ 1 ∷ [];
+    flash = 255 ∷ 255 ∷ 255 ∷ 255 ∷ 255 ∷ 255 ∷ 255 ∷ 255 ∷ 255 ∷ 255 ∷ [];
+    wear = 0 ∷ 0 ∷ 0 ∷ 0 ∷ 0 ∷ [];
+  };
+}
+
+-- merge reads come before the erasure: pages that were not cached survive a rewrite
+merge-first : Row
+merge-first = record {
+  sizes = wide;
+  wear = 0 ∷ 0 ∷ 0 ∷ 0 ∷ [];
+  calls = write 7 (1 ∷ []) ∷ flush ∷ write 4 (3 ∷ []) ∷ step ∷ read 7 (0 ∷ []) ∷ read 4 (0 ∷ []) ∷ [];
+  gives = record {
+    opening = openDone;
+    answers = way 3 ∷ flushDone 1 3 ∷ way 3 ∷ stepDone 1 3 ∷ readDone 3 ∷ readDone 3 ∷ [];
+    bytes = 1 ∷ 0 ∷ 3 ∷ 0 ∷ 1 ∷ 3 ∷ [];
+    slots = vacant ∷ vacant ∷ vacant ∷ [];
+    frames = vacant ∷ vacant ∷ [];
+    valid = 0 ∷ 0 ∷ [];
+    recency = 0 ∷ 1 ∷ [];
+    flash = 255 ∷ 255 ∷ 255 ∷ 255 ∷ 3 ∷ 255 ∷ 255 ∷ 1 ∷ 255 ∷ 255 ∷ 255 ∷ 255 ∷ 255 ∷ 255 ∷ 255 ∷ 255 ∷ [];
+    wear = 0 ∷ 2 ∷ 0 ∷ 0 ∷ [];
+  };
+}
+
+-- ---- openings and page buffers
+
+-- a refused opening leaves the blank record, on which every call is refused 4
+blank-record : Row
+blank-record = record {
+  sizes = record { S = 0; K = 2; N = 3; P = 2; B = 1; W = 9 };
+  wear = 0 ∷ 0 ∷ 0 ∷ [];
+  calls = read 0 [] ∷ write 0 [] ∷ step ∷ flush ∷ [];
+  gives = record {
+    opening = refused 1 vacant;
+    answers = refused 4 vacant ∷ refused 4 vacant ∷ refused 4 vacant ∷ refused 4 vacant ∷ [];
+    bytes = 0 ∷ 0 ∷ 0 ∷ 0 ∷ [];
+    slots = vacant ∷ vacant ∷ [];
+    frames = vacant ∷ [];
+    valid = 0 ∷ [];
+    recency = 0 ∷ [];
+    flash = [];
+    wear = 0 ∷ 0 ∷ 0 ∷ [];
+  };
+}
+
+-- refusal 2 looks at the lent buffers at opening, and refusal 3 at the wear
+short-wear : Row
+short-wear = record {
+  sizes = sizesA;
+  wear = 0 ∷ 0 ∷ [];
+  calls = [];
+  gives = record {
+    opening = refused 2 vacant;
+    answers = [];
+    bytes = [];
+    slots = vacant ∷ vacant ∷ [];
+    frames = vacant ∷ [];
+    valid = 0 ∷ [];
+    recency = 0 ∷ [];
+    flash = 255 ∷ 255 ∷ 255 ∷ 255 ∷ 255 ∷ 255 ∷ [];
+    wear = 0 ∷ 0 ∷ [];
+  };
+}
+
+overworn : Row
+overworn = record {
+  sizes = sizesA;
+  wear = 0 ∷ 10 ∷ 0 ∷ [];
+  calls = [];
+  gives = record {
+    opening = refused 3 vacant;
+    answers = [];
+    bytes = [];
+    slots = vacant ∷ vacant ∷ [];
+    frames = vacant ∷ [];
+    valid = 0 ∷ [];
+    recency = 0 ∷ [];
+    flash = 255 ∷ 255 ∷ 255 ∷ 255 ∷ 255 ∷ 255 ∷ [];
+    wear = 0 ∷ 10 ∷ 0 ∷ [];
+  };
+}
+
+-- a page buffer of another length is refused 2, before the page number is looked at
+page-buffer : Row
+page-buffer = record {
+  sizes = sizesA;
+  wear = 0 ∷ 9 ∷ 0 ∷ [];
+  calls = write 0 (1 ∷ 2 ∷ []) ∷ read 9 [] ∷ write 9 (1 ∷ []) ∷ [];
+  gives = record {
+    opening = openDone;
+    answers = refused 2 vacant ∷ refused 2 vacant ∷ refused 5 vacant ∷ [];
+    bytes = 1 ∷ 0 ∷ 1 ∷ [];
+    slots = vacant ∷ vacant ∷ [];
+    frames = vacant ∷ [];
+    valid = 0 ∷ [];
+    recency = 0 ∷ [];
+    flash = 255 ∷ 255 ∷ 255 ∷ 255 ∷ 255 ∷ 255 ∷ [];
+    wear = 0 ∷ 9 ∷ 0 ∷ [];
+  };
+}
+
+table : List Row
+table =
+    p1 ∷ p2 ∷ p3 ∷ p4 ∷ p5 ∷ p6 ∷ p7 ∷ p8 ∷ p9 ∷ p10 ∷ p10-worn ∷ p11
+    ∷ read-hit ∷ write-hit ∷ slot-hit ∷ join-recent ∷ tie-frames ∷ tie-blocks ∷ slot-order ∷ step-order
+    ∷ merge-count ∷ flush-all ∷ worn-blocks ∷ read-miss ∷ one-frame ∷ merge-first ∷ blank-record ∷ short-wear ∷ overworn ∷ page-buffer ∷ []
+
+-- every row holds, by computing with the definitions
+rows : map gave table ≡ map gives table
+unfolding p1 p2 p3 p4 p5 p6 p7 p8 p9 p10 p10-worn p11 read-hit write-hit slot-hit join-recent tie-frames tie-blocks slot-order step-order merge-count flush-all worn-blocks read-miss one-frame merge-first blank-record short-wear overworn page-buffer table gives gave runs erased openStore call carriedOut memoryOf buffersOf zeroPage lentOk callPages stepsPages decide flushOutcome steps stepOutcome writeOutcome readOutcome checked steppedPages writtenPages readPage stepped written readDirectory rewrittenPages merged vacated exchangedPages exchanged givenSlot taken spare unmet joinedPages filled joined putFramePage putSlotPage entered putSlot touched recencyAfter wornBy worn programmed flashPage lowestWorn isWorn cached dueOf lowestInSlots occupied plan evictionPlan evictable fewestValid victim leastRecent readWay slotCount validCount frameOf frameWith inSlots slotOf inBlock inFrame sound framePast slotPast listedOnce cachedOnce framesDiffer slotsDiffer frameOk slotOk shapeOk sizesOk vacantDirectory blankCache every first firstFrom count all allPairs tab tabFrom bit mask nth argmax least pageAt pagesOf flat
+rows = refl

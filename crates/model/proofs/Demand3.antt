@@ -15,12 +15,13 @@ use Rattle.prelude.proofs.Tests.{by-test, clash, each}
 use Rattle.prelude.proofs.Scan.{count-le}
 use Rattle.prelude.proofs.Tab.{getD-tab}
 use Rattle.model.specs.Sizes.{Sizes, vacant}
-use Rattle.model.specs.Policy.{Choice, Plan, plan, wayOf, erasedBy, mergeReads, mergedBy, Due, clean, due, dueOf, isWorn, lowestWorn}
+use Rattle.model.specs.Policy.{leastRecent, Choice, Plan, plan, wayOf, erasedBy, mergeReads, mergedBy, Due, clean, due, dueOf, isWorn, lowestWorn}
 use Rattle.model.specs.Moves.{Memory, wornBy, joined, written, stepped, readPage, steppedPages}
-use Rattle.model.specs.Calls.{writeDone, stepDone, stepClean, flushDone, isRefused, Call, read, write, step, flush, State, Outcome, turnedDown, checked, readOutcome, writeOutcome, stepOutcome, Tally, steps, flushOutcome, decide, stepsPages, callPages, Page, Buffers, lentOk, openStore, Store, Result, zeroPage, memoryOf, buffersOf, told, lentBuffer, filledBuffer, carriedOut, call}
+use Rattle.model.specs.Calls.{openDone, writeDone, stepDone, stepClean, flushDone, isRefused, Call, read, write, step, flush, State, Outcome, turnedDown, checked, readOutcome, writeOutcome, stepOutcome, Tally, steps, flushOutcome, decide, stepsPages, callPages, Page, Buffers, lentOk, openStore, Store, Result, zeroPage, memoryOf, buffersOf, told, lentBuffer, filledBuffer, carriedOut, call}
 use Rattle.model.specs.Lists.{Chosen, Picks, AllPick, Put, Accepted, Reference, arrayAfter, logAfter, beforeAfter, isFlush, bookSays, fed, opened, ReadGives, After, Claim, Demand3}
 use Rattle.model.proofs.Soundness.{limits-of, facts-sound}
 use Rattle.model.proofs.Lookup.{block-lt}
+use Rattle.model.proofs.Plan.{leastRecent-picks}
 use Rattle.model.proofs.Consistent.{Consistent, write-good}
 use Rattle.model.proofs.Steps.{Ready, due-elim, wornBy-length, steps-clean}
 use Rattle.model.proofs.Flush.{read-is, read-good, step-good, empty-flash, Moved, moved-none, step-moved, write-moves, flush-all}
@@ -353,3 +354,17 @@ module _ (sz : Sizes) (u : Buffers) (a : Accept sz u) where
 -- demand 3
 pub demand-3 : Demand3
 demand-3 sz u h cs p = opened-claim sz u (open-accepted sz u h) cs p
+
+-- ---- with document 01's choice, the least recent frame
+
+abbrev pub lru : List (Call Page) → List Chosen
+lru [] = []
+lru (c ∷ cs) = record { choice = leastRecent; call = c } ∷ lru cs
+
+lru-picks : (cs : List (Call Page)) → AllPick (lru cs)
+lru-picks [] = tt
+lru-picks (c ∷ cs) = (leastRecent-picks, lru-picks cs)
+
+pub demand-3-lru : (sz : Sizes) (u : Buffers) → openStore sz u .answer ≡ openDone → (cs : List (Call Page))
+    → Claim sz u (record { cache = openStore sz u .cache; lent = u }) (opened sz u) (lru cs)
+demand-3-lru sz u h cs = demand-3 sz u h (lru cs) (lru-picks cs)

@@ -11,3 +11,5 @@ pub mod EachPage
 pub mod Buffers
 pub mod Demand3
 pub mod Table
+pub mod Calls
+pub mod ScriptA

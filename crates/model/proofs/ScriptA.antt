@@ -1,0 +1,46 @@
+-- Demand 3 at script A's sizes, for its writes, reads and flush: the opening is accepted, and the claim speaks of these very bytes.
+use mathlib.Core.Path.{_≡_, refl}
+use mathlib.Core.List.{List, [], _∷_}
+use lib.ListN.{replicate}
+use Rattle.prelude.specs.Tests.{every}
+use Rattle.prelude.specs.Scan.{firstFrom, first, count, all, allPairs, nth, argmax, least, tabFrom, tab}
+use Rattle.prelude.specs.Bits.{bit, mask}
+use Rattle.prelude.specs.Pages.{pageAt, pagesOf, flat}
+use Rattle.model.specs.Sizes.{Sizes, sizesOk}
+use Rattle.model.specs.Directory.{inFrame, vacantDirectory, blankCache}
+use Rattle.model.specs.Soundness.{shapeOk, slotOk, frameOk, slotsDiffer, framesDiffer, cachedOnce, listedOnce, slotPast, framePast, sound}
+use Rattle.model.specs.Policy.{inBlock, slotOf, inSlots, frameWith, frameOf, validCount, slotCount, readWay, leastRecent, victim, fewestValid, evictable, evictionPlan, plan, occupied, lowestInSlots, dueOf, cached, isWorn, lowestWorn}
+use Rattle.model.specs.Moves.{flashPage, programmed, worn, wornBy, recencyAfter, touched, putSlot, entered, putSlotPage, putFramePage, joined, filled, joinedPages, unmet, spare, taken, givenSlot, exchanged, exchangedPages, vacated, merged, rewrittenPages, readDirectory, written, stepped, readPage, writtenPages, steppedPages}
+use Rattle.model.specs.Calls.{Call, read, write, flush, checked, readOutcome, writeOutcome, stepOutcome, steps, flushOutcome, decide, stepsPages, callPages, Page, Buffers, lentOk, openStore, Store, zeroPage, memoryOf, buffersOf, carriedOut, call}
+use Rattle.model.specs.Lists.{Claim, opened, fed, arrayAfter}
+use Rattle.model.proofs.Demand3.{lru, demand-3-lru}
+
+abbrev sizesA : Sizes
+sizesA = record { S = 1; K = 2; N = 3; P = 2; B = 1; W = 9 }
+
+abbrev lentA : Buffers
+lentA = record { flash = replicate 6 255; wear = replicate 3 0; pspace = replicate 2 0; bspace = replicate 2 0 }
+
+abbrev callsA : List (Call Page)
+callsA = write 0 (10 ∷ []) ∷ write 2 (20 ∷ []) ∷ write 4 (30 ∷ []) ∷ write 3 (40 ∷ []) ∷ read 2 (0 ∷ []) ∷ read 1 (0 ∷ []) ∷ flush ∷ []
+
+abbrev storeA : Store
+storeA = record { cache = openStore sizesA lentA .cache; lent = lentA }
+
+pub claim-a : Claim sizesA lentA storeA (opened sizesA lentA) (lru callsA)
+unfolding openStore call carriedOut memoryOf buffersOf zeroPage lentOk callPages stepsPages decide flushOutcome steps stepOutcome writeOutcome readOutcome checked steppedPages writtenPages readPage stepped written readDirectory rewrittenPages merged vacated exchangedPages exchanged givenSlot taken spare unmet joinedPages filled joined putFramePage putSlotPage entered putSlot touched recencyAfter wornBy worn programmed flashPage lowestWorn isWorn cached dueOf lowestInSlots occupied plan evictionPlan evictable fewestValid victim leastRecent readWay slotCount validCount frameOf frameWith inSlots slotOf inBlock inFrame sound framePast slotPast listedOnce cachedOnce framesDiffer slotsDiffer frameOk slotOk shapeOk sizesOk vacantDirectory blankCache every first firstFrom count all allPairs tab tabFrom bit mask nth argmax least pageAt pagesOf flat
+claim-a = demand-3-lru sizesA lentA refl callsA
+
+-- the flash that the flush leaves is the page array: the newest contents of every page
+abbrev ran : Store → List (Call Page) → Store
+ran s [] = s
+ran s (c ∷ cs) = ran (call leastRecent s c .store) cs
+
+pub flash-a : ran storeA callsA .lent .flash ≡ 10 ∷ 255 ∷ 20 ∷ 40 ∷ 30 ∷ 255 ∷ []
+unfolding opened fed arrayAfter openStore call carriedOut memoryOf buffersOf zeroPage lentOk callPages stepsPages decide flushOutcome steps stepOutcome writeOutcome readOutcome checked steppedPages writtenPages readPage stepped written readDirectory rewrittenPages merged vacated exchangedPages exchanged givenSlot taken spare unmet joinedPages filled joined putFramePage putSlotPage entered putSlot touched recencyAfter wornBy worn programmed flashPage lowestWorn isWorn cached dueOf lowestInSlots occupied plan evictionPlan evictable fewestValid victim leastRecent readWay slotCount validCount frameOf frameWith inSlots slotOf inBlock inFrame sound framePast slotPast listedOnce cachedOnce framesDiffer slotsDiffer frameOk slotOk shapeOk sizesOk vacantDirectory blankCache every first firstFrom count all allPairs tab tabFrom bit mask nth argmax least pageAt pagesOf flat
+flash-a = claim-a .then .then .then .then .then .then .then .flushed-is refl
+
+-- the page that the fifth call read is the one last accepted for its number
+pub read-a : call leastRecent (ran storeA (write 0 (10 ∷ []) ∷ write 2 (20 ∷ []) ∷ write 4 (30 ∷ []) ∷ write 3 (40 ∷ []) ∷ [])) (read 2 (0 ∷ [])) .page ≡ 20 ∷ []
+unfolding opened fed arrayAfter openStore call carriedOut memoryOf buffersOf zeroPage lentOk callPages stepsPages decide flushOutcome steps stepOutcome writeOutcome readOutcome checked steppedPages writtenPages readPage stepped written readDirectory rewrittenPages merged vacated exchangedPages exchanged givenSlot taken spare unmet joinedPages filled joined putFramePage putSlotPage entered putSlot touched recencyAfter wornBy worn programmed flashPage lowestWorn isWorn cached dueOf lowestInSlots occupied plan evictionPlan evictable fewestValid victim leastRecent readWay slotCount validCount frameOf frameWith inSlots slotOf inBlock inFrame sound framePast slotPast listedOnce cachedOnce framesDiffer slotsDiffer frameOk slotOk shapeOk sizesOk vacantDirectory blankCache every first firstFrom count all allPairs tab tabFrom bit mask nth argmax least pageAt pagesOf flat
+read-a = claim-a .then .then .then .then .reads refl

@@ -10,6 +10,7 @@ pub mod Opening
 pub mod EachPage
 pub mod Buffers
 pub mod Demand3
-pub mod Table
+pub mod AuditClauses
+pub mod AuditTable
 pub mod Calls
 pub mod ScriptA

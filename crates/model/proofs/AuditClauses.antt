@@ -6,12 +6,12 @@ use Rattle.prelude.specs.Tests.{every}
 use Rattle.prelude.specs.Scan.{firstFrom, first, count, all, allPairs, nth, argmax, least, tabFrom, tab}
 use Rattle.prelude.specs.Bits.{bit, mask}
 use Rattle.prelude.specs.Pages.{pageAt, pagesOf, flat}
-use Rattle.model.specs.Sizes.{Sizes, sizesOk}
+use Rattle.model.specs.Sizes.{vacant, Sizes, sizesOk}
 use Rattle.model.specs.Directory.{inFrame, vacantDirectory, blankCache}
 use Rattle.model.specs.Soundness.{shapeOk, slotOk, frameOk, slotsDiffer, framesDiffer, cachedOnce, listedOnce, slotPast, framePast, sound}
 use Rattle.model.specs.Policy.{inBlock, slotOf, inSlots, frameWith, frameOf, validCount, slotCount, readWay, leastRecent, victim, fewestValid, evictable, evictionPlan, plan, occupied, lowestInSlots, dueOf, cached, isWorn, lowestWorn}
 use Rattle.model.specs.Moves.{flashPage, programmed, worn, wornBy, recencyAfter, touched, putSlot, entered, putSlotPage, putFramePage, joined, filled, joinedPages, unmet, spare, taken, givenSlot, exchanged, exchangedPages, vacated, merged, rewrittenPages, readDirectory, written, stepped, readPage, writtenPages, steppedPages}
-use Rattle.model.specs.Calls.{Answer, Call, read, write, flush, checked, readOutcome, writeOutcome, stepOutcome, steps, flushOutcome, decide, stepsPages, callPages, Page, Buffers, lentOk, openStore, Store, zeroPage, memoryOf, buffersOf, carriedOut, call}
+use Rattle.model.specs.Calls.{readDone, writeDone, flushDone, refused, Answer, Call, read, write, flush, checked, readOutcome, writeOutcome, stepOutcome, steps, flushOutcome, decide, stepsPages, callPages, Page, Buffers, lentOk, openStore, Store, zeroPage, memoryOf, buffersOf, carriedOut, call}
 use Rattle.model.specs.Calls.{told}
 use Rattle.model.specs.Lists.{Reference, opened, fed, arrayAfter, logAfter, beforeAfter, timesCached}
 
@@ -64,10 +64,17 @@ wrote = both start writesA
 ran : Pair
 ran = both wrote restA
 
+abbrev both-say : List Answer
+both-say = flushDone 2 1 ∷ refused 5 vacant ∷ refused 5 vacant ∷ readDone 3 ∷ readDone 2 ∷ writeDone 7 0 1 ∷ writeDone 5 vacant 0 ∷ writeDone 3 vacant 0 ∷ writeDone 3 vacant 0 ∷ []
+
 -- the store answers as the book does, refusals included
-answers : ran .says ≡ ran .bookSays
+answers : ran .says ≡ both-say
 unfolding start wrote ran both writesA restA opened fed arrayAfter logAfter beforeAfter openStore call carriedOut memoryOf buffersOf zeroPage lentOk callPages stepsPages decide flushOutcome steps stepOutcome writeOutcome readOutcome checked steppedPages writtenPages readPage stepped written readDirectory rewrittenPages merged vacated exchangedPages exchanged givenSlot taken spare unmet joinedPages filled joined putFramePage putSlotPage entered putSlot touched recencyAfter wornBy worn programmed flashPage lowestWorn isWorn cached dueOf lowestInSlots occupied plan evictionPlan evictable fewestValid victim leastRecent readWay slotCount validCount frameOf frameWith inSlots slotOf inBlock inFrame sound framePast slotPast listedOnce cachedOnce framesDiffer slotsDiffer frameOk slotOk shapeOk sizesOk vacantDirectory blankCache every first firstFrom count all allPairs tab tabFrom bit mask nth argmax least pageAt pagesOf flat
 answers = refl
+
+book-answers : ran .bookSays ≡ both-say
+unfolding start wrote ran both writesA restA opened fed arrayAfter logAfter beforeAfter openStore call carriedOut memoryOf buffersOf zeroPage lentOk callPages stepsPages decide flushOutcome steps stepOutcome writeOutcome readOutcome checked steppedPages writtenPages readPage stepped written readDirectory rewrittenPages merged vacated exchangedPages exchanged givenSlot taken spare unmet joinedPages filled joined putFramePage putSlotPage entered putSlot touched recencyAfter wornBy worn programmed flashPage lowestWorn isWorn cached dueOf lowestInSlots occupied plan evictionPlan evictable fewestValid victim leastRecent readWay slotCount validCount frameOf frameWith inSlots slotOf inBlock inFrame sound framePast slotPast listedOnce cachedOnce framesDiffer slotsDiffer frameOk slotOk shapeOk sizesOk vacantDirectory blankCache every first firstFrom count all allPairs tab tabFrom bit mask nth argmax least pageAt pagesOf flat
+book-answers = refl
 
 -- the page array after the writes: what was last accepted for each page, or what flash held at opening
 array : wrote .reference .array ≡ (10 ∷ []) ∷ (255 ∷ []) ∷ (20 ∷ []) ∷ (40 ∷ []) ∷ (30 ∷ []) ∷ (255 ∷ []) ∷ []
@@ -90,9 +97,13 @@ unfolding start wrote ran both writesA restA opened fed arrayAfter logAfter befo
 before = refl
 
 -- each block's wear is the book's
-wear : ran .store .lent .wear ≡ ran .reference .book .wear
+wear : ran .store .lent .wear ≡ 1 ∷ 1 ∷ 1 ∷ []
 unfolding start wrote ran both writesA restA opened fed arrayAfter logAfter beforeAfter openStore call carriedOut memoryOf buffersOf zeroPage lentOk callPages stepsPages decide flushOutcome steps stepOutcome writeOutcome readOutcome checked steppedPages writtenPages readPage stepped written readDirectory rewrittenPages merged vacated exchangedPages exchanged givenSlot taken spare unmet joinedPages filled joined putFramePage putSlotPage entered putSlot touched recencyAfter wornBy worn programmed flashPage lowestWorn isWorn cached dueOf lowestInSlots occupied plan evictionPlan evictable fewestValid victim leastRecent readWay slotCount validCount frameOf frameWith inSlots slotOf inBlock inFrame sound framePast slotPast listedOnce cachedOnce framesDiffer slotsDiffer frameOk slotOk shapeOk sizesOk vacantDirectory blankCache every first firstFrom count all allPairs tab tabFrom bit mask nth argmax least pageAt pagesOf flat
 wear = refl
+
+book-wear : ran .reference .book .wear ≡ 1 ∷ 1 ∷ 1 ∷ []
+unfolding start wrote ran both writesA restA opened fed arrayAfter logAfter beforeAfter openStore call carriedOut memoryOf buffersOf zeroPage lentOk callPages stepsPages decide flushOutcome steps stepOutcome writeOutcome readOutcome checked steppedPages writtenPages readPage stepped written readDirectory rewrittenPages merged vacated exchangedPages exchanged givenSlot taken spare unmet joinedPages filled joined putFramePage putSlotPage entered putSlot touched recencyAfter wornBy worn programmed flashPage lowestWorn isWorn cached dueOf lowestInSlots occupied plan evictionPlan evictable fewestValid victim leastRecent readWay slotCount validCount frameOf frameWith inSlots slotOf inBlock inFrame sound framePast slotPast listedOnce cachedOnce framesDiffer slotsDiffer frameOk slotOk shapeOk sizesOk vacantDirectory blankCache every first firstFrom count all allPairs tab tabFrom bit mask nth argmax least pageAt pagesOf flat
+book-wear = refl
 
 -- after the flush, flash is that array
 flash : ran .store .lent .flash ≡ 10 ∷ 255 ∷ 20 ∷ 40 ∷ 30 ∷ 255 ∷ []

@@ -1,4 +1,7 @@
 -- A page moves and is never made up: what holds of every page at opening and of every page written holds of every page.
+-- the histories are checked before the proofs, so that a definition that breaks one is refused there
+use Rattle.model.proofs.AuditClauses
+use Rattle.model.proofs.AuditTable
 use mathlib.Core.Path.{_≡_, refl}
 use mathlib.Core.Bool.{Bool, true, false, cond, _&&_}
 use mathlib.Core.List.{List}

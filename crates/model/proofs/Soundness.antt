@@ -1,4 +1,7 @@
 -- The soundness test and the facts of a sound record say the same.
+-- the histories are checked before the proofs, so that a definition that breaks one is refused there
+use Rattle.model.proofs.AuditClauses
+use Rattle.model.proofs.AuditTable
 use mathlib.Core.Path.{_≡_, sym, _∙_}
 use mathlib.Core.Logic.{_⊎_, inl, inr}
 use mathlib.Core.Bool.{Bool, true, not, _&&_, _||_}

@@ -21,12 +21,12 @@ sizesA = record { S = 1; K = 2; N = 3; P = 2; B = 1; W = 9 }
 abbrev lentA : Buffers
 lentA = record { flash = replicate 6 255; wear = replicate 3 0; pspace = replicate 2 0; bspace = replicate 2 0 }
 
--- four writes, the last by way 7; a read from a frame, one from flash; a refused read; a flush
+-- four writes, the last by way 7; a read from a frame, one from flash; a refused read and a refused write; a flush
 writesA : List (Call Page)
 writesA = write 0 (10 ∷ []) ∷ write 2 (20 ∷ []) ∷ write 4 (30 ∷ []) ∷ write 3 (40 ∷ []) ∷ []
 
 restA : List (Call Page)
-restA = read 2 (0 ∷ []) ∷ read 1 (0 ∷ []) ∷ read 6 (7 ∷ []) ∷ write 9 (9 ∷ []) ∷ flush ∷ []
+restA = read 2 (0 ∷ []) ∷ read 1 (0 ∷ []) ∷ read 6 (7 ∷ []) ∷ write 2 (9 ∷ 9 ∷ []) ∷ flush ∷ []
 
 -- store and reference side by side, with the answers of both and the page buffers, latest first
 record Pair : Type 0 where
@@ -65,7 +65,7 @@ ran : Pair
 ran = both wrote restA
 
 abbrev both-say : List Answer
-both-say = flushDone 2 1 ∷ refused 5 vacant ∷ refused 5 vacant ∷ readDone 3 ∷ readDone 2 ∷ writeDone 7 0 1 ∷ writeDone 5 vacant 0 ∷ writeDone 3 vacant 0 ∷ writeDone 3 vacant 0 ∷ []
+both-say = flushDone 2 1 ∷ refused 2 vacant ∷ refused 5 vacant ∷ readDone 3 ∷ readDone 2 ∷ writeDone 7 0 1 ∷ writeDone 5 vacant 0 ∷ writeDone 3 vacant 0 ∷ writeDone 3 vacant 0 ∷ []
 
 -- the store answers as the book does, refusals included
 answers : ran .says ≡ both-say
@@ -76,13 +76,13 @@ book-answers : ran .bookSays ≡ both-say
 unfolding start wrote ran both writesA restA opened fed arrayAfter logAfter beforeAfter openStore call carriedOut memoryOf buffersOf zeroPage lentOk callPages stepsPages decide flushOutcome steps stepOutcome writeOutcome readOutcome checked steppedPages writtenPages readPage stepped written readDirectory rewrittenPages merged vacated exchangedPages exchanged givenSlot taken spare unmet joinedPages filled joined putFramePage putSlotPage entered putSlot touched recencyAfter wornBy worn programmed flashPage lowestWorn isWorn cached dueOf lowestInSlots occupied plan evictionPlan evictable fewestValid victim leastRecent readWay slotCount validCount frameOf frameWith inSlots slotOf inBlock inFrame sound framePast slotPast listedOnce cachedOnce framesDiffer slotsDiffer frameOk slotOk shapeOk sizesOk vacantDirectory blankCache every first firstFrom count all allPairs tab tabFrom bit mask nth argmax least pageAt pagesOf flat
 book-answers = refl
 
--- the page array after the writes: what was last accepted for each page, or what flash held at opening
-array : wrote .reference .array ≡ (10 ∷ []) ∷ (255 ∷ []) ∷ (20 ∷ []) ∷ (40 ∷ []) ∷ (30 ∷ []) ∷ (255 ∷ []) ∷ []
+-- the page array: what was last accepted for each page, or what flash held at opening
+array : ran .reference .array ≡ (10 ∷ []) ∷ (255 ∷ []) ∷ (20 ∷ []) ∷ (40 ∷ []) ∷ (30 ∷ []) ∷ (255 ∷ []) ∷ []
 unfolding start wrote ran both writesA restA opened fed arrayAfter logAfter beforeAfter openStore call carriedOut memoryOf buffersOf zeroPage lentOk callPages stepsPages decide flushOutcome steps stepOutcome writeOutcome readOutcome checked steppedPages writtenPages readPage stepped written readDirectory rewrittenPages merged vacated exchangedPages exchanged givenSlot taken spare unmet joinedPages filled joined putFramePage putSlotPage entered putSlot touched recencyAfter wornBy worn programmed flashPage lowestWorn isWorn cached dueOf lowestInSlots occupied plan evictionPlan evictable fewestValid victim leastRecent readWay slotCount validCount frameOf frameWith inSlots slotOf inBlock inFrame sound framePast slotPast listedOnce cachedOnce framesDiffer slotsDiffer frameOk slotOk shapeOk sizesOk vacantDirectory blankCache every first firstFrom count all allPairs tab tabFrom bit mask nth argmax least pageAt pagesOf flat
 array = refl
 
 -- each accepted read gave that page, of 2 and of 1, and the refused calls left their buffers
-reads : take 5 (ran .buffers) ≡ [] ∷ (9 ∷ []) ∷ (7 ∷ []) ∷ (255 ∷ []) ∷ (20 ∷ []) ∷ []
+reads : take 5 (ran .buffers) ≡ [] ∷ (9 ∷ 9 ∷ []) ∷ (7 ∷ []) ∷ (255 ∷ []) ∷ (20 ∷ []) ∷ []
 unfolding start wrote ran both writesA restA opened fed arrayAfter logAfter beforeAfter openStore call carriedOut memoryOf buffersOf zeroPage lentOk callPages stepsPages decide flushOutcome steps stepOutcome writeOutcome readOutcome checked steppedPages writtenPages readPage stepped written readDirectory rewrittenPages merged vacated exchangedPages exchanged givenSlot taken spare unmet joinedPages filled joined putFramePage putSlotPage entered putSlot touched recencyAfter wornBy worn programmed flashPage lowestWorn isWorn cached dueOf lowestInSlots occupied plan evictionPlan evictable fewestValid victim leastRecent readWay slotCount validCount frameOf frameWith inSlots slotOf inBlock inFrame sound framePast slotPast listedOnce cachedOnce framesDiffer slotsDiffer frameOk slotOk shapeOk sizesOk vacantDirectory blankCache every first firstFrom count all allPairs tab tabFrom bit mask nth argmax least pageAt pagesOf flat
 reads = refl
 

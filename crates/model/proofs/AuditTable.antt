@@ -448,6 +448,25 @@ slot-order = record {
   };
 }
 
+-- way 6 moves the old pages before it overwrites them: each page reads as written
+exchange-bytes : Row
+exchange-bytes = record {
+  sizes = sizesB;
+  wear = 0 ∷ 0 ∷ 0 ∷ [];
+  calls = write 0 (10 ∷ []) ∷ write 4 (20 ∷ []) ∷ write 8 (30 ∷ []) ∷ write 9 (40 ∷ []) ∷ write 5 (50 ∷ []) ∷ read 0 (0 ∷ []) ∷ read 4 (0 ∷ []) ∷ read 5 (0 ∷ []) ∷ read 8 (0 ∷ []) ∷ read 9 (0 ∷ []) ∷ [];
+  gives = record {
+    opening = openDone;
+    answers = way 3 ∷ way 3 ∷ way 3 ∷ way 5 ∷ way 6 ∷ readDone 1 ∷ readDone 1 ∷ readDone 1 ∷ readDone 2 ∷ readDone 2 ∷ [];
+    bytes = 10 ∷ 20 ∷ 30 ∷ 40 ∷ 50 ∷ 10 ∷ 20 ∷ 50 ∷ 30 ∷ 40 ∷ [];
+    slots = 5 ∷ 4 ∷ 0 ∷ [];
+    frames = 2 ∷ [];
+    valid = 3 ∷ [];
+    recency = 0 ∷ [];
+    flash = 255 ∷ 255 ∷ 255 ∷ 255 ∷ 255 ∷ 255 ∷ 255 ∷ 255 ∷ 255 ∷ 255 ∷ 255 ∷ 255 ∷ [];
+    wear = 0 ∷ 0 ∷ 0 ∷ [];
+  };
+}
+
 -- a flush step leaves the order alone
 step-order : Row
 step-order = record {
@@ -661,10 +680,10 @@ page-buffer = record {
 table : List Row
 table =
     p1 ∷ p2 ∷ p3 ∷ p4 ∷ p5 ∷ p6 ∷ p7 ∷ p8 ∷ p9 ∷ p10 ∷ p10-worn ∷ p11
-    ∷ read-hit ∷ write-hit ∷ slot-hit ∷ join-recent ∷ tie-frames ∷ tie-blocks ∷ slot-order ∷ step-order
+    ∷ read-hit ∷ write-hit ∷ slot-hit ∷ join-recent ∷ tie-frames ∷ tie-blocks ∷ slot-order ∷ exchange-bytes ∷ step-order
     ∷ merge-count ∷ flush-all ∷ worn-blocks ∷ read-miss ∷ one-frame ∷ merge-first ∷ blank-record ∷ short-wear ∷ overworn ∷ page-buffer ∷ []
 
 -- every row holds, by computing with the definitions
 rows : map gave table ≡ map gives table
-unfolding p1 p2 p3 p4 p5 p6 p7 p8 p9 p10 p10-worn p11 read-hit write-hit slot-hit join-recent tie-frames tie-blocks slot-order step-order merge-count flush-all worn-blocks read-miss one-frame merge-first blank-record short-wear overworn page-buffer table gives gave runs erased openStore call carriedOut memoryOf buffersOf zeroPage lentOk callPages stepsPages decide flushOutcome steps stepOutcome writeOutcome readOutcome checked steppedPages writtenPages readPage stepped written readDirectory rewrittenPages merged vacated exchangedPages exchanged givenSlot taken spare unmet joinedPages filled joined putFramePage putSlotPage entered putSlot touched recencyAfter wornBy worn programmed flashPage lowestWorn isWorn cached dueOf lowestInSlots occupied plan evictionPlan evictable fewestValid victim leastRecent readWay slotCount validCount frameOf frameWith inSlots slotOf inBlock inFrame sound framePast slotPast listedOnce cachedOnce framesDiffer slotsDiffer frameOk slotOk shapeOk sizesOk vacantDirectory blankCache every first firstFrom count all allPairs tab tabFrom bit mask nth argmax least pageAt pagesOf flat
+unfolding p1 p2 p3 p4 p5 p6 p7 p8 p9 p10 p10-worn p11 read-hit write-hit slot-hit join-recent tie-frames tie-blocks slot-order exchange-bytes step-order merge-count flush-all worn-blocks read-miss one-frame merge-first blank-record short-wear overworn page-buffer table gives gave runs erased openStore call carriedOut memoryOf buffersOf zeroPage lentOk callPages stepsPages decide flushOutcome steps stepOutcome writeOutcome readOutcome checked steppedPages writtenPages readPage stepped written readDirectory rewrittenPages merged vacated exchangedPages exchanged givenSlot taken spare unmet joinedPages filled joined putFramePage putSlotPage entered putSlot touched recencyAfter wornBy worn programmed flashPage lowestWorn isWorn cached dueOf lowestInSlots occupied plan evictionPlan evictable fewestValid victim leastRecent readWay slotCount validCount frameOf frameWith inSlots slotOf inBlock inFrame sound framePast slotPast listedOnce cachedOnce framesDiffer slotsDiffer frameOk slotOk shapeOk sizesOk vacantDirectory blankCache every first firstFrom count all allPairs tab tabFrom bit mask nth argmax least pageAt pagesOf flat
 rows = refl

@@ -1,6 +1,6 @@
 -- Laws of the view: what code reads and stores is what the model has.
 use mathlib.Core.Path.{_≡_, refl, sym, ap, _∙_}
-use mathlib.Core.List.{List, map}
+use mathlib.Core.List.{List}
 use Prim.Native.Nat.{ℕ}
 use lib.ListN.{getD, set, length-map, List·getD-map}
 use denote.RattleType.{Valss, owns}

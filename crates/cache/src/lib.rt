@@ -1,4 +1,7 @@
 // The cache record's numbers by value: its sizes and its directory, which says what stands where.
+mod filter;
+mod soundness;
+
 use address::BlockNo;
 use address::PageNo;
 ghost use mathlib.Core.Path.{_≡_};

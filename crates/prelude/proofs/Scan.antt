@@ -1,6 +1,6 @@
 -- Laws of the scans over numbers below a bound.
 use mathlib.Core.Path.{_≡_, refl, sym, ap, _∙_}
-use mathlib.Core.Bool.{Bool, true, false, not, cond, _&&_}
+use mathlib.Core.Bool.{Bool, true, false, not, cond, _&&_, _||_}
 use Prim.Native.Nat.{ℕ, zero, suc, _+_, _-_, _≤_, _<_}
 use native.Mathlib.Nat.{not-suc-le-zero, add-zero, zero-add}
 use native.Mathlib.Numerals.{add-one}
@@ -8,7 +8,7 @@ use native.Mathlib.Omega.{arith}
 use lib.Dec.{ltb, eqb}
 use borrow.Author.Tests.{ltb-true, ltb-false, eqb-true, eqb-false, lt-ltb, eq-eqb, ne-eqb}
 use Rattle.prelude.specs.Scan.{firstFrom, first, count, all, allPairs, nth, argmax, least}
-use Rattle.prelude.proofs.Tests.{by-test, clash, and-l, and-r, and-i, not-i}
+use Rattle.prelude.proofs.Tests.{by-test, clash, and-l, and-r, and-i, not-i, same-test}
 
 -- ---- all
 
@@ -40,6 +40,31 @@ all-none p = refl
 pub all-more : (p : ℕ → Bool) (i : ℕ) {ok ok′ : Bool} → ok ≡ all i p → ok′ ≡ (ok && p i) → ok′ ≡ all (i + 1) p
 unfolding all
 all-more p i {ok} e q = q ∙ rw (e, add-one i)
+
+-- and where it ends
+pub all-end : (p : ℕ → Bool) (i n : ℕ) {ok : Bool} → ok ≡ all i p → i ≡ n → ok ≡ all n p
+all-end p i n e q = e ∙ ap (λ (k : ℕ). all k p) q
+
+-- one that fails
+pub all-fails : (n : ℕ) (p : ℕ → Bool) (i : ℕ) → i < n → p i ≡ false → all n p ≡ false
+all-fails n p i l e = by-test (all n p) (λ h. clash (all-at n p h i l) e) (λ h. h)
+
+-- two tests alike below n
+pub all-same : (n : ℕ) (p q : ℕ → Bool) → ((i : ℕ) → i < n → p i ≡ q i) → all n p ≡ all n q
+all-same n p q f = same-test
+    (λ h. all-of n q (λ i l. sym (f i l) ∙ all-at n p h i l))
+    (λ h. all-of n p (λ i l. f i l ∙ all-at n q h i l))
+
+-- a test that does not look at the number
+pub all-or : (n : ℕ) (a : Bool) (p : ℕ → Bool) → (a || all n p) ≡ all n (λ i. a || p i)
+all-or n true p = sym (all-of n (λ i. true) (λ i l. refl))
+all-or n false p = refl
+
+-- two tests at once
+pub all-both : (n : ℕ) (p q : ℕ → Bool) → all n (λ i. p i && q i) ≡ (all n p && all n q)
+all-both n p q = same-test
+    (λ h. and-i (all-of n p (λ i l. and-l (p i) (q i) (all-at n (λ j. p j && q j) h i l))) (all-of n q (λ i l. and-r (p i) (q i) (all-at n (λ j. p j && q j) h i l))))
+    (λ h. all-of n (λ i. p i && q i) (λ i l. and-i (all-at n p (and-l (all n p) (all n q) h) i l) (all-at n q (and-r (all n p) (all n q) h) i l)))
 
 -- ---- first
 
@@ -280,3 +305,15 @@ module _ (n : ℕ) (u : ℕ → ℕ) (has : (f : ℕ) → f < n → (i : ℕ) ×
 
   pub listed-once : (i j : ℕ) → i < n → j < n → u i ≡ u j → i ≡ j
   listed-once i j il jl e = sym (listed-at i il .1) ∙ ap position e ∙ listed-at j jl .1
+
+-- each number below n stands once among n entries: the test, and the fact that each of them stands there
+module _ (n : ℕ) (u : ℕ → ℕ) where
+  pub once-has : all n (λ f. eqb (count n (λ i. eqb (u i) f)) 1) ≡ true → (f : ℕ) → f < n → (i : ℕ) × (i < n) × (u i ≡ f)
+  once-has h f l = let p : ℕ → Bool = λ i. eqb (u i) f in let c = eqb-true (count n p) 1 (all-at n (λ g. eqb (count n (λ i. eqb (u i) g)) 1) h f l) in
+      let k = count-some n p (omega arith) in (first n p, k, eqb-true _ f (first-hit n p k))
+
+  pub has-once : ((f : ℕ) → f < n → (i : ℕ) × (i < n) × (u i ≡ f)) → all n (λ f. eqb (count n (λ i. eqb (u i) f)) 1) ≡ true
+  has-once has = all-of n (λ f. eqb (count n (λ i. eqb (u i) f)) 1) (λ f l. let p : ℕ → Bool = λ i. eqb (u i) f in let h = has f l in
+      let lo = count-past (h .0) n p (h .1) (eq-eqb _ _ (h .2)) in
+      let hi = count-one n p (λ i j il jl a b. listed-once n u has i j il jl (eqb-true _ f a ∙ sym (eqb-true _ f b))) in
+      eq-eqb (count n p) 1 (omega arith))

@@ -1,0 +1,101 @@
+-- What a turn of the soundness test's loops adds.
+use mathlib.Core.Path.{_≡_, refl, sym, ap, _∙_}
+use mathlib.Core.Logic.{inl, inr}
+use mathlib.Core.Bool.{Bool, true, false, not, _&&_, _||_, and-assoc}
+use mathlib.Core.List.{List}
+use Prim.Native.Nat.{ℕ, _+_, _*_, _/_, _%_, _≤_, _<_}
+use native.Mathlib.Nat.{div-add-mod', mod-lt, div-lt-iff-lt-mul}
+use native.Mathlib.Omega.{arith}
+use lib.Dec.{ltb, eqb}
+use lib.ListN.{length}
+use borrow.Author.Tests.{ltb-true, ltb-false, eqb-true, eqb-false, lt-ltb, eq-eqb, ne-eqb}
+use Rattle.prelude.specs.Bits.{bit}
+use Rattle.prelude.specs.Scan.{all}
+use Rattle.prelude.proofs.Tests.{by-test, clash, and-l, and-r, and-i, or-l, or-r, not-i}
+use Rattle.prelude.proofs.Scan.{all-at, all-of, all-more, all-or}
+use Rattle.model.specs.Sizes.{Sizes, InLimits, vacant}
+use Rattle.model.specs.Directory.{Directory, slotAt, frameAt, validAt, inFrame}
+use Rattle.model.specs.Soundness.{slotOk, slotsDiffer, cachedOnce}
+use Rattle.model.proofs.Soundness.{K-pos}
+use Rattle.cache.specs.Filter.{inFilter, laidAt}
+use Rattle.cache.specs.Soundness.{slotGood, Laid, Unmet, Passed}
+use Rattle.cache.proofs.Marks.{laid-keeps, laid-has}
+
+module _ (sz : Sizes) (d : Directory) where
+  -- ---- frames
+
+  pub laid-more : (f : ℕ) (seen : List ℕ) → length seen ≡ 64 → Laid sz d f seen → Laid sz d (f + 1) (laidAt seen (frameAt d f % 4096 * sz .K) (validAt d f))
+  laid-more f seen long h g o l ol small q = by-test (eqb g f)
+      (λ t. let e = eqb-true g f t in
+      let s : frameAt d g ≡ frameAt d f % 4096 = ap (frameAt d) e ∙ (let r : frameAt d f < 4096 = (rw e at small) in omega arith) in
+      ap (λ (x : ℕ). inFilter (laidAt seen (frameAt d f % 4096 * sz .K) (validAt d f)) (x * sz .K + o)) s
+      ∙ laid-has seen (frameAt d f % 4096 * sz .K) (validAt d f) long o ol (rw e at q))
+      (λ t. laid-keeps seen (frameAt d f % 4096 * sz .K) (validAt d f) long (frameAt d g * sz .K + o) (h g o (let ne = eqb-false g f t in omega arith) ol small q))
+
+  -- ---- slots
+
+  spread : (a t u v : Bool) → (a || ((t && u) && v)) ≡ ((a || t) && ((a || u) && (a || v)))
+  spread true t u v = refl
+  spread false t u v = and-assoc t u v
+
+  -- a slot compared with each slot before it and each frame
+  pub slot-compared : (j : ℕ)
+      → (eqb (slotAt d j) vacant || ((ltb (slotAt d j) (sz .N * sz .K) && all j (λ i. not (eqb (slotAt d i) (slotAt d j)))) && all (sz .B) (λ f. not (inFrame sz d (slotAt d j) f))))
+      ≡ slotGood sz d j
+  unfolding slotGood slotOk slotsDiffer cachedOnce
+  slot-compared j = let a = eqb (slotAt d j) vacant in
+      spread a (ltb (slotAt d j) (sz .N * sz .K)) (all j (λ i. not (eqb (slotAt d i) (slotAt d j)))) (all (sz .B) (λ f. not (inFrame sz d (slotAt d j) f)))
+      ∙ rw (all-or j a (λ i. not (eqb (slotAt d i) (slotAt d j))), all-or (sz .B) a (λ f. not (inFrame sz d (slotAt d j) f)))
+
+  -- the slots below j are as they should be, and the filter has their page numbers beside the frames' valid pages
+  pub record Tested (j : ℕ) (seen : List ℕ) : Type 0 where
+    pub good : all j (slotGood sz d) ≡ true
+    pub long : length seen ≡ 64
+    pub laid : Laid sz d (sz .B) seen
+    pub marked : (e : ℕ) → e < j → slotAt d e < sz .N * sz .K → inFilter seen (slotAt d e) ≡ true
+
+  pub tested-more : (j : ℕ) (seen : List ℕ) → Tested j seen → slotGood sz d j ≡ true → (slotAt d j < sz .N * sz .K → inFilter seen (slotAt d j) ≡ true) → Tested (j + 1) seen
+  tested-more j seen h g m = record {
+    good = sym (all-more (slotGood sz d) j (sym (h .good)) (sym g));
+    long = h .long;
+    laid = h .laid;
+    marked = λ e l q. by-test (eqb e j)
+        (λ t. let k = eqb-true e j t in rw k (m (rw k at q)))
+        (λ t. h .marked e (let k = eqb-false e j t in omega arith) q);
+  }
+
+  module _ (limits : InLimits sz) where
+    -- a page that the filter has not is valid in no frame
+    outside-frames : (seen : List ℕ) → Laid sz d (sz .B) seen → (y : ℕ) → y < sz .N * sz .K → inFilter seen y ≡ false → (f : ℕ) → f < sz .B → not (inFrame sz d y f) ≡ true
+    unfolding inFrame
+    outside-frames seen h y small clear f l = not-i (by-test (inFrame sz d y f)
+        (λ t.
+        let at : frameAt d f ≡ y / sz .K = eqb-true _ _ (and-l (eqb (frameAt d f) (y / sz .K)) (bit (validAt d f) (y % sz .K)) t) in
+        let low = mod-lt y (K-pos sz limits) in
+        let kh = limits .K-high in
+        let nh = limits .N-high in
+        let block : y / sz .K < sz .N = div-lt-iff-lt-mul (K-pos sz limits) .1 small in
+        let same : frameAt d f * sz .K + y % sz .K ≡ y = rw at (div-add-mod' y (sz .K)) in
+        clash (sym (ap (inFilter seen) same) ∙ h f (y % sz .K) l (omega arith) (omega arith) (and-r (eqb (frameAt d f) (y / sz .K)) (bit (validAt d f) (y % sz .K)) t)) clear)
+        (λ t. t))
+
+    unmet-good : (i : ℕ) (seen : List ℕ) → Tested i seen → (j : ℕ) → i ≤ j → Unmet (sz .N * sz .K) (d .slots) i seen j → slotGood sz d j ≡ true
+    unmet-good i seen h j ij (inl v) = sym (slot-compared j) ∙ or-l _ (eq-eqb (slotAt d j) vacant v)
+    unmet-good i seen h j ij (inr u) = sym (slot-compared j) ∙ or-r (eqb (slotAt d j) vacant) (and-i
+        (and-i (lt-ltb _ _ (u .0)) (all-of j (λ e. not (eqb (slotAt d e) (slotAt d j))) (λ e l. not-i (ne-eqb (slotAt d e) (slotAt d j) (λ q. by-test (ltb e i)
+        (λ t. clash (sym (ap (inFilter seen) q) ∙ h .marked e (ltb-true e i t) (rw q (u .0))) (u .1))
+        (λ t. u .2 e (ltb-false e i t) l q))))))
+        (all-of (sz .B) (λ f. not (inFrame sz d (slotAt d j) f)) (outside-frames seen (h .laid) (slotAt d j) (u .0) (u .1))))
+
+    -- slots that the filter has let pass
+    pub tested-passed : (i j : ℕ) (seen next : List ℕ) → Tested i seen → Passed (sz .N * sz .K) (d .slots) i j seen next → Tested j next
+    tested-passed i j seen next h p = record {
+      good = all-of j (slotGood sz d) (λ e l. by-test (ltb e i)
+          (λ t. all-at i (slotGood sz d) (h .good) e (ltb-true e i t))
+          (λ t. let k = ltb-false e i t in unmet-good i seen h e k (p .unmet e k l)));
+      long = p .long;
+      laid = λ f o l ol small q. p .kept _ (h .laid f o l ol small q);
+      marked = λ e l q. by-test (ltb e i)
+          (λ t. p .kept _ (h .marked e (ltb-true e i t) q))
+          (λ t. p .marked e (ltb-false e i t) l q);
+    }

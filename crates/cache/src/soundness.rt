@@ -1,0 +1,249 @@
+// The soundness test. One filter takes the frames' valid pages and then the slots' page numbers one by one; only where a
+// bit is met already are entries compared. The parts are lent plain numbers.
+use crate::Directory;
+use crate::Sizes;
+use crate::VACANT;
+use crate::filter;
+use address::PageNo;
+ghost use mathlib.Core.Path.{_≡_};
+ghost use mathlib.Core.Bool.{not, _||_};
+ghost use mathlib.Core.List.{[]};
+ghost use Prim.Native.Nat.{_*_, _<_, _≤_};
+ghost use lib.Dec.{eqb};
+ghost use lib.ListN.{length, getD};
+ghost use Rattle.prelude.specs.Scan.{all, allPairs};
+ghost use Rattle.model.specs.Sizes.{InLimits};
+ghost use Rattle.model.specs.Directory.{inFrame};
+ghost use Rattle.model.specs.Soundness.{sound, framesDiffer, listedOnce, framePast, slotPast};
+ghost use Rattle.cache.specs.View.{sizesOf, directoryOf};
+ghost use Rattle.cache.specs.Soundness.{numbers, slotGood, FramesLaid, Ready, FirstMet};
+
+impl Directory {
+    // Whether the record of these sizes and this directory is sound.
+    pub fn sound(self, sizes: Sizes) -> bool
+        ensures { λ r. ⌜ r ≡ sound (sizesOf sizes) (directoryOf self) ⌝ }
+    {
+        if !sizes.ok() {
+            return false;
+        }
+        let slots = self.page_numbers();
+        let frames = self.block_numbers();
+        let valid = self.valid;
+        let recency = self.recency;
+        let mut seen = [0u64; 64];
+        frames_ok(sizes, &frames, &valid, &mut seen)
+            & frames_apart(sizes, &frames)
+            & order_ok(sizes, &recency)
+            & frames_past(sizes, &frames, &valid, &recency)
+            & slots_ok(sizes, &slots, &frames, &valid, &mut seen)
+            & slots_past(sizes, &slots)
+    }
+
+    // The slots' entries as plain numbers.
+    fn page_numbers(self) -> [u32; 128]
+        ensures { λ r. ⌜ r ≡ directoryOf self .slots ⌝ }
+    {
+        let mut r = [0u32; 128];
+        let mut i = 0;
+        while i < 128 {
+            let x = self.slots[i];
+            r[i] = x.0;
+            i += 1;
+        }
+        r
+    }
+
+    // The frames' entries as plain numbers.
+    fn block_numbers(self) -> [u32; 8]
+        ensures { λ r. ⌜ r ≡ directoryOf self .frames ⌝ }
+    {
+        let mut r = [0u32; 8];
+        let mut f = 0;
+        while f < 8 {
+            let x = self.frames[f];
+            r[f] = x.0;
+            f += 1;
+        }
+        r
+    }
+}
+
+// Each frame below B is vacant with no valid page, or holds a block and valid pages of it. The valid pages go into the
+// filter, those of a vacant frame, which are none, with them.
+fn frames_ok(sizes: Sizes, frames: &[u32; 8], valid: &[u64; 8], seen: &mut [u64; 64]) -> bool
+    requires { ⌜ InLimits (sizesOf sizes) × (length (now seen) ≡ 64) ⌝ }
+    ensures { λ r. ⌜ FramesLaid (sizesOf sizes) (numbers [] (now (frames .entry)) (now (valid .entry)) []) (now (seen .exit)) r ⌝ }
+{
+    let k = sizes.pages_per_block;
+    let b = sizes.frames as usize;
+    let mut ok = true;
+    let mut f = 0;
+    while f < b {
+        let x = frames[f];
+        let v = valid[f];
+        let held = (x < sizes.blocks) & (0 < v) & bitmap::within(v, k);
+        ok = ok & (((x == VACANT) & (v == 0)) | held);
+        filter::lay(seen, x % 4096 * k, v);
+        f += 1;
+    }
+    ok
+}
+
+// No block stands in two frames.
+fn frames_apart(sizes: Sizes, frames: &[u32; 8]) -> bool
+    requires { ⌜ InLimits (sizesOf sizes) ⌝ }
+    ensures { λ r. ⌜ r ≡ allPairs (sizesOf sizes .B) (framesDiffer (sizesOf sizes) (numbers [] (now (frames .entry)) [] [])) ⌝ }
+{
+    let b = sizes.frames as usize;
+    let mut ok = true;
+    let mut f = 0;
+    while f < b {
+        ok = ok & ((frames[f] == VACANT) | new_at(frames, f));
+        f += 1;
+    }
+    ok
+}
+
+// Entry j is not among those before it.
+fn new_at(entries: &[u32], j: usize) -> bool
+    requires { ⌜ j < length (now entries) ⌝ }
+    ensures { λ r. ⌜ r ≡ all j (λ i. not (eqb (getD (now (entries .entry)) i 0) (getD (now (entries .entry)) j 0))) ⌝ }
+{
+    let y = entries[j];
+    let mut ok = true;
+    let mut i = 0;
+    while i < j {
+        ok = ok & (entries[i] != y);
+        i += 1;
+    }
+    ok
+}
+
+// The order lists each frame below B once: among B entries below B, each of them.
+fn order_ok(sizes: Sizes, recency: &[u8; 8]) -> bool
+    requires { ⌜ InLimits (sizesOf sizes) ⌝ }
+    ensures { λ r. ⌜ r ≡ all (sizesOf sizes .B) (listedOnce (sizesOf sizes) (numbers [] [] [] (now (recency .entry)))) ⌝ }
+{
+    let b = sizes.frames as usize;
+    let mut listed = 0u64;
+    let mut i = 0;
+    while i < b {
+        let f = recency[i];
+        if (sizes.frames as u8) <= f {
+            return false;
+        }
+        listed = bitmap::with(listed, f as u32);
+        i += 1;
+    }
+    listed == bitmap::first(sizes.frames)
+}
+
+// Each frame past B is vacant, its bits are 0 and its order entry is its own index.
+fn frames_past(sizes: Sizes, frames: &[u32; 8], valid: &[u64; 8], recency: &[u8; 8]) -> bool
+    requires { ⌜ InLimits (sizesOf sizes) ⌝ }
+    ensures { λ r. ⌜ r ≡ all 8 (framePast (sizesOf sizes) (numbers [] (now (frames .entry)) (now (valid .entry)) (now (recency .entry)))) ⌝ }
+{
+    let mut ok = true;
+    let mut f = sizes.frames as usize;
+    while f < 8 {
+        ok = ok & ((frames[f] == VACANT) & (valid[f] == 0) & (recency[f] == (f as u8)));
+        f += 1;
+    }
+    ok
+}
+
+// Each slot below P is vacant, or holds a page number that stands in no slot before it and is valid in no frame. The
+// filter has the frames' valid pages: what it has not met is new.
+fn slots_ok(
+    sizes: Sizes,
+    slots: &[u32; 128],
+    frames: &[u32; 8],
+    valid: &[u64; 8],
+    seen: &mut [u64; 64],
+) -> bool
+    requires { ⌜ Ready (sizesOf sizes) (numbers [] (now frames) (now valid) []) (now seen) ⌝ }
+    ensures { λ r. ⌜ r ≡ all (sizesOf sizes .P) (slotGood (sizesOf sizes) (numbers (now (slots .entry)) (now (frames .entry)) (now (valid .entry)) [])) ⌝ }
+{
+    let p = sizes.slots as usize;
+    let mut j = 0;
+    loop {
+        j = first_met(sizes, slots, seen, j);
+        if p <= j {
+            return true;
+        }
+        if !slot_ok(sizes, slots, frames, valid, j) {
+            return false;
+        }
+        j += 1;
+    }
+}
+
+// The first slot from i on, below P, whose number is out of range or may be in the filter; P where there is none. The
+// numbers passed go into the filter.
+fn first_met(sizes: Sizes, slots: &[u32; 128], seen: &mut [u64; 64], i: usize) -> usize
+    requires { ⌜ InLimits (sizesOf sizes) × (i ≤ sizesOf sizes .P) × (length (now seen) ≡ 64) ⌝ }
+    ensures { λ r. ⌜ FirstMet (sizesOf sizes .N * sizesOf sizes .K) (sizesOf sizes .P) (now (slots .entry)) i (now (seen .entry)) (now (seen .exit)) r ⌝ }
+{
+    let p = sizes.slots as usize;
+    let end = sizes.blocks * sizes.pages_per_block;
+    let mut j = i;
+    while j < p {
+        let y = slots[j];
+        if y < end {
+            let w = (y % 4096 / 64) as usize;
+            let v = seen[w];
+            if bitmap::has(v, y % 64) {
+                return j;
+            }
+            seen[w] = bitmap::with(v, y % 64);
+        } else {
+            if y != VACANT {
+                return j;
+            }
+        }
+        j += 1;
+    }
+    j
+}
+
+// Slot j by itself, compared with each slot before it and each frame.
+fn slot_ok(sizes: Sizes, slots: &[u32; 128], frames: &[u32; 8], valid: &[u64; 8], j: usize) -> bool
+    requires { ⌜ InLimits (sizesOf sizes) × (j < 128) ⌝ }
+    ensures { λ r. ⌜ r ≡ slotGood (sizesOf sizes) (numbers (now (slots .entry)) (now (frames .entry)) (now (valid .entry)) []) j ⌝ }
+{
+    let y = slots[j];
+    let end = sizes.blocks * sizes.pages_per_block;
+    (y == VACANT) | ((y < end) & new_at(slots, j) & outside(sizes, frames, valid, PageNo(y)))
+}
+
+// Page n is valid in no frame below B.
+fn outside(sizes: Sizes, frames: &[u32; 8], valid: &[u64; 8], n: PageNo) -> bool
+    requires { ⌜ InLimits (sizesOf sizes) ⌝ }
+    ensures { λ r. ⌜ r ≡ all (sizesOf sizes .B) (λ f. not (inFrame (sizesOf sizes) (numbers [] (now (frames .entry)) (now (valid .entry)) []) (n .0) f)) ⌝ }
+{
+    let k = sizes.pages_per_block;
+    let b = sizes.frames as usize;
+    let block = address::block_of(n, k);
+    let offset = address::offset_of(n, k);
+    let mut ok = true;
+    let mut f = 0;
+    while f < b {
+        ok = ok & !((frames[f] == block.0) & bitmap::has(valid[f], offset));
+        f += 1;
+    }
+    ok
+}
+
+// Each slot past P is vacant.
+fn slots_past(sizes: Sizes, slots: &[u32; 128]) -> bool
+    requires { ⌜ InLimits (sizesOf sizes) ⌝ }
+    ensures { λ r. ⌜ r ≡ all 128 (slotPast (sizesOf sizes) (numbers (now (slots .entry)) [] [] [])) ⌝ }
+{
+    let mut ok = true;
+    let mut j = sizes.slots as usize;
+    while j < 128 {
+        ok = ok & (slots[j] == VACANT);
+        j += 1;
+    }
+    ok
+}

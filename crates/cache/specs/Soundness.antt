@@ -24,17 +24,16 @@ slotGood sz d j = slotOk sz d j && (all j (λ i. slotsDiffer sz d i j) && all (s
 abbrev pub Laid : Sizes → Directory → ℕ → List ℕ → Type 0
 Laid sz d b seen = (f o : ℕ) → f < b → o < 64 → frameAt d f < 4096 → bit (validAt d f) o ≡ true → inFilter seen (frameAt d f * sz .K + o) ≡ true
 
--- the frames are tested, and their valid pages are in the filter
-pub record FramesLaid (sz : Sizes) (d : Directory) (seen : List ℕ) (r : Bool) : Type 0 where
-  pub answer : r ≡ all (sz .B) (frameOk sz d)
-  pub long : length seen ≡ 64
-  pub laid : Laid sz d (sz .B) seen
-
 -- the slots may be tested: the filter has the frames' valid pages
 pub record Ready (sz : Sizes) (d : Directory) (seen : List ℕ) : Type 0 where
   pub limits : InLimits sz
   pub long : length seen ≡ 64
   pub laid : Laid sz d (sz .B) seen
+
+-- the frames are tested, with r as the answer, and the slots may be
+pub record FramesTested (sz : Sizes) (d : Directory) (seen : List ℕ) (r : Bool) : Type 0 where
+  pub answer : r ≡ all (sz .B) (frameOk sz d)
+  pub ready : Ready sz d seen
 
 -- slot e is vacant, or holds a page number below end that neither the filter has nor a slot from i on
 abbrev pub Unmet : ℕ → List ℕ → ℕ → List ℕ → ℕ → Type 0

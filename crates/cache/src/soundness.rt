@@ -16,7 +16,7 @@ ghost use Rattle.model.specs.Sizes.{InLimits};
 ghost use Rattle.model.specs.Directory.{inFrame};
 ghost use Rattle.model.specs.Soundness.{sound, framesDiffer, listedOnce, framePast, slotPast};
 ghost use Rattle.cache.specs.View.{sizesOf, directoryOf};
-ghost use Rattle.cache.specs.Soundness.{numbers, slotGood, FramesLaid, Ready, FirstMet};
+ghost use Rattle.cache.specs.Soundness.{numbers, slotGood, FramesTested, Ready, FirstMet};
 
 impl Directory {
     // Whether the record of these sizes and this directory is sound.
@@ -69,10 +69,10 @@ impl Directory {
 }
 
 // Each frame below B is vacant with no valid page, or holds a block and valid pages of it. The valid pages go into the
-// filter, those of a vacant frame, which are none, with them.
+// filter; a vacant frame has none, and needs no branch.
 fn frames_ok(sizes: Sizes, frames: &[u32; 8], valid: &[u64; 8], seen: &mut [u64; 64]) -> bool
     requires { ⌜ InLimits (sizesOf sizes) × (length (now seen) ≡ 64) ⌝ }
-    ensures { λ r. ⌜ FramesLaid (sizesOf sizes) (numbers [] (now (frames .entry)) (now (valid .entry)) []) (now (seen .exit)) r ⌝ }
+    ensures { λ r. ⌜ FramesTested (sizesOf sizes) (numbers [] (now (frames .entry)) (now (valid .entry)) []) (now (seen .exit)) r ⌝ }
 {
     let k = sizes.pages_per_block;
     let b = sizes.frames as usize;
@@ -196,10 +196,8 @@ fn first_met(sizes: Sizes, slots: &[u32; 128], seen: &mut [u64; 64], i: usize) -
                 return j;
             }
             seen[w] = bitmap::with(v, y % 64);
-        } else {
-            if y != VACANT {
-                return j;
-            }
+        } else if y != VACANT {
+            return j;
         }
         j += 1;
     }

@@ -38,35 +38,42 @@ frames-ok-requires : tie.Need-frames-ok-requires
 frames-ok-requires c κs = (limits (c .before .before .before .before .before .before .before), refl)
 
 frames-apart-requires : tie.Need-frames-apart-requires
-frames-apart-requires c κs = limits (c .before .before .before .before .before .before .before .before .before)
+frames-apart-requires c κs = search needs
 
 order-ok-requires : tie.Need-order-ok-requires
-order-ok-requires c κs = limits (c .before .before .before .before .before .before .before .before .before .before .before)
+order-ok-requires c κs = search needs
 
 frames-past-requires : tie.Need-frames-past-requires
-frames-past-requires c κs = limits (c .before .before .before .before .before .before .before .before .before .before .before .before .before .before .before)
+frames-past-requires c κs = search needs
 
 slots-ok-requires : tie.Need-slots-ok-requires
-slots-ok-requires c κs = let laid = c .before .before .before .before .before .before .before .before .before .before .before .before .frames-ok .ensures in record { limits = limits (c .before .before .before .before .before .before .before .before .before .before .before .before .before .before .before .before .before .before .before .before); long = laid .long; laid = laid .laid }
+slots-ok-requires c κs = search needs
 
 slots-past-requires : tie.Need-slots-past-requires
-slots-past-requires c κs = limits (c .before .before .before .before .before .before .before .before .before .before .before .before .before .before .before .before .before .before .before .before .before .before)
+slots-past-requires c κs = search needs
 
 returns-2 : tie.Need-returns-2
 unfolding directoryOf frameOk framesDiffer listedOnce framePast slotGood slotOk slotsDiffer cachedOnce inFrame slotPast
 returns-2 c =
-    let self = c .before .before .before .before .before .before .before .before .before .before .before .before .before .before .before .before .before .before .before .before .before .before .before .before .before .args .self in
-    let ok = c .before .before .before .before .before .before .before .before .before .before .before .before .before .before .before .before .before .before .before .before .before .before .before in
+    let slots = c .before .before in
+    let past = slots .before .before .before .before .before in
+    let order = past .before .before .before .before in
+    let apart = order .before .before in
+    let frames = apart .before .before in
+    let blocks = frames .before .before .before .before .before .before in
+    let ok = blocks .before .before in
+    let start = ok .before .before in
+    let d = directoryOf (start .args .self) in
     rw (
-      c .before .before .before .before .before .before .before .before .before .before .before .before .before .before .before .frames-ok .ensures .answer,
-      c .before .before .before .before .before .before .before .before .before .before .before .before .before .frames-apart .ensures,
-      c .before .before .before .before .before .before .before .before .before .before .before .order-ok .ensures,
-      c .before .before .before .before .before .before .before .frames-past .ensures,
-      c .before .before .slots-ok .ensures,
+      frames .frames-ok .ensures .answer,
+      apart .frames-apart .ensures,
+      order .order-ok .ensures,
+      past .frames-past .ensures,
+      slots .slots-ok .ensures,
       c .slots-past .ensures,
-      c .before .before .before .before .before .before .before .before .before .before .before .before .before .before .before .before .before .before .before .before .before .before .page-numbers .ensures,
-      c .before .before .before .before .before .before .before .before .before .before .before .before .before .before .before .before .before .before .before .before .before .block-numbers .ensures,
-    ) (whole (sizesOf (c .before .before .before .before .before .before .before .before .before .before .before .before .before .before .before .before .before .before .before .before .before .before .before .before .before .args .sizes)) (directoryOf self) (passed ok) (shape-ok (directoryOf self) (shape-of self _ (c .before .before .before .before .before .before .before .before .before .before .before .before .before .before .before .before .before .before .before .before .before .before .before .before .before .good .0 .1 .1))))
+      blocks .block-numbers .ensures,
+      blocks .before .page-numbers .ensures,
+    ) (whole (sizesOf (start .args .sizes)) d (passed ok) (shape-ok d (shape-of (start .args .self) _ (start .good .0 .1 .1))))
 
 pub sound-spec : {M : Type 1} → statement M
 sound-spec =

@@ -74,8 +74,7 @@ loop-again c =
 returns : tie.Need-returns Inv-loop μ-loop
 returns c = let at = c .before .loop in record {
   answer = all-end _ (at .f) _ (at .inv .2) (omega arith);
-  long = at .inv .1;
-  laid = λ f o l. at .inv .3 f o (omega arith);
+  ready = record { limits = c .before .before .before .pre .0; long = at .inv .1; laid = λ f o l. at .inv .3 f o (omega arith) };
 }
 
 pub frames-ok-spec : {M : Type 1} → statement M

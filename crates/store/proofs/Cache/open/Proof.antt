@@ -1,0 +1,72 @@
+use borrow.Author.Needs.{needs}
+use native.Mathlib.Omega.{arith}
+use mathlib.Core.Path.{_≡_, sym, _∙_}
+use mathlib.Core.Bool.{true, false}
+use borrow.Author.Tests.{not-true, not-false}
+use Rattle.model.specs.Sizes.{sizesOk}
+use Rattle.model.specs.Calls.{lentOk, openDone}
+use Rattle.model.proofs.Soundness.{limits-of}
+use Rattle.cache.specs.View.{sizesOf}
+use Rattle.store.specs.View.{buffers}
+use Rattle.store.proofs.ByTests.{lengths-lent, open-size, open-buffer, open-overworn, open-done}
+use Rattle.store.proofs.Cache.open.Statement.{statement}
+use Rattle.store.proofs.Cache.open.Tie as tie
+use Rattle.store.proofs.Cache.open.Reads as reads
+use Rattle.store.proofs.Cache.open.Lts as lts
+use Rattle.cache.proofs.Directory.vacant.Reads as vacant-reads
+use Rattle.cache.proofs.Sizes.ok.Reads as ok-reads
+use Rattle.store.proofs.lent.lengths_ok.Reads as lengths-ok-reads
+use Rattle.store.proofs.lent.wear_ok.Reads as wear-ok-reads
+use Rattle.store.proofs.open.refused.Reads as refused-reads
+
+ok-requires : tie.Need-ok-requires
+ok-requires c κs = search needs
+
+refused-requires : tie.Need-refused-requires
+refused-requires c κs = search needs
+
+returns : tie.Need-returns
+returns c = c .refused .ensures ∙ sym (open-size _ _ (sym (c .before .before .ok .ensures) ∙ not-true _ (c .before .if1 .taken)))
+
+lengths-ok-requires : tie.Need-lengths-ok-requires
+lengths-ok-requires c κs = limits-of _ (sym (c .before .ok .ensures) ∙ not-false _ (c .if1 .left))
+
+refused-requires-2 : tie.Need-refused-requires-2
+refused-requires-2 c κs = search needs
+
+returns-2 : tie.Need-returns-2
+returns-2 c = c .refused2 .ensures ∙ sym (open-buffer _ _ (sym (c .before .before .before .before .ok .ensures) ∙ not-false _ (c .before .before .before .if1 .left)) (sym (lengths-lent _ _ _ _ _) ∙ sym (c .before .before .lengths-ok .ensures) ∙ not-true _ (c .before .if2 .taken)))
+
+wear-ok-requires : tie.Need-wear-ok-requires
+wear-ok-requires c κs = search needs
+
+refused-requires-3 : tie.Need-refused-requires-3
+refused-requires-3 c κs = search needs
+
+returns-3 : tie.Need-returns-3
+returns-3 c = c .refused3 .ensures ∙ sym (open-overworn _ _ (sym (c .before .before .before .before .before .before .ok .ensures) ∙ not-false _ (c .before .before .before .before .before .if1 .left)) (sym (lengths-lent _ _ _ _ _) ∙ sym (c .before .before .before .before .lengths-ok .ensures) ∙ not-false _ (c .before .before .before .if2 .left))
+    (sym (c .before .before .wear-ok .ensures) ∙ not-true _ (c .before .if3 .taken)))
+
+vacant-requires : tie.Need-vacant-requires
+vacant-requires c κs = search needs
+
+returns-4 : tie.Need-returns-4
+returns-4 c = (λ i. record { answer = openDone; cache = record { sizes = sizesOf (c .before .before .before .before .before .before .before .before .before .before .before .args .sizes); directory = c .vacant .ensures i } })
+    ∙ sym (open-done _ _ (sym (c .before .before .before .before .before .before .ok .ensures) ∙ not-false _ (c .before .before .before .before .before .if1 .left)) (sym (lengths-lent _ _ _ _ _) ∙ sym (c .before .before .before .before .lengths-ok .ensures) ∙ not-false _ (c .before .before .before .if2 .left))
+    (sym (c .before .before .wear-ok .ensures) ∙ not-false _ (c .before .if3 .left)))
+
+pub open-spec : {M : Type 1} → statement M
+open-spec =
+    tie.close
+    (tie.spec
+    ok-requires
+    refused-requires
+    returns
+    lengths-ok-requires
+    refused-requires-2
+    returns-2
+    wear-ok-requires
+    refused-requires-3
+    returns-3
+    vacant-requires
+    returns-4)

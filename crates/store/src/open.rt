@@ -1,0 +1,56 @@
+use crate::Cache;
+use crate::Opened;
+use crate::Opening;
+use crate::Refusal;
+use crate::lent;
+use cache::Directory;
+use cache::Sizes;
+ghost use mathlib.Core.Path.{_≡_};
+ghost use Rattle.model.specs.Directory.{blankCache};
+ghost use Rattle.model.specs.Calls.{openStore};
+ghost use Rattle.cache.specs.View.{sizesOf};
+ghost use Rattle.store.specs.View.{cacheOf, refusal, buffers, openedOf};
+
+impl Cache {
+    // The record before any opening: every call on it is refused.
+    pub fn blank() -> Cache
+        ensures { λ r. ⌜ cacheOf r ≡ blankCache ⌝ }
+    {
+        Cache {
+            sizes: Sizes::blank(),
+            directory: Directory::vacant(),
+        }
+    }
+
+    // Opens a store of these sizes on the buffers lent: checks the sizes, the buffers' lengths and the wear.
+    pub fn open(sizes: Sizes, flash: &[u8], wear: &[u32], pspace: &[u8], bspace: &[u8]) -> Opened
+        ensures { λ r. ⌜ openedOf r ≡ openStore (sizesOf sizes) (buffers (now (flash .entry)) (now (wear .entry)) (now (pspace .entry)) (now (bspace .entry))) ⌝ }
+    {
+        if !sizes.ok() {
+            return refused(Refusal::Size);
+        }
+        if !lent::lengths_ok(sizes, flash.len(), wear.len(), pspace.len(), bspace.len()) {
+            return refused(Refusal::Buffer);
+        }
+        if !lent::wear_ok(wear, sizes.wear_limit) {
+            return refused(Refusal::Overworn);
+        }
+        Opened {
+            cache: Cache {
+                sizes: sizes,
+                directory: Directory::vacant(),
+            },
+            answer: Opening::Done,
+        }
+    }
+}
+
+// A refused opening, with the blank record.
+fn refused(why: Refusal) -> Opened
+    ensures { λ r. ⌜ openedOf r ≡ record { answer = refusal why; cache = blankCache } ⌝ }
+{
+    Opened {
+        cache: Cache::blank(),
+        answer: Opening::Refused(why),
+    }
+}

@@ -4,34 +4,15 @@ use mathlib.Core.List.{List}
 use Prim.Native.Nat.{ℕ, _*_}
 use lib.Dec.{eqb}
 use Rattle.model.specs.Sizes as sizes
-use Rattle.model.specs.Sizes.{vacant}
 use Rattle.model.specs.Directory as directory
-use Rattle.model.specs.Calls.{Answer, openDone, refused}
+use Rattle.answer.specs.Numbers.{openingOf}
 use Rattle.model.specs.Calls as calls
 use Rattle.cache.specs.View.{sizesOf, directoryOf}
 use Rattle.store.specs.declared.Cache.{Cache}
-use Rattle.store.specs.declared.Refusal.{Refusal}
-use Rattle.store.specs.declared.Refusal.the-variants.{Size, Buffer, Overworn, Record, Page, Worn}
-use Rattle.store.specs.declared.Opening.{Opening}
-use Rattle.store.specs.declared.Opening.the-variants as opening
 use Rattle.store.specs.declared.Opened.{Opened}
 
 abbrev pub cacheOf : Cache → directory.Cache
 cacheOf c = record { sizes = sizesOf (c .sizes); directory = directoryOf (c .directory) }
-
--- ---- document 01's numbers for each answer
-
-abbrev pub refusal : Refusal → Answer
-refusal Size = refused 1 vacant
-refusal Buffer = refused 2 vacant
-refusal Overworn = refused 3 vacant
-refusal Record = refused 4 vacant
-refusal Page = refused 5 vacant
-refusal (Worn b) = refused 6 (b .0)
-
-abbrev pub openingOf : Opening → Answer
-openingOf opening.Done = openDone
-openingOf (opening.Refused why) = refusal why
 
 -- ---- buffers, and what a call hands back
 

@@ -1,15 +1,16 @@
 use crate::Cache;
 use crate::Opened;
-use crate::Opening;
-use crate::Refusal;
 use crate::lent;
+use answer::Opening;
+use answer::Refusal;
 use cache::Directory;
 use cache::Sizes;
 ghost use mathlib.Core.Path.{_≡_};
 ghost use Rattle.model.specs.Directory.{blankCache};
 ghost use Rattle.model.specs.Calls.{openStore};
+ghost use Rattle.answer.specs.Numbers.{refusalOf};
 ghost use Rattle.cache.specs.View.{sizesOf};
-ghost use Rattle.store.specs.View.{cacheOf, refusal, buffers, openedOf};
+ghost use Rattle.store.specs.View.{cacheOf, buffers, openedOf};
 
 impl Cache {
     // The record before any opening: every call on it is refused.
@@ -47,7 +48,7 @@ impl Cache {
 
 // A refused opening, with the blank record.
 fn refused(why: Refusal) -> Opened
-    ensures { λ r. ⌜ openedOf r ≡ record { answer = refusal why; cache = blankCache } ⌝ }
+    ensures { λ r. ⌜ openedOf r ≡ record { answer = refusalOf why; cache = blankCache } ⌝ }
 {
     Opened {
         cache: Cache::blank(),

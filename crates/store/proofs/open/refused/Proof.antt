@@ -1,6 +1,6 @@
 use borrow.Author.Needs.{needs}
 use native.Mathlib.Omega.{arith}
-use Rattle.store.specs.View.{refusal}
+use Rattle.answer.specs.Numbers.{refusalOf}
 use Rattle.store.proofs.open.refused.Statement.{statement}
 use Rattle.store.proofs.open.refused.Tie as tie
 use Rattle.store.proofs.open.refused.Reads as reads
@@ -11,7 +11,7 @@ blank-requires : tie.Need-blank-requires
 blank-requires c κs = search needs
 
 returns : tie.Need-returns
-returns c = λ i. record { answer = refusal (c .before .args .why); cache = c .blank .ensures i }
+returns c = λ i. record { answer = refusalOf (c .before .args .why); cache = c .blank .ensures i }
 
 pub refused-spec : {M : Type 1} → statement M
 refused-spec = tie.close (tie.spec blank-requires returns)

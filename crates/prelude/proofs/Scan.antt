@@ -1,14 +1,15 @@
 -- Laws of the scans over numbers below a bound.
 use mathlib.Core.Path.{_≡_, refl, sym, ap, _∙_}
+use mathlib.Core.Logic.{inl, inr}
 use mathlib.Core.Bool.{Bool, true, false, not, cond, _&&_, _||_}
 use Prim.Native.Nat.{ℕ, zero, suc, _+_, _-_, _≤_, _<_}
 use native.Mathlib.Nat.{not-suc-le-zero, add-zero, zero-add}
 use native.Mathlib.Numerals.{add-one}
 use native.Mathlib.Omega.{arith}
 use lib.Dec.{ltb, eqb}
-use borrow.Author.Tests.{ltb-true, ltb-false, eqb-true, eqb-false, lt-ltb, eq-eqb, ne-eqb}
+use borrow.Author.Tests.{ltb-true, ltb-false, eqb-true, eqb-false, lt-ltb, le-ltb, eq-eqb, ne-eqb}
 use Rattle.prelude.specs.Scan.{firstFrom, first, count, all, allPairs, nth, argmax, least}
-use Rattle.prelude.proofs.Tests.{by-test, clash, and-l, and-r, and-i, not-i, same-test}
+use Rattle.prelude.proofs.Tests.{by-test, clash, and-l, and-r, and-i, not-i, same-test, or-l, or-r, or-cases}
 
 -- ---- all
 
@@ -105,7 +106,38 @@ module _ (n : ℕ) (p : ℕ → Bool) where
   pub first-at : (j : ℕ) → j < n → p j ≡ true → first n p ≤ j
   first-at j l e = by-test (ltb j (first n p)) (λ q. clash e (first-miss j (ltb-true j (first n p) q))) (λ q. let z = ltb-false j (first n p) q in omega arith)
 
+-- none of the numbers below i passes, as a loop that looks for the first one knows
+abbrev pub Missed : (ℕ → Bool) → ℕ → Type 0
+Missed p i = (j : ℕ) → j < i → p j ≡ false
+
+-- it ends at a number that passes, or at the bound
+pub first-is : (n : ℕ) (p : ℕ → Bool) (i : ℕ) → i ≤ n → Missed p i → (i < n → p i ≡ true) → i ≡ first n p
+first-is n p i l h e = let a = first-le n p in by-test (ltb (first n p) i)
+    (λ t. let t2 = ltb-true (first n p) i t in clash (first-hit n p (omega arith)) (h (first n p) t2))
+    (λ t. let t2 = ltb-false (first n p) i t in by-test (ltb i n)
+    (λ u. let u2 = ltb-true i n u in let b = first-at n p i u2 (e u2) in omega arith)
+    (λ u. let u2 = ltb-false i n u in omega arith))
+
+-- the first that passes one of two tests
+pub first-or : (n : ℕ) (p q r : ℕ → Bool) → ((i : ℕ) → r i ≡ (p i || q i)) → cond (ltb (first n q) (first n p)) (first n q) (first n p) ≡ first n r
+first-or n p q r f = let a = first-le n p in let b = first-le n q in
+    let none : (j : ℕ) → j < first n p → j < first n q → r j ≡ false = (λ j x y. f j ∙ rw (first-miss n p j x, first-miss n q j y)) in
+    by-test (ltb (first n q) (first n p))
+    (λ t. let l = ltb-true (first n q) (first n p) t in rw t (first-is n r (first n q) b
+    (λ j y. none j (omega arith) y) (λ y. f (first n q) ∙ or-r (p (first n q)) (first-hit n q y))))
+    (λ t. let l = ltb-false (first n q) (first n p) t in rw t (first-is n r (first n p) a
+    (λ j x. none j x (omega arith)) (λ x. f (first n p) ∙ or-l (q (first n p)) (first-hit n p x))))
+
 -- ---- count
+
+-- a loop that counts: one more turn
+pub count-hit : (i : ℕ) (p : ℕ → Bool) → p i ≡ true → count i p + 1 ≡ count (i + 1) p
+unfolding count
+count-hit i p e = rw (add-one i, e) (omega arith)
+
+pub count-miss : (i : ℕ) (p : ℕ → Bool) → p i ≡ false → count i p ≡ count (i + 1) p
+unfolding count
+count-miss i p e = rw (add-one i, e) (omega arith)
 
 pub count-le : (n : ℕ) (p : ℕ → Bool) → count n p ≤ n
 unfolding count
@@ -253,7 +285,89 @@ argmax-ge (suc n) g i l = by-test (ltb (g (argmax n g)) (g n))
     at : {m : ℕ} → (i < n → g i ≤ m) → g n ≤ m → g i ≤ m
     at f h = by-test (eqb i n) (λ q. rw (eqb-true i n q) h) (λ q. f (let z = eqb-false i n q in omega arith))
 
+-- r is the least index below n of the greatest value
+pub record Leads (n : ℕ) (g : ℕ → ℕ) (r : ℕ) : Type 0 where
+  pub low : r < n
+  pub le : (j : ℕ) → j < n → g j ≤ g r
+  pub lt : (j : ℕ) → j < r → g j < g r
+
+argmax-first : (n : ℕ) (g : ℕ → ℕ) (i : ℕ) → i < argmax n g → g i < g (argmax n g)
+unfolding argmax
+argmax-first zero g i = λ l. absurd (omega arith)
+argmax-first (suc n) g i = by-test (ltb (g (argmax n g)) (g n))
+    (λ e. rw e (λ l. let m = argmax-ge n g i l in let k = ltb-true (g (argmax n g)) (g n) e in omega arith))
+    (λ e. rw e (λ l. argmax-first n g i l))
+
+pub leads-is : (n : ℕ) (g : ℕ → ℕ) (r : ℕ) → Leads n g r → r ≡ argmax n g
+leads-is n g r h = let l = h .low in let al = argmax-lt n g (omega arith) in
+    let a = h .le (argmax n g) al in let b = argmax-ge n g r l in by-test (ltb r (argmax n g))
+    (λ t. absurd (let k = argmax-first n g r (ltb-true r (argmax n g) t) in omega arith))
+    (λ t. let t2 = ltb-false r (argmax n g) t in by-test (ltb (argmax n g) r)
+    (λ u. absurd (let k = h .lt (argmax n g) (ltb-true (argmax n g) r u) in omega arith))
+    (λ u. let u2 = ltb-false (argmax n g) r u in omega arith))
+
+-- a loop that keeps the leader: all values are 0, none changes, or the value at b grows
+pub leads-none : (n : ℕ) (g : ℕ → ℕ) → 0 < n → ((j : ℕ) → j < n → g j ≡ 0) → Leads n g 0
+leads-none n g l z = let z0 = z 0 l in record { low = l; le = λ j k. (let y = z j k in omega arith); lt = λ j k. absurd (omega arith) }
+
+module _ (n : ℕ) (g h : ℕ → ℕ) (r : ℕ) (k : Leads n g r) where
+  pub leads-same : ((j : ℕ) → j < n → h j ≡ g j) → Leads n h r
+  leads-same e = let rl = k .low in let er = e r rl in record {
+    low = rl;
+    le = λ j l. (let a = k .le j l in let b = e j l in omega arith);
+    lt = λ j l. (let a = k .lt j l in let b = e j (omega arith) in omega arith);
+  }
+
+  module _ (b : ℕ) (others : (j : ℕ) → j < n → (j ≡ b → ⊥) → h j ≡ g j) where
+    -- it takes the lead
+    pub leads-taken : b < n → (ltb (g r) (h b) || (eqb (g r) (h b) && ltb b r)) ≡ true → Leads n h b
+    leads-taken bl t = record {
+      low = bl;
+      le = λ j l. by-test (eqb j b) (λ q. rw (eqb-true j b q) (omega arith)) (λ q. let a = k .le j l in let e = others j l (eqb-false j b q) in let f = ahead in omega arith);
+      lt = λ j l. let jl : j < n = omega arith in let a = k .le j jl in let e = others j jl (λ q. omega arith) in elim (or-cases (ltb (g r) (h b)) (eqb (g r) (h b) && ltb b r) t) [
+        | inl x ↦ let y = ltb-true (g r) (h b) x in omega arith
+        | inr x ↦ let y = eqb-true (g r) (h b) (and-l (eqb (g r) (h b)) (ltb b r) x) in
+            let w = ltb-true b r (and-r (eqb (g r) (h b)) (ltb b r) x) in let v = k .lt j (omega arith) in omega arith
+      ];
+    }
+      where
+        ahead : g r ≤ h b
+        ahead = elim (or-cases (ltb (g r) (h b)) (eqb (g r) (h b) && ltb b r) t) [
+          | inl x ↦ let y = ltb-true (g r) (h b) x in omega arith
+          | inr x ↦ let y = eqb-true (g r) (h b) (and-l (eqb (g r) (h b)) (ltb b r) x) in omega arith
+        ]
+
+    -- r keeps it
+    pub leads-kept : g b < h b → (ltb (g r) (h b) || (eqb (g r) (h b) && ltb b r)) ≡ false → Leads n h r
+    leads-kept m t = by-test (ltb (g r) (h b))
+        (λ x. clash (or-l (eqb (g r) (h b) && ltb b r) x) t)
+        (λ x. let y = ltb-false (g r) (h b) x in let rl = k .low in
+        let ne : r ≡ b → ⊥ = (λ q. let v : g r < h b = (rw q m) in omega arith) in let er = others r rl ne in record {
+          low = rl;
+          le = λ j l. by-test (eqb j b) (λ q. rw (eqb-true j b q) (omega arith)) (λ q. let a = k .le j l in let e = others j l (eqb-false j b q) in omega arith);
+          lt = λ j l. by-test (eqb j b)
+              (λ q. let e = eqb-true j b q in by-test (eqb (g r) (h b))
+              (λ u. clash (or-r (ltb (g r) (h b)) (and-i u (lt-ltb b r (omega arith)))) t)
+              (λ u. let v = eqb-false (g r) (h b) u in rw e (omega arith)))
+              (λ q. let a = k .lt j l in let e = others j (omega arith) (eqb-false j b q) in omega arith);
+        })
+
 -- ---- least
+
+-- a loop that keeps the least: one more turn
+pub least-hit : (i : ℕ) (g : ℕ → ℕ) (d : ℕ) → g i < least i g d → g i ≡ least (i + 1) g d
+unfolding least
+least-hit i g d h = rw (add-one i, lt-ltb (g i) (least i g d) h)
+
+pub least-miss : (i : ℕ) (g : ℕ → ℕ) (d : ℕ) → least i g d ≤ g i → least i g d ≡ least (i + 1) g d
+unfolding least
+least-miss i g d h = rw (add-one i, le-ltb (g i) (least i g d) h)
+
+pub least-top : (n : ℕ) (g : ℕ → ℕ) (d : ℕ) → least n g d ≤ d
+unfolding least
+least-top zero g d = omega arith
+least-top (suc n) g d = let h = least-top n g d in
+    by-test (ltb (g n) (least n g d)) (λ q. rw q (let w = ltb-true (g n) (least n g d) q in omega arith)) (λ q. rw q h)
 
 pub least-le : (n : ℕ) (g : ℕ → ℕ) (d i : ℕ) → i < n → least n g d ≤ g i
 unfolding least
@@ -269,6 +383,13 @@ least-is zero g d = λ l. absurd (omega arith)
 least-is (suc n) g d = by-test (ltb (g n) (least n g d))
     (λ q. rw q (λ l. (n, omega arith, refl)))
     (λ q. rw q (λ l. let h = least-is n g d l in let h1 = h .1 in (h .0, omega arith, h .2)))
+
+-- the first number below n that passes is the least of m values, where the values below n are the numbers that pass
+pub first-least : (n m : ℕ) (p : ℕ → Bool) (g : ℕ → ℕ) → ((i : ℕ) → i < m → g i < n → p (g i) ≡ true)
+    → ((b : ℕ) → b < n → p b ≡ true → (i : ℕ) × (i < m) × (g i ≡ b)) → least m g n ≡ first n p
+first-least n m p g f h = let top = least-top m g n in first-is n p (least m g n) top
+    (λ j l. by-test (p j) (λ t. absurd (let w = h j (omega arith) t in let a = least-le m g n (w .0) (w .1) in let e = w .2 in omega arith)) (λ t. t))
+    (λ l. let w = least-is m g n l in let e = w .2 in rw (← e) (f (w .0) (w .1) (omega arith)))
 
 -- ---- a list of n entries that has each number below n
 

@@ -10,7 +10,7 @@ use lib.Arith.{digits-div, digits-mod, digits-lt}
 use borrow.Author.Tests.{ltb-true, eqb-true, lt-ltb, eq-eqb}
 use Rattle.prelude.specs.Scan.{first}
 use Rattle.prelude.specs.Bits.{bit}
-use Rattle.prelude.proofs.Tests.{clash, and-l, and-r, and-i}
+use Rattle.prelude.proofs.Tests.{by-test, clash, and-l, and-r, and-i}
 use Rattle.prelude.proofs.Scan.{first-hit, first-at, count-some, count-past}
 use Rattle.prelude.proofs.Bits.{bit-zero}
 use Rattle.model.specs.Sizes.{Sizes, vacant, InLimits}
@@ -72,6 +72,9 @@ module _ (sz : Sizes) (d : Directory) where
   pub in-block : (b i : ℕ) → slotAt d i < vacant → slotAt d i / sz .K ≡ b → inBlock sz d b i ≡ true
   unfolding inBlock
   in-block b i l e = and-i (lt-ltb _ vacant l) (eq-eqb _ b e)
+
+  pub not-in-block : (b i : ℕ) → (slotAt d i < vacant → slotAt d i / sz .K ≡ b → ⊥) → inBlock sz d b i ≡ false
+  not-in-block b i h = by-test (inBlock sz d b i) (λ e. let k = block-of b i e in absurd (h (k .0) (k .1))) (λ e. e)
 
   pub frame-has : (n f : ℕ) → inFrame sz d n f ≡ true → (frameAt d f ≡ n / sz .K) × (bit (validAt d f) (n % sz .K) ≡ true)
   unfolding inFrame

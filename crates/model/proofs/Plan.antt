@@ -3,13 +3,16 @@ use mathlib.Core.Path.{_≡_, refl, sym, _∙_}
 use mathlib.Core.Logic.{inl, inr}
 use mathlib.Core.Bool.{true, false, _||_}
 use mathlib.Core.List.{List}
-use Prim.Native.Nat.{ℕ, suc, _+_, _-_, _*_, _/_, _%_, _≤_, _<_}
+use Prim.Native.Nat.{ℕ, suc, _+_, _-_, _*_, _/_, _%_, _^_, _≤_, _<_}
 use native.Mathlib.Omega.{arith}
 use lib.Dec.{ltb, eqb}
+use lib.Pow.{pow-pos}
 use borrow.Author.Tests.{ltb-true, ltb-false, eqb-true, eq-eqb}
+use Rattle.prelude.specs.Scan.{count}
 use Rattle.prelude.specs.Bits.{bit}
 use Rattle.prelude.proofs.Tests.{by-test, or-r}
 use Rattle.prelude.proofs.Scan.{first-hit, first-at, count-le, argmax-lt, argmax-ge, least-le, least-is}
+use Rattle.prelude.proofs.Bits.{count-within}
 use Rattle.model.specs.Sizes.{Sizes, vacant}
 use Rattle.model.specs.Directory.{Directory, slotAt, frameAt, validAt, recencyAt}
 use Rattle.model.specs.Soundness.{Sound}
@@ -30,6 +33,13 @@ module _ (sz : Sizes) (d : Directory) (s : Sound sz d) where
   -- with no vacant slot, every slot holds a page
   full : inSlots sz d vacant ≡ false → (i : ℕ) → i < sz .P → slotAt d i < sz .N * sz .K
   full h i l = elim (s .entries .slot-in i l) [ inl e ↦ absurd (not-in-slots sz d vacant h i l e) | inr e ↦ e ]
+
+  -- a slot holds a page of one of the blocks, or is vacant
+  pub slot-block : (i : ℕ) → i < sz .P → slotAt d i < vacant → slotAt d i / sz .K < sz .N
+  slot-block i l h = elim (s .entries .slot-in i l) [ inl e ↦ absurd (omega arith) | inr e ↦ block-lt sz (s .limits) (slotAt d i) e ]
+
+  pub slot-vacant : (i : ℕ) → i < sz .P → vacant ≤ slotAt d i → slotAt d i ≡ vacant
+  slot-vacant i l h = elim (s .entries .slot-in i l) [ inl e ↦ e | inr e ↦ absurd (let k = pages-small sz (s .limits) in omega arith) ]
 
   pub victim-lt : victim sz d < sz .N
   unfolding victim
@@ -62,6 +72,14 @@ module _ (sz : Sizes) (d : Directory) (s : Sound sz d) where
 
   pub vacant-bits : (f : ℕ) → f < sz .B → frameAt d f ≡ vacant → validAt d f ≡ 0
   vacant-bits f l e = elim (s .entries .frame-in f l) [ inl k ↦ k .1 | inr k ↦ absurd (let h = block-vacant sz (s .limits) (frameAt d f) (k .0) in omega arith) ]
+
+  -- a valid set has no bit at K or above, so all its ones count
+  pub valid-low : (f : ℕ) → f < sz .B → validAt d f < 2 ^ sz .K
+  valid-low f l = elim (s .entries .frame-in f l) [ inl e ↦ rw (e .1) (pow-pos (sz .K)) | inr e ↦ e .2 ]
+
+  pub valid-ones : (f : ℕ) → f < sz .B → count 64 (bit (validAt d f)) ≡ validCount sz d f
+  unfolding validCount
+  valid-ones f l = count-within (sz .K) 64 (validAt d f) (valid-low f l) (s .limits .K-high)
 
   module _ (pick : Choice) (picks : Picks pick) where
     -- way 6 takes a frame with the fewest valid pages

@@ -1,2 +1,4 @@
 // The decisions of the store, from the record's numbers alone: each is what document 01's rule says of a sound record.
+pub mod decision; // decision.rt: what is decided, as data
 pub mod lookup; // lookup.rt: where a page or a block is
+pub mod victim; // victim.rt: which block leaves the slots, and which frame makes room

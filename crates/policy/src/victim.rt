@@ -1,0 +1,85 @@
+// What leaves to make room: a block leaves the slots, a frame's pages leave the frame.
+use crate::decision::Victim;
+use address::BlockNo;
+use cache::Directory;
+use cache::Sizes;
+use cache::VACANT;
+ghost use mathlib.Core.Path.{_≡_};
+ghost use mathlib.Core.List.{List};
+ghost use Prim.Native.Nat.{ℕ};
+ghost use lib.Dec.{eqb};
+ghost use Rattle.model.specs.Soundness.{Sound};
+ghost use Rattle.model.specs.Policy.{validCount, leastRecent, fewestValid, evictable};
+ghost use Rattle.cache.specs.View.{sizesOf, directoryOf};
+ghost use Rattle.policy.specs.Views.{victimOf, SomeValid};
+
+// The block with the most pages in slots, the lowest among equals. The pages of each block are counted in a table.
+pub fn victim(z: Sizes, d: Directory) -> Victim
+    requires { ⌜ Sound (sizesOf z) (directoryOf d) ⌝ }
+    ensures { λ r. ⌜ r ≡ victimOf (sizesOf z) (directoryOf d) ⌝ }
+{
+    let end = z.slots as usize;
+    let mut counts = [0u8; 4096];
+    let mut best = BlockNo(0);
+    let mut most = 0u8;
+    let mut i = 0;
+    while i < end {
+        let x = d.slots[i];
+        if x.0 < VACANT {
+            let b = address::block_of(x, z.pages_per_block);
+            let at = b.0 as usize;
+            let pages = counts[at] + 1;
+            counts[at] = pages;
+            if (most < pages) | ((most == pages) & (b.0 < best.0)) {
+                best = b;
+                most = pages;
+            }
+        }
+        i += 1;
+    }
+    let pages = most as u32;
+    Victim { block: best, pages }
+}
+
+// The fewest valid pages that a frame has.
+pub fn fewest_valid(z: Sizes, d: Directory) -> u32
+    requires { ⌜ Sound (sizesOf z) (directoryOf d) ⌝ }
+    ensures { λ r. ⌜ r ≡ fewestValid (sizesOf z) (directoryOf d) ⌝ }
+{
+    let mut fewest = z.pages_per_block + 1;
+    let mut f = 0;
+    while f < z.frames as usize {
+        let v = d.valid[f];
+        let n = bitmap::count(v);
+        if n < fewest {
+            fewest = n;
+        }
+        f += 1;
+    }
+    fewest
+}
+
+// The least recent of the frames with v valid pages, of which there is one.
+pub fn least_recent_with(z: Sizes, d: Directory, v: u32) -> usize
+    requires { ⌜ SomeValid (sizesOf z) (directoryOf d) v ⌝ }
+    ensures { λ r. ⌜ r ≡ leastRecent (sizesOf z) (directoryOf d) (λ f. eqb (validCount (sizesOf z) (directoryOf d) f) v) ⌝ }
+{
+    let mut i = 0;
+    while i < z.frames as usize {
+        let f = d.recency[i] as usize;
+        let x = d.valid[f];
+        if bitmap::count(x) == v {
+            return f;
+        }
+        i += 1;
+    }
+    0
+}
+
+// The least recent frame, which way 7 takes.
+pub fn least_recent(z: Sizes, d: Directory) -> usize
+    requires { ⌜ Sound (sizesOf z) (directoryOf d) ⌝ }
+    ensures { λ r. ⌜ ((w : List ℕ) → r ≡ leastRecent (sizesOf z) (directoryOf d) (evictable (sizesOf z) (directoryOf d) w)) ⌝ }
+{
+    d.recency[0] as usize
+}

@@ -128,6 +128,42 @@ first-or n p q r f = let a = first-le n p in let b = first-le n q in
     (λ t. let l = ltb-false (first n q) (first n p) t in rw t (first-is n r (first n p) a
     (λ j x. none j x (omega arith)) (λ x. f (first n p) ∙ or-l (q (first n p)) (first-hit n p x))))
 
+-- whether one of the numbers up to i passes
+pub first-upto : (n : ℕ) (p : ℕ → Bool) (i : ℕ) → i < n → ltb (first n p) (i + 1) ≡ (ltb (first n p) i || p i)
+first-upto n p i l = by-test (ltb (first n p) i)
+    (λ t. let h = ltb-true (first n p) i t in rw t (lt-ltb (first n p) (i + 1) (omega arith)))
+    (λ t. let h = ltb-false (first n p) i t in rw t (by-test (p i)
+    (λ u. let k = first-at n p i l u in rw u (lt-ltb (first n p) (i + 1) (omega arith)))
+    (λ u. rw u (le-ltb (first n p) (i + 1) (by-test (eqb (first n p) i)
+    (λ v. let e = eqb-true (first n p) i v in let k = first-hit n p (omega arith) in clash (rw e at k) u)
+    (λ v. let ne = eqb-false (first n p) i v in omega arith))))))
+
+-- ---- a search under way, which goes on from o
+
+module _ (n : ℕ) (p : ℕ → Bool) where
+  pub from-hit : (o : ℕ) → o < n → p o ≡ true → firstFrom o (n - o) p ≡ o
+  unfolding firstFrom
+  from-hit o l e = ap (λ (k : ℕ). firstFrom o k p) (let h : n - o ≡ suc (n - suc o) = omega arith in h) ∙ rw (e, firstFrom)
+
+  pub from-miss : (o : ℕ) → o < n → p o ≡ false → firstFrom o (n - o) p ≡ firstFrom (o + 1) (n - (o + 1)) p
+  unfolding firstFrom
+  from-miss o l e = ap (λ (k : ℕ). firstFrom o k p) (let h : n - o ≡ suc (n - suc o) = omega arith in h) ∙ rw (e, firstFrom, add-one o)
+
+  pub from-end : (o : ℕ) → n ≤ o → firstFrom o (n - o) p ≡ o
+  unfolding firstFrom
+  from-end o l = ap (λ (k : ℕ). firstFrom o k p) (let h : n - o ≡ 0 = omega arith in h)
+
+  pub from-le : (o : ℕ) → o ≤ n → firstFrom o (n - o) p ≤ n
+  from-le o l = let h = firstFrom-is o (n - o) p in let a = h .high in omega arith
+
+-- two tests alike from i on
+pub from-same : (i n : ℕ) (p q : ℕ → Bool) → ((j : ℕ) → i ≤ j → j < i + n → p j ≡ q j) → firstFrom i n p ≡ firstFrom i n q
+unfolding firstFrom
+from-same i zero p q f = refl
+from-same i (suc n) p q f = let e : p i ≡ q i = f i (omega arith) (omega arith) in by-test (q i)
+    (λ t. rw (e ∙ t, t, firstFrom))
+    (λ t. rw (e ∙ t, t, firstFrom) (from-same (suc i) n p q (λ j a b. f j (omega arith) (omega arith))))
+
 -- ---- count
 
 -- a loop that counts: one more turn
@@ -266,6 +302,34 @@ nth-some (suc n) p r l = by-test (ltb r (count n p))
     let at = first-at (suc n) (λ j. p j && eqb (count j p) r) n (omega arith) (and-i e (eq-eqb (count n p) r (omega arith))) in omega arith)
     (λ e. absurd (let g = ltb-false r (count n p) q in let l3 : r < 0 + count n p = (rw e at l) in omega arith)))
 
+-- a search that goes on past each number found: the r-th passing number is the first from at on
+module _ (n : ℕ) (p : ℕ → Bool) where
+  nth-le : (r : ℕ) → nth n p r ≤ n
+  unfolding nth
+  nth-le r = first-le n (λ i. p i && eqb (count i p) r)
+
+  -- a number found that has r passing ones below it, or none found
+  nth-found : (r m : ℕ) → count m p ≡ r → m ≤ n → (m < n → p m ≡ true) → nth n p r ≡ m
+  nth-found r m c l h = by-test (ltb m n)
+      (λ t. let ml = ltb-true m n t in ap (nth n p) (sym c) ∙ nth-rank n p m ml (h ml))
+      (λ t. let g = ltb-false m n t in let e : m ≡ n = omega arith in let cn : count n p ≡ r = (rw e at c) in
+      let a = nth-none n p r (omega arith) in let b = nth-le r in omega arith)
+
+  pub nth-zero : nth n p 0 ≡ firstFrom 0 (n - 0) p
+  nth-zero = let m = firstFrom 0 (n - 0) p in let w = firstFrom-is 0 (n - 0) p in let hi = w .high in
+      nth-found 0 m (count-none m p (λ j l. w .miss j (omega arith) l)) (omega arith) (λ l. w .hit (omega arith))
+
+  pub nth-suc : (r at m : ℕ) → at ≤ n → nth n p r ≡ firstFrom at (n - at) p → m ≡ firstFrom at (n - at) p
+      → nth n p (suc r) ≡ firstFrom (cond (ltb m n) (m + 1) m) (n - cond (ltb m n) (m + 1) m) p
+  nth-suc r at m l e d = by-test (ltb m n)
+      (λ t. rw t (let ml = ltb-true m n t in let h = nth-is n p r (omega arith) in let f : nth n p r ≡ m = e ∙ sym d in
+      let k = firstFrom (m + 1) (n - (m + 1)) p in let w = firstFrom-is (m + 1) (n - (m + 1)) p in let lo = w .low in let hi = w .high in
+      let c : count k p ≡ suc r = count-upto (m + 1) k p lo (λ j a b. w .miss j a b) ∙ sym (count-hit m p (rw f at (h .0))) ∙ add-one (count m p) ∙ ap suc (rw f at (h .1)) in
+      nth-found (suc r) k c (omega arith) (λ kl. w .hit (omega arith))))
+      (λ t. rw t (let g = ltb-false m n t in let x = from-end n p m g in
+      let c : count n p ≤ r = by-test (ltb r (count n p)) (λ u. absurd (let s = nth-some n p r (ltb-true r (count n p) u) in omega arith)) (λ u. ltb-false r (count n p) u) in
+      let a = nth-none n p (suc r) (omega arith) in let b = nth-le (suc r) in let y = from-le n p at l in omega arith))
+
 -- ---- argmax
 
 pub argmax-lt : (n : ℕ) (g : ℕ → ℕ) → 0 < n → argmax n g < n
@@ -397,7 +461,8 @@ module _ (n : ℕ) (u : ℕ → ℕ) (has : (f : ℕ) → f < n → (i : ℕ) ×
   abbrev position : ℕ → ℕ
   position f = first n (λ k. eqb (u k) f)
 
-  position-is : (f : ℕ) → f < n → (position f < n) × (u (position f) ≡ f)
+  -- each number has a place
+  pub position-is : (f : ℕ) → f < n → (first n (λ k. eqb (u k) f) < n) × (u (first n (λ k. eqb (u k) f)) ≡ f)
   position-is f l =
       let h = has f l in
       let at = first-at n (λ k. eqb (u k) f) (h .0) (h .1) (eq-eqb (u (h .0)) f (h .2)) in

@@ -1,6 +1,6 @@
 -- Laws of lists built by a rule or mapped, and of loops that settle a list entry by entry.
 use mathlib.Core.Path.{_≡_, refl, sym, ap, _∙_}
-use mathlib.Core.Bool.{Bool, cond}
+use mathlib.Core.Bool.{cond}
 use mathlib.Core.List.{List, [], _∷_, map}
 use Prim.Native.Nat.{ℕ, zero, suc, _+_, _≤_, _<_}
 use native.Mathlib.Nat.{not-suc-le-zero, add-zero, zero-add}
@@ -71,8 +71,15 @@ module _ {A : Type 0} (d : A) (n : ℕ) (new : ℕ → A) (old : List A) where
         (λ u. let v = ltb-false j o u in rw (u, le-ltb j (o + 1) (omega arith))));
   }
 
+  -- settled up to o, where the rule leaves the rest as it was
+  pub done-rest : (o : ℕ) (l : List A) → Done d n new old o l → ((j : ℕ) → o ≤ j → j < n → new j ≡ getD old j d) → l ≡ tab n new
+  done-rest o l h f = ext-getD d l (tab n new) (h .long ∙ sym (length-tab n new)) (λ j k. let q = h .long in let jl : j < n = omega arith in
+      h .each j jl ∙ by-test (ltb j o)
+      (λ t. rw t (sym (getD-tab n new d j jl)))
+      (λ t. rw t (sym (getD-tab n new d j jl ∙ f j (ltb-false j o t) jl))))
+
   pub done-all : (o : ℕ) (l : List A) → Done d n new old o l → n ≤ o → l ≡ tab n new
-  done-all o l h a = ext-getD d l (tab n new) (h .long ∙ sym (length-tab n new)) (λ j k. let q = h .long in let jl : j < n = omega arith in h .each j jl ∙ rw (lt-ltb j o (omega arith)) (sym (getD-tab n new d j jl)))
+  done-all o l h a = done-rest o l h (λ j p q. absurd (omega arith))
 
 -- ---- maps
 

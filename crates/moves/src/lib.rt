@@ -1,0 +1,2 @@
+// How directory and pages change: ways 4 to 7 of a write, and a flush step.
+pub mod numbers; // numbers.rt: single entries of the directory

@@ -1,0 +1,77 @@
+use mathlib.Core.Path.{ap, _∙_}
+use mathlib.Core.List.{List}
+use Prim.Native.Nat.{ℕ, _*_, _+_, _≤_}
+use native.Mathlib.Omega.{arith}
+use lib.ListN.{length}
+use borrow.Author.Needs.{needs}
+use Rattle.page.proofs.Part.{got, put}
+use Rattle.prelude.specs.Scan.{tab}
+use Rattle.model.proofs.Soundness.{K-pos}
+use Rattle.model.specs.Calls.{slotPages, framePages}
+use Rattle.cache.specs.View.{sizesOf, directoryOf}
+use Rattle.moves.specs.Spaces.{stretchPages, filledPage}
+use Rattle.moves.proofs.Stretch.{stretch-size, stretch-fits, stretch-long, filled-stretch}
+use Rattle.moves.proofs.join.fill_frame.Statement.{statement}
+use Rattle.moves.proofs.join.fill_frame.Tie as tie
+
+fits : (c : tie.Start) → c .args .f * (c .args .z .«pages_per_block» * c .args .z .«page_size») + c .args .z .«pages_per_block» * c .args .z .«page_size» ≤ length (c .args .bspace .now)
+fits c = stretch-fits (sizesOf (c .args .z)) (c .args .bspace .now) (c .pre .bspace-long) (c .args .f) (c .pre .frame-lt)
+
+cast-size : tie.Need-cast-size
+cast-size c = search needs
+
+cast-size-2 : tie.Need-cast-size-2
+cast-size-2 c = search needs
+
+mul-size : tie.Need-mul-size
+mul-size c = omega (arith, stretch-size (sizesOf (c .before .before .before .before .args .z)) (c .before .before .before .before .pre .sound .limits))
+
+mul-a : tie.Need-mul-a
+mul-a c = omega (arith, fits (c .before .before .before .before))
+
+add-e : tie.Need-add-e
+add-e c = omega (arith, fits (c .before .before .before .before))
+
+sub-fill : tie.Need-sub-fill
+sub-fill c = search needs
+
+part-fill-start : tie.Need-part-fill-start
+part-fill-start c = search needs
+
+part-fill-end : tie.Need-part-fill-end
+part-fill-end c = omega (arith, fits (c .before .before .before .before))
+
+fill-requires : tie.Need-fill-requires
+fill-requires c κs = let s = c .before .before .before .before .before in record {
+  sound = s .pre .sound;
+  block-lt = s .pre .block-lt;
+  pspace-long = s .pre .pspace-long;
+  stretch-long = stretch-long (sizesOf (s .args .z)) (s .args .bspace .now) (s .pre .bspace-long) (s .args .f) (s .pre .frame-lt);
+}
+
+same-length : tie.Need-same-length
+same-length c = search needs
+
+returns : tie.Need-returns
+returns c =
+    let s = c .before .before .before .before .before .before .before .before in let sz = sizesOf (s .args .z) in let d = directoryOf (s .args .d) in let bs = s .args .bspace .now in let ps = s .args .pspace .now in let f = s .args .f in let w = c .before .before .fill in
+    ap (framePages sz) (put _ _ _ _)
+    ∙ filled-stretch sz d ps bs (K-pos sz (s .pre .sound .limits)) (s .pre .bspace-long) (s .args .b .0) f (s .pre .frame-lt) (w .last .1 .1 .1 .0)
+    (w .kept .1 .1 .1 .0 ∙ stretch-long sz bs (s .pre .bspace-long) f (s .pre .frame-lt))
+    (w .ensures ∙ ap (λ (x : List ℕ). tab (sz .K) (filledPage sz d (slotPages sz ps) (stretchPages sz x) (s .args .b .0))) (got (sz .K * sz .S) bs f))
+
+pub fill-frame-spec : {M : Type 1} → statement M
+fill-frame-spec =
+    tie.close
+    (tie.spec
+    cast-size
+    cast-size-2
+    mul-size
+    mul-a
+    add-e
+    sub-fill
+    part-fill-start
+    part-fill-end
+    fill-requires
+    same-length
+    returns)

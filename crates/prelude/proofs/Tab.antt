@@ -45,8 +45,12 @@ pub record Done {A : Type 0} (d : A) (n : ℕ) (new : ℕ → A) (old : List A) 
   pub each : (j : ℕ) → j < n → getD l j d ≡ cond (ltb j o) (new j) (getD old j d)
 
 module _ {A : Type 0} (d : A) (n : ℕ) (new : ℕ → A) (old : List A) where
+  -- settled up to o from the start, where the rule leaves what is below o as it was
+  pub done-from : (o : ℕ) → length old ≡ n → ((j : ℕ) → j < o → new j ≡ getD old j d) → Done d n new old o old
+  done-from o h f = record { long = h; each = λ j l. by-test (ltb j o) (λ t. rw t (sym (f j (ltb-true j o t)))) (λ t. rw t) }
+
   pub done-none : length old ≡ n → Done d n new old 0 old
-  done-none h = record { long = h; each = λ j l. rw (le-ltb j 0 (omega arith)) }
+  done-none h = done-from 0 h (λ j l. absurd (omega arith))
 
   pub done-read : (o : ℕ) (l : List A) → Done d n new old o l → (j : ℕ) → o ≤ j → j < n → getD l j d ≡ getD old j d
   done-read o l h j a b = h .each j b ∙ rw (le-ltb j o a)

@@ -1,0 +1,81 @@
+// Flash and wear: one function for each operation of the chip.
+use address::BlockNo;
+use address::PageNo;
+use cache::Sizes;
+ghost use mathlib.Core.Path.{_≡_};
+ghost use Prim.Native.Nat.{_*_, _≤_};
+ghost use Rattle.prelude.specs.Pages.{pageAt, putPage};
+ghost use Rattle.model.specs.Sizes.{InLimits};
+ghost use Rattle.model.specs.Calls.{flashPages};
+ghost use Rattle.cache.specs.View.{sizesOf};
+ghost use Rattle.page.specs.Page.{HasPage};
+ghost use Rattle.chip.specs.Chip.{Facing, stretchPages, mergedPages, programmedPages, Erasable, Erased};
+
+// The merge reads: each offset that is not in the valid set v is read from block b into a frame's stretch.
+fn merge(z: Sizes, flash: &[u8], b: BlockNo, stretch: &mut [u8], v: u64)
+    requires { ⌜ Facing (sizesOf z) (b .0) (now flash) (now stretch) ⌝ }
+    ensures { λ _. ⌜ stretchPages (sizesOf z) (now (stretch .exit)) ≡ mergedPages (sizesOf z) (now (flash .entry)) (b .0) (now (stretch .entry)) v ⌝ }
+{
+    let s = z.page_size as usize;
+    let mut o: u32 = 0;
+    while o < z.pages_per_block {
+        if !bitmap::has(v, o) {
+            let n = address::page_of(b, o, z.pages_per_block);
+            let at = o as usize;
+            read_page(flash, n, stretch, at, s);
+        }
+        o += 1;
+    }
+}
+
+// All pages of block b are programmed, offsets upward, from a frame's stretch.
+fn program_block(z: Sizes, flash: &mut [u8], b: BlockNo, stretch: &[u8])
+    requires { ⌜ Facing (sizesOf z) (b .0) (now flash) (now stretch) ⌝ }
+    ensures { λ _. ⌜ flashPages (sizesOf z) (now (flash .exit)) ≡ programmedPages (sizesOf z) (now (flash .entry)) (b .0) (now (stretch .entry)) ⌝ }
+{
+    let s = z.page_size as usize;
+    let mut done: u32 = 0;
+    while done < z.pages_per_block {
+        let n = address::page_of(b, done, z.pages_per_block);
+        let at = done as usize;
+        program_page(flash, n, stretch, at, s);
+        done += 1;
+    }
+}
+
+// The chip reads page n of flash: it goes to page di of dst. Every read of flash is made here.
+pub fn read_page(flash: &[u8], n: PageNo, dst: &mut [u8], di: usize, s: usize)
+    requires { ⌜ (s ≤ 2048) × HasPage s (now flash) (n .0) × HasPage s (now dst) di ⌝ }
+    ensures { λ _. ⌜ now (dst .exit) ≡ putPage s (now (dst .entry)) di (pageAt s (now (flash .entry)) (n .0)) ⌝ }
+{
+    let from = n.0 as usize;
+    page::copy_page(dst, di, flash, from, s);
+}
+
+// The chip programs page n of flash with page si of src. Every program of flash is made here.
+fn program_page(flash: &mut [u8], n: PageNo, src: &[u8], si: usize, s: usize)
+    requires { ⌜ (s ≤ 2048) × HasPage s (now flash) (n .0) × HasPage s (now src) si ⌝ }
+    ensures { λ _. ⌜ now (flash .exit) ≡ putPage s (now (flash .entry)) (n .0) (pageAt s (now (src .entry)) si) ⌝ }
+{
+    let to = n.0 as usize;
+    page::copy_page(flash, to, src, si, s);
+}
+
+// The chip erases block b to bytes 255, and its wear is 1 more. Every erasure is made here.
+fn erase(z: Sizes, flash: &mut [u8], wear: &mut [u32], b: BlockNo)
+    requires { ⌜ Erasable (sizesOf z) (b .0) (now flash) (now wear) ⌝ }
+    ensures { λ _. ⌜ Erased (sizesOf z) (b .0) (now (flash .entry)) (now (wear .entry)) (now (flash .exit)) (now (wear .exit)) ⌝ }
+{
+    let size = block_size(z);
+    let at = b.0 as usize;
+    page::fill_page(flash, at, size, 255);
+    wear[at] = wear[at] + 1;
+}
+
+// The bytes of a block.
+fn block_size(z: Sizes) -> usize
+    requires { ⌜ InLimits (sizesOf z) ⌝ }
+    ensures { λ r. ⌜ r ≡ z .«pages_per_block» * z .«page_size» ⌝ }
+{
+    z.pages_per_block as usize * z.page_size as usize
+}

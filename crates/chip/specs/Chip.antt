@@ -1,15 +1,18 @@
--- What the operations of the chip ask and give. A primed list is the buffer afterwards.
+-- What the operations of the chip and a rewrite ask and give. A primed list is the buffer afterwards.
 use mathlib.Core.Path.{_≡_}
 use mathlib.Core.Bool.{cond}
-use mathlib.Core.List.{List}
+use mathlib.Core.List.{List, []}
 use Prim.Native.Nat.{ℕ, _+_, _*_, _<_}
 use lib.ListN.{length, getD, replicate}
 use Rattle.prelude.specs.Scan.{tab}
 use Rattle.prelude.specs.Bits.{bit}
 use Rattle.prelude.specs.Pages.{pageAt, putPage, pagesOf}
 use Rattle.model.specs.Sizes.{Sizes, InLimits}
-use Rattle.model.specs.Moves.{programmed, worn}
-use Rattle.model.specs.Calls.{Page, zeroPage, flashPages}
+use Rattle.model.specs.Directory.{Directory}
+use Rattle.model.specs.Soundness.{Sound}
+use Rattle.model.specs.Policy.{mergeReads}
+use Rattle.model.specs.Moves.{Memory, programmed, worn, rewrittenPages}
+use Rattle.model.specs.Calls.{Page, zeroPage, flashPages, framePages}
 
 -- ---- a block of flash and a frame's stretch of b-space
 
@@ -49,4 +52,26 @@ pub record Erasable (sz : Sizes) (b : ℕ) (flash wear : List ℕ) : Type 0 wher
 -- the block's bytes are 255, and its wear is 1 more
 pub record Erased (sz : Sizes) (b : ℕ) (flash wear flash′ wear′ : List ℕ) : Type 0 where
   pub flash-is : flash′ ≡ putPage (sz .K * sz .S) flash b (replicate (sz .K * sz .S) 255)
+  pub wear-is : wear′ ≡ worn wear b
+
+-- ---- the rewrite of frame f, of block b
+
+-- flash and b-space as pages, beside no p-space, which a rewrite leaves untouched
+unfoldable pub chipMemory : Sizes → List ℕ → List ℕ → Memory Page
+chipMemory sz flash bspace = record { flash = flashPages sz flash; pspace = []; bspace = framePages sz bspace }
+
+-- it is of a sound directory and of buffers in their sizes, and the block is not worn
+pub record Rewritable (sz : Sizes) (d : Directory) (b f : ℕ) (flash wear bspace : List ℕ) : Type 0 where
+  pub sound : Sound sz d
+  pub b-lt : b < sz .N
+  pub f-lt : f < sz .B
+  pub flash-length : length flash ≡ sz .N * sz .K * sz .S
+  pub wear-length : length wear ≡ sz .N
+  pub bspace-length : length bspace ≡ sz .B * sz .K * sz .S
+  pub unworn : getD wear b 0 < sz .W
+
+-- the merge reads, the pages of flash and of the frame's own stretch, and the wear are the model's
+pub record Rewritten (sz : Sizes) (d : Directory) (b f : ℕ) (flash wear bspace : List ℕ) (reads : ℕ) (flash′ wear′ bspace′ : List ℕ) : Type 0 where
+  pub reads-are : reads ≡ mergeReads sz d f
+  pub pages-are : chipMemory sz flash′ bspace′ ≡ rewrittenPages (zeroPage sz) sz d (chipMemory sz flash bspace) b f
   pub wear-is : wear′ ≡ worn wear b

@@ -1,15 +1,41 @@
-// Flash and wear: one function for each operation of the chip.
+// Flash and wear: one function for each operation of the chip, and the rewrite of a block that is made of them.
 use address::BlockNo;
 use address::PageNo;
+use cache::Directory;
 use cache::Sizes;
 ghost use mathlib.Core.Path.{_≡_};
 ghost use Prim.Native.Nat.{_*_, _≤_};
 ghost use Rattle.prelude.specs.Pages.{pageAt, putPage};
 ghost use Rattle.model.specs.Sizes.{InLimits};
 ghost use Rattle.model.specs.Calls.{flashPages};
-ghost use Rattle.cache.specs.View.{sizesOf};
+ghost use Rattle.cache.specs.View.{sizesOf, directoryOf};
 ghost use Rattle.page.specs.Page.{HasPage};
-ghost use Rattle.chip.specs.Chip.{Facing, stretchPages, mergedPages, programmedPages, Erasable, Erased};
+ghost use Rattle.chip.specs.Chip.{Facing, stretchPages, mergedPages, programmedPages, Erasable, Erased, Rewritable, Rewritten};
+
+// Frame f of block b is rewritten: merge reads into the frame's own stretch of b-space, erasure, all pages programmed.
+// Answers the number of merge reads.
+pub fn rewrite(
+    z: Sizes,
+    d: Directory,
+    flash: &mut [u8],
+    wear: &mut [u32],
+    bspace: &mut [u8],
+    b: BlockNo,
+    f: usize,
+) -> u32
+    requires { ⌜ Rewritable (sizesOf z) (directoryOf d) (b .0) f (now flash) (now wear) (now bspace) ⌝ }
+    ensures { λ r. ⌜ Rewritten (sizesOf z) (directoryOf d) (b .0) f (now (flash .entry)) (now (wear .entry)) (now (bspace .entry)) r (now (flash .exit)) (now (wear .exit)) (now (bspace .exit)) ⌝ }
+{
+    let v = d.valid[f];
+    let merged = z.pages_per_block - bitmap::count(v);
+    let size = block_size(z);
+    let a = f * size;
+    let e = a + size;
+    merge(z, flash, b, &mut bspace[a..e], v);
+    erase(z, flash, wear, b);
+    program_block(z, flash, b, &bspace[a..e]);
+    merged
+}
 
 // The merge reads: each offset that is not in the valid set v is read from block b into a frame's stretch.
 fn merge(z: Sizes, flash: &[u8], b: BlockNo, stretch: &mut [u8], v: u64)

@@ -5,15 +5,15 @@ use mathlib.Core.List.{List}
 use Prim.Native.Nat.{ℕ, _-_, _*_, _<_}
 use lib.Dec.{ltb}
 use lib.ListN.{length, getD, length-replicate, List·getD-eq-default}
-use borrow.Author.Tests.{ltb-true, ltb-false, eq-eqb}
+use borrow.Author.Tests.{ltb-true, ltb-false, eqb-true, eq-eqb}
 use Rattle.prelude.specs.Scan.{tab}
 use Rattle.prelude.specs.Pages.{pageAt, pagesOf, flat}
-use Rattle.prelude.proofs.Tests.{by-test, every-of}
+use Rattle.prelude.proofs.Tests.{by-test, each, every-of}
 use Rattle.prelude.proofs.Tab.{length-tab, getD-tab}
 use Rattle.prelude.proofs.Pages.{flat-pages, pages-flat, page-flat, length-flat, length-pageAt, in-run}
 use Rattle.model.specs.Sizes.{Sizes}
 use Rattle.model.specs.Moves.{Memory}
-use Rattle.model.specs.Calls.{Page, Buffers, lentOk, zeroPage, memoryOf, buffersOf}
+use Rattle.model.specs.Calls.{Fits, Page, Buffers, lentOk, zeroPage, memoryOf, buffersOf}
 use Rattle.model.proofs.EachPage.{EachM}
 
 module _ (sz : Sizes) where
@@ -85,3 +85,13 @@ module _ (sz : Sizes) where
   -- a page of a buffer joined from pages
   pub page-of-flat : (ps : List Page) → ((i : ℕ) → OfS (getD ps i (zeroPage sz))) → (n : ℕ) → n < length ps → pageAt (sz .S) (flat ps) n ≡ getD ps n (zeroPage sz)
   page-of-flat ps h n l = page-flat (sz .S) ps (zeroPage sz) (λ j k. h j) n l
+
+-- the test of the buffers' lengths, and the facts
+pub fits-of : (sz : Sizes) (u : Buffers) → lentOk sz u ≡ true → Fits sz u
+unfolding lentOk
+fits-of sz u h = let e = each _ h in record {
+  flash-length = eqb-true _ _ (e .0);
+  wear-length = eqb-true _ _ (e .1 .0);
+  pspace-length = eqb-true _ _ (e .1 .1 .0);
+  bspace-length = eqb-true _ _ (e .1 .1 .1 .0);
+}

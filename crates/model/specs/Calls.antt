@@ -1,4 +1,5 @@
 -- The calls: what each answers, and what it leaves in the record and in the lent buffers.
+use mathlib.Core.Path.{_≡_}
 use mathlib.Core.Bool.{Bool, true, false}
 use mathlib.Core.List.{List, [], _∷_}
 use Prim.Native.Nat.{ℕ, zero, suc, _+_, _*_}
@@ -159,6 +160,13 @@ unfoldable pub lentOk : Sizes → Buffers → Bool
 lentOk sz u = every (
     eqb (length (u .flash)) (sz .N * sz .K * sz .S) ∷ eqb (length (u .wear)) (sz .N)
     ∷ eqb (length (u .pspace)) (sz .P * sz .S) ∷ eqb (length (u .bspace)) (sz .B * sz .K * sz .S) ∷ [])
+
+-- the same as facts
+pub record Fits (sz : Sizes) (u : Buffers) : Type 0 where
+  pub flash-length : length (u .flash) ≡ sz .N * sz .K * sz .S
+  pub wear-length : length (u .wear) ≡ sz .N
+  pub pspace-length : length (u .pspace) ≡ sz .P * sz .S
+  pub bspace-length : length (u .bspace) ≡ sz .B * sz .K * sz .S
 
 -- Opening: refusals 1, 2, 3, and the blank record with them; else a record with the sizes set and all vacant.
 pub record Opened : Type 0 where

@@ -1,0 +1,100 @@
+use borrow.Author.Needs.{needs}
+use native.Mathlib.Omega.{arith}
+use mathlib.Core.Path.{_≡_, sym, ap}
+use Prim.Native.Nat.{ℕ, _+_, _*_, _%_}
+use Rattle.prelude.specs.Pages.{pageAt}
+use Rattle.page.specs.Page.{HasPage}
+use Rattle.model.proofs.Soundness.{frames-small}
+use Rattle.model.proofs.Lookup.{offset-lt}
+use Rattle.reads.proofs.Places.{has-slot, has-frame-page, frame-page-lt, has-flash, has-buffer, from-slot, from-frame, from-flash}
+use Rattle.reads.proofs.peek.Statement.{statement}
+use Rattle.reads.proofs.peek.Tie as tie
+use Rattle.reads.proofs.peek.Reads as reads
+use Rattle.reads.proofs.peek.Lts as lts
+use Rattle.address.proofs.offset_of.Reads as offset-of-reads
+use Rattle.chip.proofs.read_page.Reads as read-page-reads
+use Rattle.page.proofs.copy_page.Reads as copy-page-reads
+use Rattle.policy.proofs.lookup.frame_with.Reads as frame-with-reads
+use Rattle.policy.proofs.lookup.slot_of.Reads as slot-of-reads
+
+cast-s : tie.Need-cast-s
+cast-s c = search needs
+
+cast-k : tie.Need-cast-k
+cast-k c = search needs
+
+slot-of-requires : tie.Need-slot-of-requires
+slot-of-requires c κs = search needs
+
+cast-if1 : tie.Need-cast-if1
+cast-if1 c = search needs
+
+copy-page-requires : tie.Need-copy-page-requires
+copy-page-requires c κs = let q = c .before .before .before .before .before .before .before .before .before .before .pre in (q .sound .limits .S-high, has-buffer _ _ _ _ _ _ _ q, has-slot _ _ _ _ _ _ _ q _ (c .before .if1 .taken))
+
+same-length : tie.Need-same-length
+same-length c = search needs
+
+returns : tie.Need-returns
+returns c = from-slot _ _ _ _ _ _ _ (c .before .before .before .before .before .before .before .before .before .before .before .before .before .pre) _ _ (c .before .before .before .before .before .before .slot-of .ensures) (c .before .before .before .before .if1 .taken) (c .before .before .copy-page .ensures)
+
+frame-with-requires : tie.Need-frame-with-requires
+frame-with-requires c κs = search needs
+
+cast-if2 : tie.Need-cast-if2
+cast-if2 c = search needs
+
+offset-of-requires : tie.Need-offset-of-requires
+offset-of-requires c κs = search needs
+
+cast-o : tie.Need-cast-o
+cast-o c = search needs
+
+mul-at : tie.Need-mul-at
+mul-at c = let q = c .before .before .before .before .before .before .before .before .before .before .before .before .before .pre in let h = frame-page-lt _ _ _ _ _ _ _ q (c .before .before .before .frame-with .result) (c .before .if2 .taken) in let s = frames-small _ (q .sound .limits) in omega arith
+
+add-at : tie.Need-add-at
+add-at c = let q = c .before .before .before .before .before .before .before .before .before .before .before .before .before .pre in let h = frame-page-lt _ _ _ _ _ _ _ q (c .before .before .before .frame-with .result) (c .before .if2 .taken) in let s = frames-small _ (q .sound .limits) in
+    let e : c .offset-of .result ≡ c .before .before .before .before .before .before .before .before .before .before .before .before .before .args .n .0 % c .before .before .before .before .before .before .before .before .before .before .before .before .before .args .z .«pages_per_block» = c .offset-of .ensures in omega arith
+
+copy-page-requires-2 : tie.Need-copy-page-requires-2
+copy-page-requires-2 c κs = let q = c .before .before .before .before .before .before .before .before .before .before .before .before .before .before .pre in (q .sound .limits .S-high, has-buffer _ _ _ _ _ _ _ q, rw (c .before .offset-of .ensures) (has-frame-page _ _ _ _ _ _ _ q _ (c .before .before .if2 .taken)))
+
+same-length-2 : tie.Need-same-length-2
+same-length-2 c = search needs
+
+returns-2 : tie.Need-returns-2
+returns-2 c = from-frame _ _ _ _ _ _ _ (c .before .before .before .before .before .before .before .before .before .before .before .before .before .before .before .before .before .pre) _ _ _ _ (c .before .before .before .before .before .before .before .before .before .before .slot-of .ensures) (c .before .before .before .before .before .before .before .before .if1 .left) (c .before .before .before .before .before .before .before .frame-with .ensures) (c .before .before .before .before .before .if2 .taken) (c .before .before .before .before .offset-of .ensures) (c .before .before .copy-page2 .ensures)
+
+read-page-requires : tie.Need-read-page-requires
+read-page-requires c κs = let q = c .before .before .before .before .before .before .before .before .before .before .before .before .before .pre in (q .sound .limits .S-high, has-flash _ _ _ _ _ _ _ q, has-buffer _ _ _ _ _ _ _ q)
+
+same-length-3 : tie.Need-same-length-3
+same-length-3 c = search needs
+
+returns-3 : tie.Need-returns-3
+returns-3 c = from-flash _ _ _ _ _ _ _ (c .before .before .before .before .before .before .before .before .before .before .before .before .before .before .before .before .pre) _ _ _ (c .before .before .before .before .before .before .before .before .before .slot-of .ensures) (c .before .before .before .before .before .before .before .if1 .left) (c .before .before .before .before .before .before .frame-with .ensures) (c .before .before .before .before .if2 .left) (c .before .before .read-page .ensures)
+
+pub peek-spec : {M : Type 1} → statement M
+peek-spec =
+    tie.close
+    (tie.spec
+    cast-s
+    cast-k
+    slot-of-requires
+    cast-if1
+    copy-page-requires
+    same-length
+    returns
+    frame-with-requires
+    cast-if2
+    offset-of-requires
+    cast-o
+    mul-at
+    add-at
+    copy-page-requires-2
+    same-length-2
+    returns-2
+    read-page-requires
+    same-length-3
+    returns-3)

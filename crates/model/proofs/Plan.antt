@@ -7,7 +7,7 @@ use Prim.Native.Nat.{ℕ, suc, _+_, _-_, _*_, _/_, _%_, _^_, _≤_, _<_}
 use native.Mathlib.Omega.{arith}
 use lib.Dec.{ltb, eqb}
 use lib.Pow.{pow-pos}
-use borrow.Author.Tests.{ltb-true, ltb-false, eqb-true, eq-eqb}
+use borrow.Author.Tests.{ltb-true, ltb-false, eqb-true, lt-ltb, le-ltb, eq-eqb}
 use Rattle.prelude.specs.Scan.{count}
 use Rattle.prelude.specs.Bits.{bit}
 use Rattle.prelude.proofs.Tests.{by-test, or-r}
@@ -70,6 +70,9 @@ module _ (sz : Sizes) (d : Directory) (s : Sound sz d) where
   pub occupied-all : sz .B ≤ frameOf sz d vacant → (f : ℕ) → f < sz .B → frameAt d f < sz .N
   occupied-all h f l = elim (s .entries .frame-in f l) [ inl e ↦ absurd (no-frame sz d vacant h f l (e .0)) | inr e ↦ e .0 ]
 
+  pub frame-block : (f : ℕ) → f < sz .B → frameAt d f < vacant → frameAt d f < sz .N
+  frame-block f l h = elim (s .entries .frame-in f l) [ inl e ↦ absurd (let k = e .0 in omega arith) | inr e ↦ e .0 ]
+
   pub vacant-bits : (f : ℕ) → f < sz .B → frameAt d f ≡ vacant → validAt d f ≡ 0
   vacant-bits f l e = elim (s .entries .frame-in f l) [ inl k ↦ k .1 | inr k ↦ absurd (let h = block-vacant sz (s .limits) (frameAt d f) (k .0) in omega arith) ]
 
@@ -128,3 +131,40 @@ module _ (pick : Choice) (sz : Sizes) (d : Directory) (w : List ℕ) (Q : Plan �
       (λ e′. rw e′ (let k = ltb-false (frameWith sz d n) (sz .B) e′ in by-test (inSlots sz d vacant)
       (λ c. rw c (q3 e k c))
       (λ c. rw c (q4 e k c))))))
+
+-- ---- the plan by its tests
+
+module _ (pick : Choice) (sz : Sizes) (d : Directory) (w : List ℕ) where
+  pub plan-1 : (n : ℕ) → slotOf sz d n < sz .P → plan pick sz d w n ≡ slotHit (slotOf sz d n)
+  unfolding plan inSlots
+  plan-1 n h = rw (lt-ltb (slotOf sz d n) (sz .P) h, plan)
+
+  pub plan-2 : (n : ℕ) → sz .P ≤ slotOf sz d n → frameWith sz d n < sz .B → plan pick sz d w n ≡ frameHit (frameWith sz d n)
+  unfolding plan inSlots
+  plan-2 n h k = rw (le-ltb (slotOf sz d n) (sz .P) h, lt-ltb (frameWith sz d n) (sz .B) k, plan)
+
+  pub plan-3 : (n : ℕ) → sz .P ≤ slotOf sz d n → sz .B ≤ frameWith sz d n → slotOf sz d vacant < sz .P → plan pick sz d w n ≡ freeSlot (slotOf sz d vacant)
+  unfolding plan inSlots
+  plan-3 n h k l = rw (le-ltb (slotOf sz d n) (sz .P) h, le-ltb (frameWith sz d n) (sz .B) k, lt-ltb (slotOf sz d vacant) (sz .P) l, plan)
+
+  pub plan-full : (n : ℕ) → sz .P ≤ slotOf sz d n → sz .B ≤ frameWith sz d n → sz .P ≤ slotOf sz d vacant → plan pick sz d w n ≡ evictionPlan pick sz d w (victim sz d)
+  unfolding plan inSlots
+  plan-full n h k l = rw (le-ltb (slotOf sz d n) (sz .P) h, le-ltb (frameWith sz d n) (sz .B) k, le-ltb (slotOf sz d vacant) (sz .P) l, plan)
+
+  pub plan-4 : (b : ℕ) → frameOf sz d b < sz .B → evictionPlan pick sz d w b ≡ join b (frameOf sz d b)
+  unfolding evictionPlan
+  plan-4 b h = rw (lt-ltb (frameOf sz d b) (sz .B) h, evictionPlan)
+
+  pub plan-5 : (b : ℕ) → sz .B ≤ frameOf sz d b → frameOf sz d vacant < sz .B → evictionPlan pick sz d w b ≡ fill b (frameOf sz d vacant)
+  unfolding evictionPlan
+  plan-5 b h k = rw (le-ltb (frameOf sz d b) (sz .B) h, lt-ltb (frameOf sz d vacant) (sz .B) k, evictionPlan)
+
+  pub plan-6 : (b : ℕ) → sz .B ≤ frameOf sz d b → sz .B ≤ frameOf sz d vacant → fewestValid sz d < slotCount sz d b
+      → evictionPlan pick sz d w b ≡ exchange b (pick sz d (λ f. eqb (validCount sz d f) (fewestValid sz d)))
+  unfolding evictionPlan
+  plan-6 b h k l = rw (le-ltb (frameOf sz d b) (sz .B) h, le-ltb (frameOf sz d vacant) (sz .B) k, lt-ltb (fewestValid sz d) (slotCount sz d b) l, evictionPlan)
+
+  pub plan-7 : (b : ℕ) → sz .B ≤ frameOf sz d b → sz .B ≤ frameOf sz d vacant → slotCount sz d b ≤ fewestValid sz d
+      → evictionPlan pick sz d w b ≡ evict b (pick sz d (evictable sz d w))
+  unfolding evictionPlan
+  plan-7 b h k l = rw (le-ltb (frameOf sz d b) (sz .B) h, le-ltb (frameOf sz d vacant) (sz .B) k, le-ltb (fewestValid sz d) (slotCount sz d b) l, evictionPlan)

@@ -2,7 +2,7 @@
 use mathlib.Core.Path.{_≡_, refl, sym, ap, _∙_}
 use mathlib.Core.Bool.{true, false, _&&_, _||_}
 use mathlib.Core.List.{List}
-use Prim.Native.Nat.{ℕ, _+_, _/_, _<_}
+use Prim.Native.Nat.{ℕ, _+_, _<_}
 use native.Mathlib.Omega.{arith}
 use lib.Dec.{ltb, eqb}
 use lib.ListN.{length, getD, set, replicate, length-set, length-replicate, getD-replicate}
@@ -18,6 +18,7 @@ use Rattle.model.specs.Policy.{inBlock, slotCount, victim}
 use Rattle.model.proofs.Lookup.{in-block, not-in-block}
 use Rattle.cache.specs.View.{blockNo}
 use Rattle.policy.specs.Views.{victimOf}
+use Rattle.policy.proofs.Held.{Held}
 
 -- the pages of block b in the first i slots
 abbrev pub pages-to : Sizes → Directory → ℕ → ℕ → ℕ
@@ -47,16 +48,16 @@ module _ (sz : Sizes) (d : Directory) (s : Sound sz d) where
         same : (b : ℕ) → pages-to sz d i b ≡ pages-to sz d (i + 1) b
         same b = count-miss i (inBlock sz d b) (not-in-block sz d b i (λ k q. absurd (omega arith)))
 
-    module _ (b v : ℕ) (bl : b < sz .N) (lt : slotAt d i < vacant) (e : slotAt d i / sz .K ≡ b) (ve : v ≡ getD l b 0 + 1) where
+    module _ (b v : ℕ) (p : Held sz d i b) (ve : v ≡ getD l b 0 + 1) where
       grown : v ≡ pages-to sz d (i + 1) b
-      grown = let a = h .each b bl in let c = count-hit i (inBlock sz d b) (in-block sz d b i lt e) in omega arith
+      grown = let a = h .each b (p .low) in let c = count-hit i (inBlock sz d b) (in-block sz d b i (p .page) (p .own)) in omega arith
 
       other : (j : ℕ) → (j ≡ b → ⊥) → pages-to sz d i j ≡ pages-to sz d (i + 1) j
-      other j ne = count-miss i (inBlock sz d j) (not-in-block sz d j i (λ k q. ne (sym q ∙ e)))
+      other j ne = count-miss i (inBlock sz d j) (not-in-block sz d j i (λ k q. ne (sym q ∙ p .own)))
 
       stored : (c : ℕ) → c < sz .N → getD (set l b v) c 0 ≡ pages-to sz d (i + 1) c
       stored c cl = by-test (eqb c b)
-          (λ t. rw (eqb-true c b t) (getD-set-same l b v 0 (let k = h .long in let n = s .limits .N-high in omega arith) ∙ grown))
+          (λ t. rw (eqb-true c b t) (getD-set-same l b v 0 (let k = h .long in let n = s .limits .N-high in let q = p .low in omega arith) ∙ grown))
           (λ t. let ne = eqb-false c b t in getD-set-other l b c v 0 ne ∙ h .each c cl ∙ other c ne)
 
       -- block b takes the lead, or r keeps it
@@ -64,7 +65,7 @@ module _ (sz : Sizes) (d : Directory) (s : Sound sz d) where
       counted-taken t = record {
         long = length-set l b v ∙ h .long;
         each = stored;
-        leads = leads-taken (sz .N) (pages-to sz d i) (pages-to sz d (i + 1)) r (h .leads) b (λ j jl ne. sym (other j ne)) bl (rw (← (h .most), ← grown) t);
+        leads = leads-taken (sz .N) (pages-to sz d i) (pages-to sz d (i + 1)) r (h .leads) b (λ j jl ne. sym (other j ne)) (p .low) (rw (← (h .most), ← grown) t);
         most = grown;
       }
 
@@ -72,8 +73,8 @@ module _ (sz : Sizes) (d : Directory) (s : Sound sz d) where
       counted-kept t = record {
         long = length-set l b v ∙ h .long;
         each = stored;
-        leads = leads-kept (sz .N) (pages-to sz d i) (pages-to sz d (i + 1)) r (h .leads) b (λ j jl ne. sym (other j ne)) (let a = h .each b bl in let c = grown in omega arith) (rw (← (h .most), ← grown) t);
-        most = h .most ∙ other r (λ q. let a = h .each b bl in let c : m ≡ pages-to sz d i b = (rw q at (h .most)) in clash (or-l (eqb m v && ltb b r) (lt-ltb m v (omega arith))) t);
+        leads = leads-kept (sz .N) (pages-to sz d i) (pages-to sz d (i + 1)) r (h .leads) b (λ j jl ne. sym (other j ne)) (let a = h .each b (p .low) in let c = grown in omega arith) (rw (← (h .most), ← grown) t);
+        most = h .most ∙ other r (λ q. let a = h .each b (p .low) in let c : m ≡ pages-to sz d i b = (rw q at (h .most)) in clash (or-l (eqb m v && ltb b r) (lt-ltb m v (omega arith))) t);
       }
 
   pub counted-all : (i : ℕ) (l : List ℕ) (r m : ℕ) → Counted sz d i l r m → i ≡ sz .P → record { block = blockNo r; pages = m } ≡ victimOf sz d

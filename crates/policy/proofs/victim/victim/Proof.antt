@@ -1,16 +1,14 @@
 use borrow.Author.Needs.{needs}
 use native.Mathlib.Omega.{arith}
-use mathlib.Core.Path.{_≡_, refl, sym, ap}
+use mathlib.Core.Path.{refl}
 use mathlib.Core.Logic.{inl, inr}
-use Prim.Native.Nat.{_-_, _/_, _≤_, _<_}
+use Prim.Native.Nat.{_-_, _≤_}
 use Rattle.prelude.proofs.Scan.{count-le}
-use Rattle.address.specs.declared.BlockNo.{BlockNo}
-use Rattle.model.specs.Sizes.{vacant}
-use Rattle.model.specs.Directory.{slotAt}
 use Rattle.model.specs.Policy.{inBlock}
-use Rattle.model.proofs.Plan.{slot-block, slot-vacant}
+use Rattle.model.proofs.Plan.{slot-vacant}
 use Rattle.cache.specs.View.{sizesOf, directoryOf}
 use Rattle.cache.proofs.View.{slot-of}
+use Rattle.policy.proofs.Held.{Held, held}
 use Rattle.policy.proofs.Counts.{Counted, counted-none, counted-vacant, counted-taken, counted-kept, counted-all}
 use Rattle.policy.proofs.victim.victim.Statement.{statement}
 use Rattle.policy.proofs.victim.victim.Tie as tie
@@ -22,13 +20,10 @@ abbrev μ-loop : tie.MeasureT-loop
 μ-loop z d end counts₀ best₀ most₀ i₀ counts best most i = end - i
 
 -- the page in the slot, and its block
-found : (c : tie.After-struct-known3 Inv-loop μ-loop) →
-    (slotAt (directoryOf (c .before .before .before .before .before .before .before .before .args .t2)) (c .before .before .before .before .before .before .loop .i) < vacant) × (slotAt (directoryOf (c .before .before .before .before .before .before .before .before .args .t2)) (c .before .before .before .before .before .before .loop .i) / c .before .before .before .before .before .before .before .before .args .z .«pages_per_block» ≡ c .before .block-of .result .0) × (c .before .block-of .result .0 < c .before .before .before .before .before .before .before .before .args .z .blocks)
+found : (c : tie.After-block-of Inv-loop μ-loop) → Held (sizesOf (c .before .before .before .before .before .before .before .args .z)) (directoryOf (c .before .before .before .before .before .before .before .args .t2)) (c .before .before .before .before .before .loop .i) (c .block-of .result .0)
 found c =
-    let a = c .before .before .before .before .before .before .before .before .args in let i = c .before .before .before .before .before .before .loop .i in let d = directoryOf (a .t2) in
-    let lt : slotAt d i < vacant = rw (slot-of (a .t2) i) (c .before .before .if1 .taken) in
-    let e : slotAt d i / a .z .«pages_per_block» ≡ c .before .block-of .result .0 = rw (slot-of (a .t2) i) (sym (ap (λ (x : BlockNo). x .0) (c .before .block-of .ensures))) in
-    (lt, e, rw (← e) (slot-block (sizesOf (a .z)) d (c .before .before .before .before .before .before .before .before .pre) i (omega arith) lt))
+    let start = c .before .before .before .before .before .before .before in
+    held (start .args .z) (start .args .t2) (start .pre) (c .before .before .before .before .before .loop .i) _ (omega arith) (c .before .if1 .taken) (c .block-of .ensures)
 
 cast-end : tie.Need-cast-end Inv-loop μ-loop
 cast-end c = search needs
@@ -49,15 +44,15 @@ cast-at : tie.Need-cast-at Inv-loop μ-loop
 cast-at c = search needs
 
 array-read-pages : tie.Need-array-read-pages Inv-loop μ-loop
-array-read-pages c = let k = found c .2 in let n = c .before .before .before .before .before .before .before .before .pre .limits .N-high in let l = c .before .before .before .before .before .before .loop .inv .1 .long in omega arith
+array-read-pages c = let k = found (c .before) .low in let n = c .before .before .before .before .before .before .before .before .pre .limits .N-high in let l = c .before .before .before .before .before .before .loop .inv .1 .long in omega arith
 
 add-pages : tie.Need-add-pages Inv-loop μ-loop
 add-pages c =
-    let k = found c .2 in let b = c .before .block-of .result .0 in let a = c .before .before .before .before .before .before .before .before .args in let i = c .before .before .before .before .before .before .loop .i in
-    let e = c .before .before .before .before .before .before .loop .inv .1 .each b k in let m = count-le i (inBlock (sizesOf (a .z)) (directoryOf (a .t2)) b) in omega arith
+    let b = c .before .block-of .result .0 in let a = c .before .before .before .before .before .before .before .before .args in let i = c .before .before .before .before .before .before .loop .i in
+    let e = c .before .before .before .before .before .before .loop .inv .1 .each b (found (c .before) .low) in let m = count-le i (inBlock (sizesOf (a .z)) (directoryOf (a .t2)) b) in omega arith
 
 array-write-counts : tie.Need-array-write-counts Inv-loop μ-loop
-array-write-counts c = let k = found c .2 in let n = c .before .before .before .before .before .before .before .before .pre .limits .N-high in let l = c .before .before .before .before .before .before .loop .inv .1 .long in omega arith
+array-write-counts c = let k = found (c .before) .low in let n = c .before .before .before .before .before .before .before .before .pre .limits .N-high in let l = c .before .before .before .before .before .before .loop .inv .1 .long in omega arith
 
 add-i : tie.Need-add-i Inv-loop μ-loop
 add-i c = search needs
@@ -69,13 +64,11 @@ loop-again : tie.Need-loop-again Inv-loop μ-loop
 loop-again c =
     let l = c .before .before .before .before .loop in let a = c .before .before .before .before .before .before .args in let s = c .before .before .before .before .before .before .pre in let sz = sizesOf (a .z) in let d = directoryOf (a .t2) in
     elim (c .if1 .came) [
-      | inl w ↦
-          let f = found (record { before = record { before = record { before = c .before; if1 = w .0 }; block-of = w .1 }; struct-known3 = w .2 }) in
-          (omega arith, rw (w .6, w .7, w .8) (counted-taken sz d s (l .i) (l .counts) (l .best .0) (l .most) (l .inv .1) _ _ (f .2) (f .0) (f .1) refl (w .5 .taken)))
+      | inl w ↦ let p = found (record { before = record { before = c .before; if1 = w .0 }; block-of = w .1 }) in
+          (omega arith, rw (w .6, w .7, w .8) (counted-taken sz d s (l .i) (l .counts) (l .best .0) (l .most) (l .inv .1) _ _ p refl (w .5 .taken)))
       | inr v ↦ elim v [
-        | inl w ↦
-            let f = found (record { before = record { before = record { before = c .before; if1 = w .0 }; block-of = w .1 }; struct-known3 = w .2 }) in
-            (omega arith, rw (w .6, w .7, w .8) (counted-kept sz d s (l .i) (l .counts) (l .best .0) (l .most) (l .inv .1) _ _ (f .2) (f .0) (f .1) refl (w .5 .left)))
+        | inl w ↦ let p = found (record { before = record { before = c .before; if1 = w .0 }; block-of = w .1 }) in
+            (omega arith, rw (w .6, w .7, w .8) (counted-kept sz d s (l .i) (l .counts) (l .best .0) (l .most) (l .inv .1) _ _ p refl (w .5 .left)))
         | inr w ↦ (omega arith, rw (w .1, w .2, w .3) (counted-vacant sz d s (l .i) (l .counts) (l .best .0) (l .most) (l .inv .1) (slot-vacant sz d s (l .i) (omega arith) (rw (slot-of (a .t2) (l .i)) (w .0 .left)))))
       ]
     ]

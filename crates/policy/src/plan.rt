@@ -1,0 +1,58 @@
+// What a write does.
+use crate::decision::Plan;
+use crate::lookup;
+use crate::victim;
+use address::BlockNo;
+use address::PageNo;
+use cache::Directory;
+use cache::Sizes;
+use cache::VACANT;
+ghost use mathlib.Core.Path.{_≡_};
+ghost use Rattle.model.specs.Soundness.{Sound};
+ghost use Rattle.model.specs.Policy.{leastRecent, victim, evictionPlan, plan};
+ghost use Rattle.cache.specs.View.{sizesOf, directoryOf};
+ghost use Rattle.policy.specs.Views.{planOf};
+
+// The plan of a write of page n. The wear is handed on for the choice of way 7.
+pub fn plan(z: Sizes, d: Directory, n: PageNo, wear: &[u32]) -> Plan
+    requires { ⌜ Sound (sizesOf z) (directoryOf d) ⌝ }
+    ensures { λ r. ⌜ planOf r ≡ plan leastRecent (sizesOf z) (directoryOf d) (now (wear .entry)) (n .0) ⌝ }
+{
+    let i = lookup::slot_of(z, d, n);
+    if i < z.slots as usize {
+        return Plan::SlotHit(i);
+    }
+    let f = lookup::frame_with(z, d, n);
+    if f < z.frames as usize {
+        return Plan::FrameHit(f);
+    }
+    let free = lookup::slot_of(z, d, PageNo(VACANT));
+    if free < z.slots as usize {
+        return Plan::FreeSlot(free);
+    }
+    eviction_plan(z, d, wear)
+}
+
+// Ways 4 to 7, for the victim. Way 7 takes any frame, so that the wear is not read.
+pub fn eviction_plan(z: Sizes, d: Directory, wear: &[u32]) -> Plan
+    requires { ⌜ Sound (sizesOf z) (directoryOf d) ⌝ }
+    ensures { λ r. ⌜ planOf r ≡ evictionPlan leastRecent (sizesOf z) (directoryOf d) (now (wear .entry)) (victim (sizesOf z) (directoryOf d)) ⌝ }
+{
+    let v = victim::victim(z, d);
+    let b = v.block;
+    let own = lookup::frame_of(z, d, b);
+    if own < z.frames as usize {
+        return Plan::Join(b, own);
+    }
+    let free = lookup::frame_of(z, d, BlockNo(VACANT));
+    if free < z.frames as usize {
+        return Plan::Fill(b, free);
+    }
+    let fewest = victim::fewest_valid(z, d);
+    if fewest < v.pages {
+        let f = victim::least_recent_with(z, d, fewest);
+        return Plan::Exchange(b, f);
+    }
+    let f = victim::least_recent(z, d);
+    Plan::Evict(b, f)
+}

@@ -3,3 +3,4 @@ pub mod decision; // decision.rt: what is decided, as data
 pub mod lookup; // lookup.rt: where a page or a block is
 pub mod victim; // victim.rt: which block leaves the slots, and which frame makes room
 pub mod plan; // plan.rt: what a write does
+pub mod flush; // flush.rt: what a flush step rewrites, and which block stops a flush

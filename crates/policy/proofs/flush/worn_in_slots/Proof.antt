@@ -1,0 +1,98 @@
+use borrow.Author.Needs.{needs}
+use native.Mathlib.Omega.{arith}
+use mathlib.Core.Path.{_≡_, ap, _∙_}
+use mathlib.Core.Logic.{inl, inr}
+use mathlib.Core.Bool.{Bool}
+use Prim.Native.Nat.{ℕ, _-_, _/_, _≤_}
+use lib.Dec.{ltb}
+use borrow.Author.Tests.{lt-ltb, le-ltb}
+use Rattle.prelude.specs.Scan.{least}
+use Rattle.model.specs.Sizes.{vacant}
+use Rattle.model.specs.Directory.{slotAt}
+use Rattle.cache.specs.declared.Sizes.{Sizes}
+use Rattle.cache.specs.declared.Directory.{Directory}
+use Rattle.cache.specs.View.{sizesOf, directoryOf}
+use Rattle.cache.proofs.View.{slot-of}
+use Rattle.policy.proofs.Held.{Held, held}
+use Rattle.policy.proofs.Lowest.{worn-block, worn-hit, worn-miss, worn-skip, slots-lowest}
+use Rattle.policy.proofs.flush.worn_in_slots.Statement.{statement}
+use Rattle.policy.proofs.flush.worn_in_slots.Tie as tie
+
+abbrev taken : Directory → ℕ → Bool
+taken d i = ltb (slotAt (directoryOf d) i) vacant
+
+abbrev block : Sizes → Directory → ℕ → ℕ
+block z d i = slotAt (directoryOf d) i / z .«pages_per_block»
+
+abbrev Inv-loop : tie.InvT-loop
+Inv-loop z wear d low₀ i₀ low i = (i ≤ z .slots) × (low ≡ least i (worn-block (sizesOf z) wear (taken d) (block z d)) (z .blocks))
+
+abbrev μ-loop : tie.MeasureT-loop
+μ-loop z wear d low₀ i₀ low i = z .slots - i
+
+-- the page in the slot, and its block
+found : (c : tie.After-block-of Inv-loop μ-loop) → Held (sizesOf (c .before .before .before .before .before .before .before .before .args .z)) (directoryOf (c .before .before .before .before .before .before .before .before .args .t2)) (c .before .before .before .before .before .before .loop .i) (c .block-of .result .0)
+found c =
+    let start = c .before .before .before .before .before .before .before .before in
+    held (start .args .z) (start .args .t2) (start .pre .sound) (c .before .before .before .before .before .before .loop .i) _ (omega arith) (c .before .if2 .taken) (c .block-of .ensures)
+
+loop-holds : tie.Need-loop-holds Inv-loop μ-loop
+unfolding least
+loop-holds c = omega arith
+
+cast-if1 : tie.Need-cast-if1 Inv-loop μ-loop
+cast-if1 c = search needs
+
+mul-x : tie.Need-mul-x Inv-loop μ-loop
+mul-x c = search needs
+
+element-copy-out-x : tie.Need-element-copy-out-x Inv-loop μ-loop
+element-copy-out-x c = search needs
+
+block-of-requires : tie.Need-block-of-requires Inv-loop μ-loop
+block-of-requires c κs = search needs
+
+is-worn-requires : tie.Need-is-worn-requires Inv-loop μ-loop
+is-worn-requires c κs = let k = found (c .before) .low in let e = c .before .before .before .before .before .before .before .before .before .pre .wear-length in omega arith
+
+add-i : tie.Need-add-i Inv-loop μ-loop
+add-i c = search needs
+
+loop-less : tie.Need-loop-less Inv-loop μ-loop
+loop-less c = search needs
+
+loop-again : tie.Need-loop-again Inv-loop μ-loop
+loop-again c =
+    let l = c .before .before .before .before .before .loop in let a = c .before .before .before .before .before .before .before .args in let sz = sizesOf (a .z) in let x : ℕ = slotAt (directoryOf (a .t2)) (l .i) in
+    elim (c .if2 .came) [
+      | inl w ↦ let p = found (record { before = record { before = c .before; if2 = w .0 }; block-of = w .1 }) in
+          (omega arith, w .5 ∙ worn-hit sz (a .wear .now) (taken (a .t2)) (block (a .z) (a .t2)) (l .i) (l .low) (l .inv .1) _ (lt-ltb x vacant (p .page)) (p .own) (rw (← (w .3 .ensures)) (w .4 .taken)))
+      | inr v ↦ elim v [
+        | inl w ↦ let p = found (record { before = record { before = c .before; if2 = w .0 }; block-of = w .1 }) in
+            (omega arith, w .5 ∙ worn-miss sz (a .wear .now) (taken (a .t2)) (block (a .z) (a .t2)) (l .i) (l .low) (l .inv .1) _ (lt-ltb x vacant (p .page)) (p .own) (rw (← (w .3 .ensures)) (w .4 .left)))
+        | inr w ↦ (omega arith, w .1 ∙ worn-skip sz (a .wear .now) (taken (a .t2)) (block (a .z) (a .t2)) (l .i) (l .low) (l .inv .1) (le-ltb x vacant (rw (slot-of (a .t2) (l .i)) (w .0 .left))))
+      ]
+    ]
+
+returns : tie.Need-returns Inv-loop μ-loop
+returns c =
+    let l = c .before .before .loop in let a = c .before .before .before .before .args in let e : l .i ≡ a .z .slots = omega arith in
+    l .inv .1 ∙ ap (λ (n : ℕ). least n (worn-block (sizesOf (a .z)) (a .wear .now) (taken (a .t2)) (block (a .z) (a .t2))) (a .z .blocks)) e
+    ∙ slots-lowest (sizesOf (a .z)) (directoryOf (a .t2)) (c .before .before .before .before .pre .sound) (a .wear .now)
+
+pub worn-in-slots-spec : {M : Type 1} → statement M
+worn-in-slots-spec =
+    tie.close
+    (tie.spec
+    Inv-loop
+    μ-loop
+    loop-holds
+    cast-if1
+    mul-x
+    element-copy-out-x
+    block-of-requires
+    is-worn-requires
+    add-i
+    loop-less
+    loop-again
+    returns)

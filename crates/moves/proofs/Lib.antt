@@ -3,3 +3,5 @@ pub mod Offset
 pub mod Passed
 pub mod Regiven
 pub mod Stretch
+pub mod Taken
+pub mod Swap

@@ -6,10 +6,10 @@ use native.Mathlib.Omega.{arith}
 use lib.Dec.{ltb, eqb}
 use borrow.Author.Tests.{eqb-true, eqb-false, lt-ltb, le-ltb, eq-eqb, ne-eqb}
 use Rattle.prelude.specs.Scan.{first}
-use Rattle.prelude.specs.Bits.{bit, withBit}
+use Rattle.prelude.specs.Bits.{bit, mask, withBit}
 use Rattle.prelude.proofs.Tests.{by-test, clash, and-r, or-r, or-false}
 use Rattle.prelude.proofs.Scan.{first-upto}
-use Rattle.prelude.proofs.Bits.{mask-lt, bit-mask, bits-ext, bit-with-same, bit-with-other, with-lt}
+use Rattle.prelude.proofs.Bits.{mask-lt, bit-mask, bit-zero, bits-ext, bit-with-same, bit-with-other, with-lt}
 use Rattle.model.specs.Sizes.{Sizes, vacant}
 use Rattle.model.specs.Directory.{Directory, slotAt}
 use Rattle.model.specs.Soundness.{Sound}
@@ -110,3 +110,9 @@ module _ (sz : Sizes) (d : Directory) (s : Sound sz d) (b old : ℕ) where
   unfolding offsetsOf
   gathered-all i v e g = bits-ext (sz .K) v _ (g .low) (mask-lt (sz .K) _) (λ o ol.
       g .each o ol ∙ rw (met-all sz d s b i o e) (sym (bit-mask (sz .K) (λ o. bit old o || inSlots sz d (b * sz .K + o)) o ol)))
+
+-- those of the slots alone
+pub offsets-alone : (sz : Sizes) (d : Directory) (b : ℕ) → offsetsOf sz d b 0 ≡ mask (sz .K) (λ o. inSlots sz d (b * sz .K + o))
+unfolding offsetsOf
+offsets-alone sz d b = bits-ext (sz .K) _ _ (mask-lt (sz .K) _) (mask-lt (sz .K) _) (λ o l.
+    bit-mask (sz .K) (λ o. bit 0 o || inSlots sz d (b * sz .K + o)) o l ∙ ap (λ (x : Bool). x || inSlots sz d (b * sz .K + o)) (bit-zero o) ∙ sym (bit-mask (sz .K) (λ o. inSlots sz d (b * sz .K + o)) o l))

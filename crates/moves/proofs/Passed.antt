@@ -17,7 +17,7 @@ use Rattle.model.specs.Sizes.{Sizes}
 use Rattle.model.specs.Directory.{Directory, slotAt}
 use Rattle.model.specs.Soundness.{Sound}
 use Rattle.model.specs.Policy.{inBlock, slotOf}
-use Rattle.model.specs.Calls.{Page, zeroPage}
+use Rattle.model.specs.Calls.{Page, zeroPage, slotPages}
 use Rattle.model.proofs.Lookup.{offset-lt}
 use Rattle.moves.specs.Spaces.{stretchPages, filledPage}
 use Rattle.moves.proofs.Offset.{met-none, met-all, met-out, met-own, met-apart}
@@ -25,6 +25,10 @@ use Rattle.moves.proofs.Offset.{met-none, met-all, met-out, met-own, me
 pub record Passed (sz : Sizes) (d : Directory) (ps fr : List Page) (b i : ℕ) (l : List Page) : Type 0 where
   pub long : length l ≡ sz .K
   pub each : (o : ℕ) → o < sz .K → getD l o (zeroPage sz) ≡ cond (ltb (slotOf sz d (b * sz .K + o)) i) (getD ps (slotOf sz d (b * sz .K + o)) (zeroPage sz)) (getD fr o (zeroPage sz))
+
+-- the same of bytes: p-space ps, and the stretch, which was fr
+abbrev pub Filling : Sizes → Directory → List ℕ → List ℕ → ℕ → ℕ → List ℕ → Type 0
+Filling sz d ps fr b i l = Passed sz d (slotPages sz ps) (stretchPages sz fr) b i (stretchPages sz l)
 
 module _ (sz : Sizes) (d : Directory) (s : Sound sz d) (ps fr : List Page) (b : ℕ) where
   pub passed-none : length fr ≡ sz .K → Passed sz d ps fr b 0 fr

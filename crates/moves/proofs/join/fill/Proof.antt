@@ -13,13 +13,12 @@ use Rattle.cache.proofs.View.{slot-of}
 use Rattle.moves.specs.Numbers.{offsetIn}
 use Rattle.moves.specs.Spaces.{stretchPages}
 use Rattle.moves.proofs.Offset.{offset-asks, offset-own, offset-out}
-use Rattle.moves.proofs.Passed.{Passed, passed-none, passed-skip, passed-page, passed-all}
+use Rattle.moves.proofs.Passed.{Filling, passed-none, passed-skip, passed-page, passed-all}
 use Rattle.moves.proofs.join.fill.Statement.{statement}
 use Rattle.moves.proofs.join.fill.Tie as tie
 
 abbrev Inv-loop : tie.InvT-loop
-Inv-loop z pspace frame₀ b d s p i₀ frame i =
-    (i ≤ p) × (length frame ≡ length frame₀) × Passed (sizesOf z) (directoryOf d) (slotPages (sizesOf z) pspace) (stretchPages (sizesOf z) frame₀) (b .0) i (stretchPages (sizesOf z) frame)
+Inv-loop z pspace frame₀ b d s p i₀ frame i = (i ≤ p) × (length frame ≡ length frame₀) × Filling (sizesOf z) (directoryOf d) pspace frame₀ (b .0) i frame
 
 abbrev μ-loop : tie.MeasureT-loop
 μ-loop z pspace frame₀ b d s p i₀ frame i = p - i

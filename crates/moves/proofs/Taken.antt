@@ -1,0 +1,106 @@
+-- The table of what the vacated slots take, and the search that makes it: each goes on where the last one ended.
+use mathlib.Core.Path.{_≡_, sym, ap, _∙_}
+use mathlib.Core.Logic.{_⊎_, inl, inr}
+use mathlib.Core.Bool.{Bool, true, false, cond, _||_}
+use mathlib.Core.List.{List}
+use Prim.Native.Nat.{ℕ, _+_, _-_, _*_, _%_, _≤_, _<_}
+use native.Mathlib.Numerals.{add-one}
+use native.Mathlib.Omega.{arith}
+use lib.Dec.{ltb}
+use lib.ListN.{getD}
+use borrow.Author.Tests.{ltb-true}
+use Rattle.prelude.specs.Scan.{firstFrom, count, nth}
+use Rattle.prelude.specs.Bits.{bit}
+use Rattle.prelude.proofs.Tests.{by-test, and-r, not-t}
+use Rattle.prelude.proofs.Scan.{from-le, from-same, count-hit, count-miss, nth-is, nth-zero, nth-suc}
+use Rattle.prelude.proofs.Tab.{getD-tab, tab-ext}
+use Rattle.prelude.proofs.Bits.{bit-mask, bit-zero}
+use Rattle.model.specs.Sizes.{Sizes}
+use Rattle.model.specs.Directory.{Directory, slotAt, frameAt, validAt}
+use Rattle.model.specs.Policy.{inBlock, inSlots}
+use Rattle.model.specs.Moves.{unmet, spare, taken, givenSlot}
+use Rattle.moves.specs.Numbers.{regiven, offsetsOf}
+use Rattle.moves.specs.Exchange.{leaves, takenTable, tableGives}
+
+module _ (sz : Sizes) (d : Directory) (b f : ℕ) where
+  -- ---- a slot of block b, by whether the frame has its offset valid
+
+  module _ (i : ℕ) (e : inBlock sz d b i ≡ true) where
+    pub spare-met : bit (validAt d f) (slotAt d i % sz .K) ≡ true → spare sz d b f i ≡ false
+    unfolding spare
+    spare-met h = rw (e, h)
+
+    pub spare-not : bit (validAt d f) (slotAt d i % sz .K) ≡ false → spare sz d b f i ≡ true
+    unfolding spare
+    spare-not h = rw (e, h)
+
+    pub taken-met : bit (validAt d f) (slotAt d i % sz .K) ≡ true → taken sz d b f i ≡ slotAt d i % sz .K
+    unfolding taken
+    taken-met h = rw (spare-met h)
+
+    taken-spare : bit (validAt d f) (slotAt d i % sz .K) ≡ false → taken sz d b f i ≡ nth (sz .K) (unmet sz d b f) (count i (spare sz d b f))
+    unfolding taken
+    taken-spare h = rw (spare-not h)
+
+    -- what it takes is at its own offset, or at one that no page of the block goes to
+    taken-cases : taken sz d b f i < sz .K → (taken sz d b f i ≡ slotAt d i % sz .K) ⊎ (inSlots sz d (b * sz .K + taken sz d b f i) ≡ false)
+    unfolding unmet
+    taken-cases l = by-test (bit (validAt d f) (slotAt d i % sz .K))
+        (λ h. inl (taken-met h))
+        (λ h. let t = taken-spare h in let n = nth-is (sz .K) (unmet sz d b f) (count i (spare sz d b f)) (omega arith) in
+        inr (rw t (not-t (and-r (bit (validAt d f) (nth (sz .K) (unmet sz d b f) (count i (spare sz d b f)))) _ (n .0)))))
+
+  pub spare-out : (i : ℕ) → inBlock sz d b i ≡ false → spare sz d b f i ≡ false
+  unfolding spare
+  spare-out i e = rw e
+
+  -- ---- the search: the slots below i have taken, and the next old page left over is the first from at on
+
+  pub record Cursor (at i : ℕ) : Type 0 where
+    pub low : at ≤ sz .K
+    pub is : nth (sz .K) (unmet sz d b f) (count i (spare sz d b f)) ≡ firstFrom at (sz .K - at) (unmet sz d b f)
+
+  pub cursor-none : Cursor 0 0
+  unfolding count
+  cursor-none = record { low = omega arith; is = nth-zero (sz .K) (unmet sz d b f) }
+
+  pub cursor-skip : (at i : ℕ) → spare sz d b f i ≡ false → Cursor at i → Cursor at (i + 1)
+  cursor-skip at i e c = record { low = c .low; is = ap (nth (sz .K) (unmet sz d b f)) (sym (count-miss i (spare sz d b f) e)) ∙ c .is }
+
+  -- the offsets left over by the two sets are the old pages that no page of the block meets
+  pub left-is : (new at : ℕ) → new ≡ offsetsOf sz d b 0 → at ≤ sz .K → firstFrom at (sz .K - at) (leaves (validAt d f) new) ≡ firstFrom at (sz .K - at) (unmet sz d b f)
+  unfolding offsetsOf unmet
+  left-is new at e l = from-same at (sz .K - at) _ _ (λ o p q. let h : bit new o ≡ inSlots sz d (b * sz .K + o) =
+      ap (λ (x : ℕ). bit x o) e ∙ bit-mask (sz .K) (λ o. bit 0 o || inSlots sz d (b * sz .K + o)) o (omega arith) ∙ ap (λ (x : Bool). x || inSlots sz d (b * sz .K + o)) (bit-zero o) in rw h)
+
+  module _ (at i n : ℕ) (c : Cursor at i) (is : n ≡ firstFrom at (sz .K - at) (unmet sz d b f)) where
+    pub cursor-le : n ≤ sz .K
+    cursor-le = rw is (from-le (sz .K) (unmet sz d b f) at (c .low))
+
+    pub cursor-next : (m : ℕ) → spare sz d b f i ≡ true → m ≡ cond (ltb n (sz .K)) (n + 1) n → Cursor m (i + 1)
+    cursor-next m e em = rw em (record {
+      low = by-test (ltb n (sz .K)) (λ t. rw t (let l = ltb-true n (sz .K) t in omega arith)) (λ t. rw t cursor-le);
+      is = ap (nth (sz .K) (unmet sz d b f)) (sym (count-hit i (spare sz d b f) e) ∙ add-one (count i (spare sz d b f))) ∙ nth-suc (sz .K) (unmet sz d b f) (count i (spare sz d b f)) at n (c .low) (c .is) is;
+    })
+
+    pub cursor-taken : inBlock sz d b i ≡ true → bit (validAt d f) (slotAt d i % sz .K) ≡ false → n ≡ taken sz d b f i
+    cursor-taken e h = is ∙ sym (c .is) ∙ sym (taken-spare i e h)
+
+  -- ---- the table
+
+  pub table-at : (i : ℕ) → i < 128 → inBlock sz d b i ≡ true → getD (takenTable sz d b f) i 0 ≡ taken sz d b f i
+  unfolding takenTable
+  table-at i l e = getD-tab 128 (λ i. cond (inBlock sz d b i) (taken sz d b f i) (sz .K)) 0 i l ∙ rw e
+
+  pub table-free : (t : List ℕ) → t ≡ takenTable sz d b f → (i : ℕ) → i < 128 → inBlock sz d b i ≡ true → getD t i 0 < sz .K
+      → (getD t i 0 ≡ slotAt d i % sz .K) ⊎ (inSlots sz d (b * sz .K + getD t i 0) ≡ false)
+  table-free t q i l e = let w : getD t i 0 ≡ taken sz d b f i = ap (λ (x : List ℕ). getD x i 0) q ∙ table-at i l e in rw w (λ h. taken-cases i e h)
+
+  -- the numbers that follow it
+  pub table-gives : (t : List ℕ) → t ≡ takenTable sz d b f → regiven sz d b (tableGives (sz .K) (frameAt d f) t) ≡ regiven sz d b (givenSlot sz d b f)
+  unfolding regiven givenSlot
+  table-gives t q = let p = tab-ext 0 128 (λ i. cond (inBlock sz d b i) (tableGives (sz .K) (frameAt d f) t i) (slotAt d i)) (λ i. cond (inBlock sz d b i) (givenSlot sz d b f i) (slotAt d i))
+      (λ i l. by-test (inBlock sz d b i)
+      (λ e. rw e (rw (ap (λ (x : List ℕ). getD x i 0) q ∙ table-at i l e)))
+      (λ e. rw e)) in
+      λ j. record { slots = p j; frames = d .frames; valid = d .valid; recency = d .recency }

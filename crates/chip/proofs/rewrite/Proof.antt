@@ -64,12 +64,11 @@ part-program-block-start c = search needs
 
 part-program-block-end : tie.Need-part-program-block-end
 part-program-block-end c =
-    let erased = c .before .before .before .before .before .before in
-    let reads = erased .before .before .before .before .before in
-    omega (arith, fits (reads .before .before .before))
+    let sized = c .before .before .before .before .before .before .before .before .before .before .before .before .before .before in
+    omega (arith, fits sized)
 
 program-block-requires : tie.Need-program-block-requires
-program-block-requires c κs = search needs
+program-block-requires c κs = record { limits = search needs; b-lt = search needs; flash-length = search needs; stretch-length = search needs }
 
 same-length : tie.Need-same-length
 same-length c = search needs
@@ -85,8 +84,8 @@ unfolding directoryOf
 returns c =
     let programs = c .before .before in
     let erased = programs .before .before .before .before .before .before .before .before in
-    let reads = erased .before .before .before .before .before in
-    let sized = reads .before .before .before in
+    let reads = programs .before .before .before .before .before .before .before .before .before .before .before .before .before in
+    let sized = programs .before .before .before .before .before .before .before .before .before .before .before .before .before .before .before .before in
     let at = sized .before .before in
     record {
       reads-are = ap (λ (x : ℕ). start at .args .z .«pages_per_block» - x) (counted at);

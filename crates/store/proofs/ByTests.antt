@@ -12,7 +12,8 @@ use Rattle.prelude.proofs.Tests.{each}
 use Rattle.model.specs.Sizes.{Sizes, vacant, sizesOk}
 use Rattle.model.specs.Directory.{vacantDirectory, blankCache}
 use Rattle.model.specs.Calls.{Buffers, Opened, openDone, refused, lentOk, openStore}
-use Rattle.store.specs.View.{buffers, lengthsOk}
+use Rattle.answer.specs.Carried.{buffers}
+use Rattle.store.specs.View.{lengthsOk}
 
 -- the test of the four lengths is the model's
 pub lengths-lent : (sz : Sizes) (flash wear pspace bspace : List ℕ) → lengthsOk sz (length flash) (length wear) (length pspace) (length bspace) ≡ lentOk sz (buffers flash wear pspace bspace)

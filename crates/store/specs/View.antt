@@ -16,9 +16,6 @@ cacheOf c = record { sizes = sizesOf (c .sizes); directory = directoryOf (c .dir
 
 -- ---- buffers, and what a call hands back
 
-abbrev pub buffers : List ℕ → List ℕ → List ℕ → List ℕ → calls.Buffers
-buffers flash wear pspace bspace = record { flash = flash; wear = wear; pspace = pspace; bspace = bspace }
-
 abbrev pub openedOf : Opened → calls.Opened
 openedOf r = record { answer = openingOf (r .answer); cache = cacheOf (r .cache) }
 

@@ -8,9 +8,10 @@ use cache::Sizes;
 ghost use mathlib.Core.Path.{_≡_};
 ghost use Rattle.model.specs.Directory.{blankCache};
 ghost use Rattle.model.specs.Calls.{openStore};
+ghost use Rattle.answer.specs.Carried.{buffers};
 ghost use Rattle.answer.specs.Numbers.{refusalOf};
 ghost use Rattle.cache.specs.View.{sizesOf};
-ghost use Rattle.store.specs.View.{cacheOf, buffers, openedOf};
+ghost use Rattle.store.specs.View.{cacheOf, openedOf};
 
 impl Cache {
     // The record before any opening: every call on it is refused.

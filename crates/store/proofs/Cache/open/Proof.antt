@@ -7,7 +7,7 @@ use Rattle.model.specs.Sizes.{sizesOk}
 use Rattle.model.specs.Calls.{lentOk, openDone}
 use Rattle.model.proofs.Soundness.{limits-of}
 use Rattle.cache.specs.View.{sizesOf}
-use Rattle.store.specs.View.{buffers}
+use Rattle.answer.specs.Carried.{buffers}
 use Rattle.store.proofs.ByTests.{lengths-lent, open-size, open-buffer, open-overworn, open-done}
 use Rattle.store.proofs.Cache.open.Statement.{statement}
 use Rattle.store.proofs.Cache.open.Tie as tie

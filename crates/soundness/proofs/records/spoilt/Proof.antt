@@ -1,0 +1,49 @@
+use borrow.Author.Needs.{needs}
+use Prim.Native.Nat.{_-_}
+use Rattle.soundness.proofs.records.spoilt.Statement.{statement}
+use Rattle.soundness.proofs.records.spoilt.Tie as tie
+
+abbrev Inv-loop : tie.InvT-loop
+Inv-loop s d a e x count₀ i₀ count i = Unit {0}
+
+abbrev μ-loop : tie.MeasureT-loop
+μ-loop s d a e x count₀ i₀ count i = e - i
+
+loop-holds : tie.Need-loop-holds Inv-loop μ-loop
+loop-holds c = search needs
+
+with-requires : tie.Need-with-requires Inv-loop μ-loop
+with-requires c κs = search needs
+
+sound-requires : tie.Need-sound-requires Inv-loop μ-loop
+sound-requires c κs = search needs
+
+more-requires : tie.Need-more-requires Inv-loop μ-loop
+more-requires c κs = search needs
+
+add-i : tie.Need-add-i Inv-loop μ-loop
+add-i c = search needs
+
+loop-less : tie.Need-loop-less Inv-loop μ-loop
+loop-less c = search needs
+
+loop-again : tie.Need-loop-again Inv-loop μ-loop
+loop-again c = search needs
+
+returns : tie.Need-returns Inv-loop μ-loop
+returns c = search needs
+
+pub spoilt-spec : {M : Type 1} → statement M
+spoilt-spec =
+    tie.close
+    (tie.spec
+    Inv-loop
+    μ-loop
+    loop-holds
+    with-requires
+    sound-requires
+    more-requires
+    add-i
+    loop-less
+    loop-again
+    returns)

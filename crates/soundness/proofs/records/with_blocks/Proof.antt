@@ -1,0 +1,57 @@
+use borrow.Author.Needs.{needs}
+use Prim.Native.Nat.{_-_}
+use Rattle.soundness.proofs.records.with_blocks.Statement.{statement}
+use Rattle.soundness.proofs.records.with_blocks.Tie as tie
+
+abbrev Inv-loop : tie.InvT-loop
+Inv-loop s r₀ f₀ r f = Unit {0}
+
+abbrev μ-loop : tie.MeasureT-loop
+μ-loop s r₀ f₀ r f = s .frames - f
+
+loop-holds : tie.Need-loop-holds Inv-loop μ-loop
+loop-holds c = search needs
+
+cast-with-frame : tie.Need-cast-with-frame Inv-loop μ-loop
+cast-with-frame c = search needs
+
+with-frame-requires : tie.Need-with-frame-requires Inv-loop μ-loop
+with-frame-requires c κs = search needs
+
+cast-with-valid : tie.Need-cast-with-valid Inv-loop μ-loop
+cast-with-valid c = search needs
+
+all-pages-requires : tie.Need-all-pages-requires Inv-loop μ-loop
+all-pages-requires c κs = search needs
+
+with-valid-requires : tie.Need-with-valid-requires Inv-loop μ-loop
+with-valid-requires c κs = search needs
+
+add-f : tie.Need-add-f Inv-loop μ-loop
+add-f c = search needs
+
+loop-less : tie.Need-loop-less Inv-loop μ-loop
+loop-less c = search needs
+
+loop-again : tie.Need-loop-again Inv-loop μ-loop
+loop-again c = search needs
+
+returns : tie.Need-returns Inv-loop μ-loop
+returns c = search needs
+
+pub with-blocks-spec : {M : Type 1} → statement M
+with-blocks-spec =
+    tie.close
+    (tie.spec
+    Inv-loop
+    μ-loop
+    loop-holds
+    cast-with-frame
+    with-frame-requires
+    cast-with-valid
+    all-pages-requires
+    with-valid-requires
+    add-f
+    loop-less
+    loop-again
+    returns)

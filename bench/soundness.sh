@@ -3,5 +3,6 @@
 set -eu
 cd "$(dirname "$0")/.."
 rt staticlib bench_sound | tail -n 1
-rustc --edition 2021 -O bench/soundness.rs -L target/staticlib -l static=bench_sound -o target/soundness_bench
-target/soundness_bench
+mkdir -p target/bench
+rustc --edition 2021 -O bench/soundness.rs -L target/staticlib -l static=bench_sound -o target/bench/soundness
+target/bench/soundness

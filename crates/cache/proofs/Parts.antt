@@ -21,6 +21,10 @@ use Rattle.cache.specs.Filter.{inFilter, laidAt}
 use Rattle.cache.specs.Soundness.{slotGood, Laid, Unmet, Passed}
 use Rattle.cache.proofs.Marks.{laid-keeps, laid-has}
 
+spread : (a t u v : Bool) → (a || ((t && u) && v)) ≡ ((a || t) && ((a || u) && (a || v)))
+spread true t u v = refl
+spread false t u v = and-assoc t u v
+
 module _ (sz : Sizes) (d : Directory) where
   -- ---- frames
 
@@ -33,10 +37,6 @@ module _ (sz : Sizes) (d : Directory) where
       (λ t. laid-keeps seen (frameAt d f % 4096 * sz .K) (validAt d f) long (frameAt d g * sz .K + o) (h g o (let ne = eqb-false g f t in omega arith) ol small q))
 
   -- ---- slots
-
-  spread : (a t u v : Bool) → (a || ((t && u) && v)) ≡ ((a || t) && ((a || u) && (a || v)))
-  spread true t u v = refl
-  spread false t u v = and-assoc t u v
 
   -- a slot compared with each slot before it and each frame
   pub slot-compared : (j : ℕ)
@@ -79,20 +79,21 @@ module _ (sz : Sizes) (d : Directory) where
         clash (sym (ap (inFilter seen) same) ∙ h f (y % sz .K) l (omega arith) (omega arith) (and-r (eqb (frameAt d f) (y / sz .K)) (bit (validAt d f) (y % sz .K)) t)) clear)
         (λ t. t))
 
-    unmet-good : (i : ℕ) (seen : List ℕ) → Tested i seen → (j : ℕ) → i ≤ j → Unmet (sz .N * sz .K) (d .slots) i seen j → slotGood sz d j ≡ true
-    unmet-good i seen h j ij (inl v) = sym (slot-compared j) ∙ or-l _ (eq-eqb (slotAt d j) vacant v)
-    unmet-good i seen h j ij (inr u) = sym (slot-compared j) ∙ or-r (eqb (slotAt d j) vacant) (and-i
+    -- a slot that the filter has let pass
+    unmet-good : (i : ℕ) (seen : List ℕ) → Tested i seen → (j : ℕ) → Unmet (sz .N * sz .K) (d .slots) i seen j → slotGood sz d j ≡ true
+    unmet-good i seen h j (inl v) = sym (slot-compared j) ∙ or-l _ (eq-eqb (slotAt d j) vacant v)
+    unmet-good i seen h j (inr u) = sym (slot-compared j) ∙ or-r (eqb (slotAt d j) vacant) (and-i
         (and-i (lt-ltb _ _ (u .0)) (all-of j (λ e. not (eqb (slotAt d e) (slotAt d j))) (λ e l. not-i (ne-eqb (slotAt d e) (slotAt d j) (λ q. by-test (ltb e i)
         (λ t. clash (sym (ap (inFilter seen) q) ∙ h .marked e (ltb-true e i t) (rw q (u .0))) (u .1))
         (λ t. u .2 e (ltb-false e i t) l q))))))
         (all-of (sz .B) (λ f. not (inFrame sz d (slotAt d j) f)) (outside-frames seen (h .laid) (slotAt d j) (u .0) (u .1))))
 
-    -- slots that the filter has let pass
+    -- all of them, up to j
     pub tested-passed : (i j : ℕ) (seen next : List ℕ) → Tested i seen → Passed (sz .N * sz .K) (d .slots) i j seen next → Tested j next
     tested-passed i j seen next h p = record {
       good = all-of j (slotGood sz d) (λ e l. by-test (ltb e i)
           (λ t. all-at i (slotGood sz d) (h .good) e (ltb-true e i t))
-          (λ t. let k = ltb-false e i t in unmet-good i seen h e k (p .unmet e k l)));
+          (λ t. let k = ltb-false e i t in unmet-good i seen h e (p .unmet e k l)));
       long = p .long;
       laid = λ f o l ol small q. p .kept _ (h .laid f o l ol small q);
       marked = λ e l q. by-test (ltb e i)

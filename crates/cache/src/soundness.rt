@@ -1,5 +1,6 @@
 // The soundness test. One filter takes the frames' valid pages and then the slots' page numbers one by one; only where a
-// bit is met already are entries compared. The parts are lent plain numbers.
+// bit is met already are entries compared. The parts are lent the entries as plain numbers, since an array of page or block
+// numbers cannot be lent.
 use crate::Directory;
 use crate::Sizes;
 use crate::VACANT;

@@ -9,11 +9,11 @@ use cache::Sizes;
 use cache::VACANT;
 use records::Entry;
 use records::crowded;
+use records::entries;
 use records::filled;
 use records::largest;
 use records::middling;
 use records::sizes;
-use records::spoilt;
 ghost use Prim.Native.Nat.{_≤_};
 
 fn main() {
@@ -85,26 +85,12 @@ fn largest_records() {
 fn crowded_records(s: Sizes) {
     let alike = crowded(s, 512);
     whole(b"slots with equal remainders", s, alike);
-    each(
-        b"page 4608, in slot 0, again",
-        s,
-        alike,
-        1,
-        128,
-        Entry::Slot(4608),
-        127,
-    );
+    let again = entries(s, alike, 1, 128);
+    again.each(b"page 4608, in slot 0, again", Entry::Slot(4608), 127);
     let met = crowded(s, 0);
     whole(b"slots with remainders of pages in frames", s, met);
-    each(
-        b"page 511, in frame 7, in a slot",
-        s,
-        met,
-        0,
-        128,
-        Entry::Slot(511),
-        128,
-    );
+    let all = entries(s, met, 0, 128);
+    all.each(b"page 511, in frame 7, in a slot", Entry::Slot(511), 128);
 }
 
 // The same with entries past P and B, and bits past K.
@@ -124,35 +110,12 @@ fn slots_in_turn(s: Sizes, d: Directory, p: usize, n: u32, end: u32)
     requires { ⌜ 1 ≤ p ⌝ }
 {
     let all = p as u64;
-    each(b"slot vacated", s, d, 0, p, Entry::Slot(VACANT), 0);
-    each(
-        b"slot with the page of slot 0",
-        s,
-        d,
-        0,
-        p,
-        Entry::Slot(n),
-        all - 1,
-    );
-    each(
-        b"slot with page 0, valid in frame 0",
-        s,
-        d,
-        0,
-        p,
-        Entry::Slot(0),
-        all,
-    );
-    each(b"slot with page N * K", s, d, 0, p, Entry::Slot(end), all);
-    each(
-        b"slot with the number before vacant",
-        s,
-        d,
-        0,
-        p,
-        Entry::Slot(4294967294),
-        all,
-    );
+    let slots = entries(s, d, 0, p);
+    slots.each(b"slot vacated", Entry::Slot(VACANT), 0);
+    slots.each(b"slot with the page of slot 0", Entry::Slot(n), all - 1);
+    slots.each(b"slot with page 0, valid in frame 0", Entry::Slot(0), all);
+    slots.each(b"slot with page N * K", Entry::Slot(end), all);
+    slots.each(b"slot with vacant less 1", Entry::Slot(4294967294), all);
 }
 
 // Each of the B frames in turn. Frame f holds block f, and n is N.
@@ -160,110 +123,43 @@ fn frames_in_turn(s: Sizes, d: Directory, b: usize, n: u32)
     requires { ⌜ 1 ≤ b ⌝ }
 {
     let all = b as u64;
-    each(b"frame with block N", s, d, 0, b, Entry::Frame(n), all);
-    each(
-        b"frame with the block of frame 1",
-        s,
-        d,
-        0,
-        b,
-        Entry::Frame(1),
-        all - 1,
-    );
-    each(
-        b"frame with no valid page",
-        s,
-        d,
-        0,
-        b,
-        Entry::Valid(0),
-        all,
-    );
-    each(b"frame with one valid page", s, d, 0, b, Entry::Valid(1), 0);
-    each(
-        b"frame vacant, its valid pages kept",
-        s,
-        d,
-        0,
-        b,
-        Entry::Frame(VACANT),
-        all,
-    );
-    each(
-        b"vacant frame with a valid page",
-        s,
-        Directory::vacant(),
-        0,
-        b,
-        Entry::Valid(1),
-        all,
-    );
+    let frames = entries(s, d, 0, b);
+    frames.each(b"frame with block N", Entry::Frame(n), all);
+    frames.each(b"frame with block 1 again", Entry::Frame(1), all - 1);
+    frames.each(b"frame with no valid page", Entry::Valid(0), all);
+    frames.each(b"frame with one valid page", Entry::Valid(1), 0);
+    frames.each(b"frame vacant but for its bits", Entry::Frame(VACANT), all);
+    let free = entries(s, Directory::vacant(), 0, b);
+    free.each(b"vacant frame with a valid page", Entry::Valid(1), all);
 }
 
 // Each of the first B entries of the order in turn. Entry i is i.
 fn order_in_turn(s: Sizes, d: Directory, b: u8)
     requires { ⌜ 1 ≤ b ⌝ }
 {
-    let end = b as usize;
     let all = b as u64;
-    each(
-        b"order with frame 1 again",
-        s,
-        d,
-        0,
-        end,
-        Entry::Order(1),
-        all - 1,
-    );
-    each(b"order with frame B", s, d, 0, end, Entry::Order(b), all);
-    each(
-        b"order with frame 255",
-        s,
-        d,
-        0,
-        end,
-        Entry::Order(255),
-        all,
-    );
+    let order = entries(s, d, 0, b as usize);
+    order.each(b"order with frame 1 again", Entry::Order(1), all - 1);
+    order.each(b"order with frame B", Entry::Order(b), all);
+    order.each(b"order with frame 255", Entry::Order(255), all);
 }
 
 // With 16 pages in a block: valid bits at 15, 16 and 63.
 fn bits_at_k(s: Sizes, d: Directory) {
-    each(b"valid bit at K - 1", s, d, 0, 5, Entry::Valid(32768), 0);
-    each(b"valid bit at K", s, d, 0, 5, Entry::Valid(65537), 5);
-    each(
-        b"valid bit at 63",
-        s,
-        d,
-        0,
-        5,
-        Entry::Valid(9223372036854775809),
-        5,
-    );
+    let frames = entries(s, d, 0, 5);
+    frames.each(b"valid bit at K - 1", Entry::Valid(32768), 0);
+    frames.each(b"valid bit at K", Entry::Valid(65537), 5);
+    frames.each(b"valid bit at 63", Entry::Valid(9223372036854775809), 5);
 }
 
 // With 100 slots and 5 frames: each entry past them in turn.
 fn entries_past(s: Sizes, d: Directory) {
-    each(
-        b"slot past P with a page",
-        s,
-        d,
-        100,
-        128,
-        Entry::Slot(200),
-        28,
-    );
-    each(b"frame past B with a block", s, d, 5, 8, Entry::Frame(9), 3);
-    each(
-        b"frame past B with a valid page",
-        s,
-        d,
-        5,
-        8,
-        Entry::Valid(1),
-        3,
-    );
-    each(b"order past B with frame 0", s, d, 5, 8, Entry::Order(0), 3);
+    let slots = entries(s, d, 100, 128);
+    slots.each(b"slot past P with a page", Entry::Slot(200), 28);
+    let frames = entries(s, d, 5, 8);
+    frames.each(b"frame past B with a block", Entry::Frame(9), 3);
+    frames.each(b"frame past B with a valid page", Entry::Valid(1), 3);
+    frames.each(b"order past B with frame 0", Entry::Order(0), 3);
 }
 
 // These sizes with nothing cached.
@@ -274,9 +170,4 @@ fn vacant(name: &[u8], s: Sizes, expected: bool) {
 // A record that must be sound.
 fn whole(name: &[u8], s: Sizes, d: Directory) {
     report::verdict(name, true, d.sound(s));
-}
-
-// Each entry from a to e in turn replaced by x: so many must be unsound.
-fn each(name: &[u8], s: Sizes, d: Directory, a: usize, e: usize, x: Entry, expected: u64) {
-    report::tally(name, expected, spoilt(s, d, a, e, x));
 }

@@ -1,4 +1,5 @@
 // Records to test: sizes, filled directories, and counts of spoilt ones that are found unsound.
+use crate::report;
 use address::BlockNo;
 use address::PageNo;
 use cache::Directory;
@@ -78,15 +79,43 @@ pub enum Entry {
     Order(u8),
 }
 
-// How many of the entries from a to e, each alone replaced by x, make the record unsound.
-pub fn spoilt(s: Sizes, d: Directory, a: usize, e: usize, x: Entry) -> u64 {
-    let mut count = 0u64;
-    let mut i = a;
-    while i < e {
-        count = more(count, with(d, i, x).sound(s));
-        i += 1;
+// A run of entries of a record.
+pub struct Run {
+    pub sizes: Sizes,
+    pub directory: Directory,
+    pub from: usize,
+    pub to: usize,
+}
+
+// The entries of this record from one index to another.
+pub fn entries(sizes: Sizes, directory: Directory, from: usize, to: usize) -> Run {
+    Run {
+        sizes,
+        directory,
+        from,
+        to,
     }
-    count
+}
+
+impl Run {
+    // Each entry alone is replaced by x: so many of these records must be unsound.
+    pub fn each(self, name: &[u8], x: Entry, expected: u64) {
+        report::tally(name, expected, self.unsound(x));
+    }
+
+    // How many of these records are unsound.
+    fn unsound(self, x: Entry) -> u64 {
+        let s = self.sizes;
+        let d = self.directory;
+        let to = self.to;
+        let mut count = 0u64;
+        let mut i = self.from;
+        while i < to {
+            count = more(count, with(d, i, x).sound(s));
+            i += 1;
+        }
+        count
+    }
 }
 
 // One more where a record is not sound.

@@ -1,13 +1,13 @@
 use borrow.Author.Needs.{needs}
 use Prim.Native.Nat.{_-_}
-use Rattle.soundness.proofs.records.spoilt.Statement.{statement}
-use Rattle.soundness.proofs.records.spoilt.Tie as tie
+use Rattle.soundness.proofs.records.Run.unsound.Statement.{statement}
+use Rattle.soundness.proofs.records.Run.unsound.Tie as tie
 
 abbrev Inv-loop : tie.InvT-loop
-Inv-loop s d a e x count₀ i₀ count i = Unit {0}
+Inv-loop x s d to count₀ i₀ count i = Unit {0}
 
 abbrev μ-loop : tie.MeasureT-loop
-μ-loop s d a e x count₀ i₀ count i = e - i
+μ-loop x s d to count₀ i₀ count i = to - i
 
 loop-holds : tie.Need-loop-holds Inv-loop μ-loop
 loop-holds c = search needs
@@ -33,8 +33,8 @@ loop-again c = search needs
 returns : tie.Need-returns Inv-loop μ-loop
 returns c = search needs
 
-pub spoilt-spec : {M : Type 1} → statement M
-spoilt-spec =
+pub unsound-spec : {M : Type 1} → statement M
+unsound-spec =
     tie.close
     (tie.spec
     Inv-loop

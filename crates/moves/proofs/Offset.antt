@@ -56,25 +56,25 @@ module _ (sz : Sizes) (d : Directory) (s : Sound sz d) (b i o : ℕ) (e : o ≡ 
 
 -- ---- whether the page at offset o stands in a slot below i
 
-module _ (sz : Sizes) (d : Directory) (s : Sound sz d) (b : ℕ) where
-  abbrev pub met : ℕ → ℕ → Bool
-  met i o = ltb (slotOf sz d (b * sz .K + o)) i
+abbrev pub met : Sizes → Directory → ℕ → ℕ → ℕ → Bool
+met sz d b i o = ltb (slotOf sz d (b * sz .K + o)) i
 
-  pub met-none : (o : ℕ) → met 0 o ≡ false
+module _ (sz : Sizes) (d : Directory) (s : Sound sz d) (b : ℕ) where
+  pub met-none : (o : ℕ) → met sz d b 0 o ≡ false
   met-none o = le-ltb (slotOf sz d (b * sz .K + o)) 0 (omega arith)
 
-  pub met-all : (i o : ℕ) → i ≡ sz .P → met i o ≡ inSlots sz d (b * sz .K + o)
+  pub met-all : (i o : ℕ) → i ≡ sz .P → met sz d b i o ≡ inSlots sz d (b * sz .K + o)
   unfolding inSlots
   met-all i o e = rw e
 
   -- another offset than that of slot i
-  pub met-other : (i o : ℕ) → i < sz .P → (slotAt d i ≡ b * sz .K + o → ⊥) → met (i + 1) o ≡ met i o
+  met-other : (i o : ℕ) → i < sz .P → (slotAt d i ≡ b * sz .K + o → ⊥) → met sz d b (i + 1) o ≡ met sz d b i o
   unfolding slotOf
   met-other i o l h = let p : ℕ → Bool = λ j. eqb (slotAt d j) (b * sz .K + o) in
       first-upto (sz .P) p i l ∙ rw (ne-eqb (slotAt d i) (b * sz .K + o) h) (or-false (ltb (first (sz .P) p) i))
 
   -- a slot of another block changes nothing
-  pub met-out : b < sz .N → (i o : ℕ) → i < sz .P → o < sz .K → inBlock sz d b i ≡ false → met (i + 1) o ≡ met i o
+  pub met-out : b < sz .N → (i o : ℕ) → i < sz .P → o < sz .K → inBlock sz d b i ≡ false → met sz d b (i + 1) o ≡ met sz d b i o
   met-out bl i o l ol e = met-other i o l (λ q. clash (in-block sz d b i (rw q (page-vacant sz (s .limits) b o bl ol)) (ap (λ (x : ℕ). x / sz .K) q ∙ page-div sz (s .limits) b o ol)) e)
 
   module _ (i : ℕ) (l : i < sz .P) (e : inBlock sz d b i ≡ true) where
@@ -82,14 +82,14 @@ module _ (sz : Sizes) (d : Directory) (s : Sound sz d) (b : ℕ) where
     pub met-own : slotOf sz d (b * sz .K + slotAt d i % sz .K) ≡ i
     met-own = let k = block-of sz d b i e in rw (page-split sz (s .limits) (slotAt d i) b (k .1)) (own-slot sz d s i l (k .0))
 
-    pub met-apart : (o : ℕ) → o < sz .K → (o ≡ slotAt d i % sz .K → ⊥) → met (i + 1) o ≡ met i o
+    pub met-apart : (o : ℕ) → o < sz .K → (o ≡ slotAt d i % sz .K → ⊥) → met sz d b (i + 1) o ≡ met sz d b i o
     met-apart o ol ne = met-other i o l (λ q. ne (sym (page-mod sz (s .limits) b o ol) ∙ ap (λ (x : ℕ). x % sz .K) (sym q)))
 
 -- ---- the set gathered from the slots below i, with those of old
 
 pub record Gathered (sz : Sizes) (d : Directory) (b old i v : ℕ) : Type 0 where
   pub low : v < 2 ^ sz .K
-  pub each : (o : ℕ) → o < sz .K → bit v o ≡ (bit old o || ltb (slotOf sz d (b * sz .K + o)) i)
+  pub each : (o : ℕ) → o < sz .K → bit v o ≡ (bit old o || met sz d b i o)
 
 module _ (sz : Sizes) (d : Directory) (s : Sound sz d) (b old : ℕ) where
   pub gathered-none : old < 2 ^ sz .K → Gathered sz d b old 0 old

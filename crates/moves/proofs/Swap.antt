@@ -19,7 +19,7 @@ use Rattle.model.specs.Soundness.{Sound}
 use Rattle.model.specs.Policy.{inBlock, slotOf, inSlots}
 use Rattle.model.specs.Moves.{taken, filled, exchangedPages}
 use Rattle.model.specs.Calls.{zeroPage, slotPages, framePages}
-use Rattle.moves.specs.Spaces.{spaces, stretchPages}
+use Rattle.moves.specs.Spaces.{spaces, stretchPages, Joins}
 use Rattle.moves.specs.Exchange.{takenTable, swappedPage, Swapped}
 use Rattle.moves.proofs.Offset.{met-own}
 use Rattle.moves.proofs.Passed.{Filling, passed-page}
@@ -69,17 +69,17 @@ module _ (sz : Sizes) (d : Directory) (s : Sound sz d) (t ps fr : List ℕ) (b :
         (λ u. rw u (done-skip (zeroPage sz) (sz .P) _ (slotPages sz ps) i (slotPages sz ps₁) took (taken-none (ltb-false n (sz .K) u))))
 
 -- a stretch and p-space that were exchanged by the table of what each slot takes, seen whole
-pub exchanged-stretch : (sz : Sizes) (d : Directory) → Sound sz d → (ps bs : List ℕ) → 0 < sz .K → length bs ≡ sz .B * sz .K * sz .S → (b f : ℕ) → f < sz .B
-    → (t : List ℕ) → t ≡ takenTable sz d b f → (ps₁ fr₁ : List ℕ) → length fr₁ ≡ sz .K * sz .S → Swapped sz d b t ps (pageAt (sz .K * sz .S) bs f) ps₁ fr₁
+pub exchanged-stretch : (sz : Sizes) (d : Directory) (b f : ℕ) (ps bs : List ℕ) (joins : Joins sz d b f ps bs) (t : List ℕ) → t ≡ takenTable sz d b f
+    → (ps₁ fr₁ : List ℕ) → length fr₁ ≡ sz .K * sz .S → Swapped sz d b t ps (pageAt (sz .K * sz .S) bs f) ps₁ fr₁
     → spaces sz ps₁ (putPage (sz .K * sz .S) bs f fr₁) ≡ exchangedPages (zeroPage sz) sz d (spaces sz ps bs) b f
 unfolding spaces exchangedPages swappedPage
-exchanged-stretch sz d s ps bs kp bsl b f fl t q ps₁ fr₁ frl h =
+exchanged-stretch sz d b f ps bs joins t q ps₁ fr₁ frl h =
     let p : slotPages sz ps₁ ≡ tab (sz .P) (λ i. cond (inBlock sz d b i && ltb (taken sz d b f i) (sz .K)) (getD (framePages sz bs) (f * sz .K + taken sz d b f i) (zeroPage sz)) (getD (slotPages sz ps) i (zeroPage sz))) =
     h .pspace ∙ tab-ext (zeroPage sz) (sz .P) _ _ (λ i l. by-test (inBlock sz d b i)
-    (λ e. let w : getD t i 0 ≡ taken sz d b f i = ap (λ (x : List ℕ). getD x i 0) q ∙ table-at sz d b f i (let k = s .limits .P-high in omega arith) e in
+    (λ e. let w : getD t i 0 ≡ taken sz d b f i = ap (λ (x : List ℕ). getD x i 0) q ∙ table-at sz d b f i (let k = joins .sound .limits .P-high in omega arith) e in
     rw (e, w) (by-test (ltb (taken sz d b f i) (sz .K))
-    (λ u. rw u (block-page (sz .S) (sz .K) (sz .B) bs bsl (zeroPage sz) f (taken sz d b f i) fl (ltb-true _ (sz .K) u)))
+    (λ u. rw u (block-page (sz .S) (sz .K) (sz .B) bs (joins .bspace-long) (zeroPage sz) f (taken sz d b f i) (joins .frame-lt) (ltb-true _ (sz .K) u)))
     (λ u. rw u)))
     (λ e. rw e)) in
-    let r : framePages sz (putPage (sz .K * sz .S) bs f fr₁) ≡ filled (zeroPage sz) sz d (spaces sz ps bs) b f = filled-stretch sz d ps bs kp bsl b f fl fr₁ frl (h .stretch) in
+    let r : framePages sz (putPage (sz .K * sz .S) bs f fr₁) ≡ filled (zeroPage sz) sz d (spaces sz ps bs) b f = filled-stretch sz d b f ps bs joins fr₁ frl (h .stretch) in
     λ j. record { flash = []; pspace = p j; bspace = r j }

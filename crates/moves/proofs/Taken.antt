@@ -1,7 +1,7 @@
 -- The table of what the vacated slots take, and the search that makes it: each goes on where the last one ended.
 use mathlib.Core.Path.{_≡_, sym, ap, _∙_}
 use mathlib.Core.Logic.{_⊎_, inl, inr}
-use mathlib.Core.Bool.{Bool, true, false, cond, _||_}
+use mathlib.Core.Bool.{true, false, cond}
 use mathlib.Core.List.{List}
 use Prim.Native.Nat.{ℕ, _+_, _-_, _*_, _%_, _≤_, _<_}
 use native.Mathlib.Numerals.{add-one}
@@ -14,13 +14,14 @@ use Rattle.prelude.specs.Bits.{bit}
 use Rattle.prelude.proofs.Tests.{by-test, and-r, not-t}
 use Rattle.prelude.proofs.Scan.{from-le, from-same, count-hit, count-miss, nth-is, nth-zero, nth-suc}
 use Rattle.prelude.proofs.Tab.{getD-tab, tab-ext}
-use Rattle.prelude.proofs.Bits.{bit-mask, bit-zero}
+use Rattle.prelude.proofs.Bits.{bit-mask}
 use Rattle.model.specs.Sizes.{Sizes}
 use Rattle.model.specs.Directory.{Directory, slotAt, frameAt, validAt}
 use Rattle.model.specs.Policy.{inBlock, inSlots}
 use Rattle.model.specs.Moves.{unmet, spare, taken, givenSlot}
 use Rattle.moves.specs.Numbers.{regiven, offsetsOf}
 use Rattle.moves.specs.Exchange.{leaves, takenTable, tableGives}
+use Rattle.moves.proofs.Offset.{offsets-alone}
 
 module _ (sz : Sizes) (d : Directory) (b f : ℕ) where
   -- ---- a slot of block b, by whether the frame has its offset valid
@@ -69,9 +70,8 @@ module _ (sz : Sizes) (d : Directory) (b f : ℕ) where
 
   -- the offsets left over by the two sets are the old pages that no page of the block meets
   pub left-is : (new at : ℕ) → new ≡ offsetsOf sz d b 0 → at ≤ sz .K → firstFrom at (sz .K - at) (leaves (validAt d f) new) ≡ firstFrom at (sz .K - at) (unmet sz d b f)
-  unfolding offsetsOf unmet
-  left-is new at e l = from-same at (sz .K - at) _ _ (λ o p q. let h : bit new o ≡ inSlots sz d (b * sz .K + o) =
-      ap (λ (x : ℕ). bit x o) e ∙ bit-mask (sz .K) (λ o. bit 0 o || inSlots sz d (b * sz .K + o)) o (omega arith) ∙ ap (λ (x : Bool). x || inSlots sz d (b * sz .K + o)) (bit-zero o) in rw h)
+  unfolding unmet
+  left-is new at e l = from-same at (sz .K - at) _ _ (λ o p q. rw (ap (λ (x : ℕ). bit x o) (e ∙ offsets-alone sz d b) ∙ bit-mask (sz .K) (λ o. inSlots sz d (b * sz .K + o)) o (omega arith)))
 
   module _ (at i n : ℕ) (c : Cursor at i) (is : n ≡ firstFrom at (sz .K - at) (unmet sz d b f)) where
     pub cursor-le : n ≤ sz .K

@@ -5,7 +5,7 @@ use mathlib.Core.Bool.{Bool, true, false, not, cond, _&&_}
 use mathlib.Core.List.{List}
 use Prim.Native.Nat.{ℕ, _+_, _*_, _%_, _<_}
 use lib.Dec.{ltb}
-use lib.ListN.{length, getD}
+use lib.ListN.{getD}
 use Rattle.prelude.specs.Scan.{tab}
 use Rattle.prelude.specs.Bits.{bit}
 use Rattle.prelude.specs.Pages.{pageAt, putPage}
@@ -16,7 +16,7 @@ use Rattle.model.specs.Policy.{inBlock, inSlots}
 use Rattle.model.specs.Moves.{taken, exchanged, exchangedPages}
 use Rattle.model.specs.Calls.{Page, zeroPage, slotPages}
 use Rattle.moves.specs.Numbers.{offsetsOf}
-use Rattle.moves.specs.Spaces.{spaces, stretchPages, filledPage}
+use Rattle.moves.specs.Spaces.{spaces, stretchPages, filledPage, Fills, Joins}
 
 -- an offset of old that is not in new
 abbrev pub leaves : ℕ → ℕ → ℕ → Bool
@@ -52,13 +52,10 @@ pub record OneSwapped (k s o i t : ℕ) (fr ps fr′ ps′ : List ℕ) : Type 0 
 unfoldable pub swappedPage : Sizes → Directory → List ℕ → List Page → List Page → ℕ → ℕ → Page
 swappedPage sz d t ps fr b i = cond (inBlock sz d b i && ltb (getD t i 0) (sz .K)) (getD fr (getD t i 0) (zeroPage sz)) (getD ps i (zeroPage sz))
 
--- what the pass over the slots asks: p-space ps, one frame's stretch fr, and that each slot of block b takes the page at its own offset
--- or at one that no page of b goes to
+-- what the pass over the slots asks: what a fill asks, and that each slot of block b takes the page at its own offset or at one that no page
+-- of b goes to
 pub record Swaps (sz : Sizes) (d : Directory) (b : ℕ) (t ps fr : List ℕ) : Type 0 where
-  pub sound : Sound sz d
-  pub block-lt : b < sz .N
-  pub pspace-long : length ps ≡ sz .P * sz .S
-  pub stretch-long : length fr ≡ sz .K * sz .S
+  pub fills : Fills sz d b ps fr
   pub own-or-free : (i : ℕ) → i < sz .P → inBlock sz d b i ≡ true → getD t i 0 < sz .K → (getD t i 0 ≡ slotAt d i % sz .K) ⊎ (inSlots sz d (b * sz .K + getD t i 0) ≡ false)
 
 -- what it leaves in the two
@@ -68,23 +65,15 @@ pub record Swapped (sz : Sizes) (d : Directory) (b : ℕ) (t ps fr ps′ fr′ :
 
 -- ---- the whole
 
--- the same in b-space bs, with the table of what each slot takes
+-- the pass in b-space bs, with the table of what each slot takes
 pub record SwapsFrame (sz : Sizes) (d : Directory) (b f : ℕ) (t ps bs : List ℕ) : Type 0 where
-  pub sound : Sound sz d
-  pub block-lt : b < sz .N
-  pub frame-lt : f < sz .B
+  pub joins : Joins sz d b f ps bs
   pub table : t ≡ takenTable sz d b f
-  pub pspace-long : length ps ≡ sz .P * sz .S
-  pub bspace-long : length bs ≡ sz .B * sz .K * sz .S
 
--- what an exchange asks: block b, frame f with the old pages of a block, p-space ps and b-space bs
+-- what an exchange asks: what a join asks, and that frame f has the old pages of a block
 pub record Exchanges (sz : Sizes) (d : Directory) (b f : ℕ) (ps bs : List ℕ) : Type 0 where
-  pub sound : Sound sz d
-  pub block-lt : b < sz .N
-  pub frame-lt : f < sz .B
+  pub joins : Joins sz d b f ps bs
   pub old-lt : frameAt d f < sz .N
-  pub pspace-long : length ps ≡ sz .P * sz .S
-  pub bspace-long : length bs ≡ sz .B * sz .K * sz .S
 
 -- what it leaves: the directory d′, p-space ps′ and b-space bs′
 pub record Exchanged (sz : Sizes) (d : Directory) (b f : ℕ) (ps bs : List ℕ) (d′ : Directory) (ps′ bs′ : List ℕ) : Type 0 where

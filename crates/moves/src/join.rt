@@ -64,7 +64,7 @@ fn fill(z: Sizes, d: Directory, pspace: &[u8], frame: &mut [u8], b: BlockNo)
 }
 
 // The offsets of block b's pages in slots, with those of old.
-pub fn offsets(z: Sizes, d: Directory, b: BlockNo, old: u64) -> u64
+pub(crate) fn offsets(z: Sizes, d: Directory, b: BlockNo, old: u64) -> u64
     requires { ⌜ BlockOf (sizesOf z) (directoryOf d) (b .0) × (old < 2 ^ z .«pages_per_block») ⌝ }
     ensures { λ r. ⌜ r ≡ offsetsOf (sizesOf z) (directoryOf d) (b .0) old ⌝ }
 {

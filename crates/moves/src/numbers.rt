@@ -76,7 +76,7 @@ pub fn vacated(d: Directory, f: usize) -> Directory
 }
 
 // The offset of page n in block b, k where n is no page of it. The pages of b are the k from its first on: no division.
-pub fn offset_in(n: PageNo, b: BlockNo, k: u32) -> u32
+pub(crate) fn offset_in(n: PageNo, b: BlockNo, k: u32) -> u32
     requires { ⌜ (0 < k) × (b .0 * k + k ≤ vacant) ⌝ }
     ensures { λ r. ⌜ r ≡ offsetIn k (b .0) (n .0) ⌝ }
 {

@@ -15,14 +15,13 @@ use Rattle.moves.proofs.exchange.exchange.Statement.{statement}
 use Rattle.moves.proofs.exchange.exchange.Tie as tie
 
 offsets-requires : tie.Need-offsets-requires
-offsets-requires c κs = let s = c .before .before in (record { sound = s .pre .sound; block-lt = s .pre .block-lt }, pow-pos (s .args .z .«pages_per_block»))
+offsets-requires c κs = let s = c .before .before in (record { sound = s .pre .joins .sound; block-lt = s .pre .joins .block-lt }, pow-pos (s .args .z .«pages_per_block»))
 
 sources-requires : tie.Need-sources-requires
-sources-requires c κs = let p = c .before .before .before .pre in record { sound = p .sound; block-lt = p .block-lt; frame-lt = p .frame-lt; new-is = c .offsets .ensures }
+sources-requires c κs = let p = c .before .before .before .pre .joins in record { sound = p .sound; block-lt = p .block-lt; frame-lt = p .frame-lt; new-is = c .offsets .ensures }
 
 swap-frame-requires : tie.Need-swap-frame-requires
-swap-frame-requires c κs = let p = c .before .before .before .before .before .before .pre in
-    record { sound = p .sound; block-lt = p .block-lt; frame-lt = p .frame-lt; table = c .before .before .sources .ensures; pspace-long = p .pspace-long; bspace-long = p .bspace-long }
+swap-frame-requires c κs = record { joins = c .before .before .before .before .before .before .pre .joins; table = c .before .before .sources .ensures }
 
 mul-q : tie.Need-mul-q
 mul-q c = search needs
@@ -31,10 +30,10 @@ element-copy-out-q : tie.Need-element-copy-out-q
 element-copy-out-q c = search needs
 
 given-requires : tie.Need-given-requires
-given-requires c κs = let s = c .before .before .before .before .before .before .before .before .before .before .before .before in (record { sound = s .pre .sound; block-lt = s .pre .block-lt }, rw (frame-of (s .args .t2) (s .args .f)) at (s .pre .old-lt))
+given-requires c κs = let s = c .before .before .before .before .before .before .before .before .before .before .before .before in (record { sound = s .pre .joins .sound; block-lt = s .pre .joins .block-lt }, rw (frame-of (s .args .t2) (s .args .f)) at (s .pre .old-lt))
 
 with-frame-requires : tie.Need-with-frame-requires
-with-frame-requires c κs = let p = c .before .before .before .before .before .before .before .before .before .before .before .before .before .pre in let l = p .frame-lt in let k = p .sound .limits .B-high in omega arith
+with-frame-requires c κs = let p = c .before .before .before .before .before .before .before .before .before .before .before .before .before .pre .joins in let l = p .frame-lt in let k = p .sound .limits .B-high in omega arith
 
 same-length : tie.Need-same-length
 same-length c = search needs

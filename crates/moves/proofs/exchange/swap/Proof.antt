@@ -39,7 +39,7 @@ loop-holds c = let s = c .before .before .before .before in let sz = sizesOf (s 
   refl,
   refl,
   done-none (zeroPage sz) (sz .P) _ (slotPages sz ps) (pages-length (sz .S) (sz .P) ps),
-  passed-none sz (directoryOf (s .args .t2)) (s .pre .sound) (slotPages sz ps) (stretchPages sz fr) (s .args .b .0) (pages-length (sz .S) (sz .K) fr),
+  passed-none sz (directoryOf (s .args .t2)) (s .pre .fills .sound) (slotPages sz ps) (stretchPages sz fr) (s .args .b .0) (pages-length (sz .S) (sz .K) fr),
 )
 
 mul-x : tie.Need-mul-x Inv-loop μ-loop
@@ -49,7 +49,7 @@ element-copy-out-x : tie.Need-element-copy-out-x Inv-loop μ-loop
 element-copy-out-x c = search needs
 
 offset-in-requires : tie.Need-offset-in-requires Inv-loop μ-loop
-offset-in-requires c κs = let s = c .before .before .before .before .before .before .before in offset-asks (sizesOf (s .args .z)) (directoryOf (s .args .t2)) (s .args .b .0) (s .pre .sound) (s .pre .block-lt)
+offset-in-requires c κs = let s = c .before .before .before .before .before .before .before in offset-asks (sizesOf (s .args .z)) (directoryOf (s .args .t2)) (s .args .b .0) (s .pre .fills .sound) (s .pre .fills .block-lt)
 
 mul-n : tie.Need-mul-n Inv-loop μ-loop
 mul-n c = search needs
@@ -58,8 +58,8 @@ array-read-n : tie.Need-array-read-n Inv-loop μ-loop
 array-read-n c = search needs
 
 swap-one-requires : tie.Need-swap-one-requires Inv-loop μ-loop
-swap-one-requires c κs = let s = c .before .before .before .before .before .before .before .before .before .before .before .before in let sz = sizesOf (s .args .z) in let l = c .before .before .before .before .before .before .before .loop in let n = l .inv .2 ∙ s .pre .stretch-long in
-    (s .pre .sound .limits .S-high, c .before .before .if1 .taken, omega arith, in-run (sz .S) (sz .P) (l .pspace) (l .inv .1 ∙ s .pre .pspace-long) (c .before .before .before .before .before .before .loop-test .taken))
+swap-one-requires c κs = let s = c .before .before .before .before .before .before .before .before .before .before .before .before in let sz = sizesOf (s .args .z) in let l = c .before .before .before .before .before .before .before .loop in let n = l .inv .2 ∙ s .pre .fills .stretch-long in
+    (s .pre .fills .sound .limits .S-high, c .before .before .if1 .taken, omega arith, in-run (sz .S) (sz .P) (l .pspace) (l .inv .1 ∙ s .pre .fills .pspace-long) (c .before .before .before .before .before .before .loop-test .taken))
 
 add-i : tie.Need-add-i Inv-loop μ-loop
 add-i c = omega arith
@@ -70,9 +70,9 @@ loop-less c = omega arith
 loop-again : tie.Need-loop-again Inv-loop μ-loop
 loop-again c =
     let s = c .before .before .before .before .before .before .before .before .before .before in let l = c .before .before .before .before .before .loop in let sz = sizesOf (s .args .z) in let d = directoryOf (s .args .t2) in let b = s .args .b .0 in let i = l .i in let o = c .before .before .offset-in .result in
-    let t = s .args .t6 in let ps = s .args .pspace .now in let fr = s .args .frame .now in let so = s .pre .sound in let il = c .before .before .before .before .loop-test .taken in
-    let psl : length (l .pspace) ≡ sz .P * sz .S = l .inv .1 ∙ s .pre .pspace-long in
-    let frl : length (l .frame) ≡ sz .K * sz .S = l .inv .2 ∙ s .pre .stretch-long in
+    let t = s .args .t6 in let ps = s .args .pspace .now in let fr = s .args .frame .now in let so = s .pre .fills .sound in let il = c .before .before .before .before .loop-test .taken in
+    let psl : length (l .pspace) ≡ sz .P * sz .S = l .inv .1 ∙ s .pre .fills .pspace-long in
+    let frl : length (l .frame) ≡ sz .K * sz .S = l .inv .2 ∙ s .pre .fills .stretch-long in
     let e : o ≡ offsetIn (sz .K) b (slotAt d i) = c .before .before .offset-in .ensures ∙ ap (offsetIn (sz .K) b) (sym (slot-of (s .args .t2) i)) in
     elim (c .if1 .came) [
       | inl w ↦ let h = offset-own sz d so b i o e (w .0 .taken) in let x = w .3 in let free = s .pre .own-or-free i il (h .0) in (
@@ -87,7 +87,7 @@ loop-again c =
         ap length (w .1) ∙ l .inv .1,
         ap length (w .2) ∙ l .inv .2,
         rw (w .1) (taking-skip sz d so t ps fr b i (l .pspace) h (l .inv .3)),
-        rw (w .2) (passed-skip sz d so (slotPages sz ps) (stretchPages sz fr) b (s .pre .block-lt) i (stretchPages sz (l .frame)) il h (l .inv .4)),
+        rw (w .2) (passed-skip sz d so (slotPages sz ps) (stretchPages sz fr) b (s .pre .fills .block-lt) i (stretchPages sz (l .frame)) il h (l .inv .4)),
       )
     ]
 
@@ -101,7 +101,7 @@ returns : tie.Need-returns Inv-loop μ-loop
 returns c = let s = c .before .before .before .before .before .before in let l = c .before .loop in let sz = sizesOf (s .args .z) in let ps = s .args .pspace .now in let fr = s .args .frame .now in
     record {
       pspace = done-all (zeroPage sz) (sz .P) _ (slotPages sz ps) (l .i) (slotPages sz (l .pspace)) (l .inv .3) (c .loop-test .left);
-      stretch = passed-all sz (directoryOf (s .args .t2)) (s .pre .sound) (slotPages sz ps) (stretchPages sz fr) (s .args .b .0) (l .i) (stretchPages sz (l .frame)) (omega arith) (l .inv .4);
+      stretch = passed-all sz (directoryOf (s .args .t2)) (s .pre .fills .sound) (slotPages sz ps) (stretchPages sz fr) (s .args .b .0) (l .i) (stretchPages sz (l .frame)) (omega arith) (l .inv .4);
     }
 
 pub swap-spec : {M : Type 1} → statement M

@@ -6,16 +6,15 @@ use lib.ListN.{length}
 use borrow.Author.Needs.{needs}
 use Rattle.page.proofs.Part.{got, put}
 use Rattle.prelude.specs.Scan.{tab}
-use Rattle.model.proofs.Soundness.{K-pos}
 use Rattle.model.specs.Calls.{slotPages, framePages}
 use Rattle.cache.specs.View.{sizesOf, directoryOf}
 use Rattle.moves.specs.Spaces.{stretchPages, filledPage}
-use Rattle.moves.proofs.Stretch.{stretch-size, stretch-fits, stretch-long, filled-stretch}
+use Rattle.moves.proofs.Stretch.{stretch-size, stretch-fits, stretch-fills, filled-stretch}
 use Rattle.moves.proofs.join.fill_frame.Statement.{statement}
 use Rattle.moves.proofs.join.fill_frame.Tie as tie
 
 fits : (c : tie.Start) → c .args .f * (c .args .z .«pages_per_block» * c .args .z .«page_size») + c .args .z .«pages_per_block» * c .args .z .«page_size» ≤ length (c .args .bspace .now)
-fits c = stretch-fits (sizesOf (c .args .z)) (c .args .bspace .now) (c .pre .bspace-long) (c .args .f) (c .pre .frame-lt)
+fits c = stretch-fits _ _ _ _ _ _ (c .pre)
 
 cast-size : tie.Need-cast-size
 cast-size c = search needs
@@ -42,23 +41,18 @@ part-fill-end : tie.Need-part-fill-end
 part-fill-end c = omega (arith, fits (c .before .before .before .before))
 
 fill-requires : tie.Need-fill-requires
-fill-requires c κs = let s = c .before .before .before .before .before in record {
-  sound = s .pre .sound;
-  block-lt = s .pre .block-lt;
-  pspace-long = s .pre .pspace-long;
-  stretch-long = stretch-long (sizesOf (s .args .z)) (s .args .bspace .now) (s .pre .bspace-long) (s .args .f) (s .pre .frame-lt);
-}
+fill-requires c κs = stretch-fills _ _ _ _ _ _ (c .before .before .before .before .before .pre)
 
 same-length : tie.Need-same-length
 same-length c = search needs
 
 returns : tie.Need-returns
 returns c =
-    let s = c .before .before .before .before .before .before .before .before in let sz = sizesOf (s .args .z) in let d = directoryOf (s .args .d) in let bs = s .args .bspace .now in let ps = s .args .pspace .now in let f = s .args .f in let w = c .before .before .fill in
+    let s = c .before .before .before .before .before .before .before .before in let sz = sizesOf (s .args .z) in let d = directoryOf (s .args .d) in let bs = s .args .bspace .now in let ps = s .args .pspace .now in let b = s .args .b .0 in let f = s .args .f in let w = c .before .before .fill in
+    let fills = stretch-fills sz d b f ps bs (s .pre) in
     ap (framePages sz) (put _ _ _ _)
-    ∙ filled-stretch sz d ps bs (K-pos sz (s .pre .sound .limits)) (s .pre .bspace-long) (s .args .b .0) f (s .pre .frame-lt) (w .last .1 .1 .1 .0)
-    (w .kept .1 .1 .1 .0 ∙ stretch-long sz bs (s .pre .bspace-long) f (s .pre .frame-lt))
-    (w .ensures ∙ ap (λ (x : List ℕ). tab (sz .K) (filledPage sz d (slotPages sz ps) (stretchPages sz x) (s .args .b .0))) (got (sz .K * sz .S) bs f))
+    ∙ filled-stretch sz d b f ps bs (s .pre) (w .last .1 .1 .1 .0) (w .kept .1 .1 .1 .0 ∙ fills .stretch-long)
+    (w .ensures ∙ ap (λ (x : List ℕ). tab (sz .K) (filledPage sz d (slotPages sz ps) (stretchPages sz x) b)) (got (sz .K * sz .S) bs f))
 
 pub fill-frame-spec : {M : Type 1} → statement M
 fill-frame-spec =

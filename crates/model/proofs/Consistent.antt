@@ -146,7 +146,7 @@ module _ {A : Type 0} (filler : A) where
 
 -- ---- the write
 
-vacated-count : (sz : Sizes) (d : Directory) (b f : ℕ) → slotCount sz (vacated d f) b ≡ slotCount sz d b
+pub vacated-count : (sz : Sizes) (d : Directory) (b f : ℕ) → slotCount sz (vacated d f) b ≡ slotCount sz d b
 unfolding vacated slotCount inBlock
 vacated-count sz d b f = refl
 

@@ -1,0 +1,79 @@
+-- The page enters the slot that a join or an exchange left vacant.
+use mathlib.Core.Path.{_≡_, refl, sym, ap, _∙_}
+use mathlib.Core.Bool.{true}
+use mathlib.Core.List.{List, []}
+use Prim.Native.Nat.{ℕ, _*_, _<_}
+use lib.Dec.{ltb}
+use lib.ListN.{length, set}
+use borrow.Author.Tests.{lt-ltb}
+use Rattle.model.specs.Sizes.{Sizes, vacant}
+use Rattle.model.specs.Directory.{Directory}
+use Rattle.model.specs.Soundness.{Sound}
+use Rattle.model.specs.Policy.{inSlots, slotOf}
+use Rattle.model.specs.Moves.{Memory, touched, putSlot, entered, joined, joinedPages, filled, exchanged, exchangedPages, putSlotPage}
+use Rattle.model.specs.Calls.{Page, zeroPage, slotPages, framePages}
+use Rattle.model.proofs.Lookup.{found-slot}
+use Rattle.model.proofs.Kept.{joined-sound, exchanged-sound, exchanged-vacant}
+use Rattle.model.proofs.Plan.{some-bit, joined-vacant}
+use Rattle.moves.specs.Spaces.{spaces, Joined}
+use Rattle.moves.specs.Exchange.{Exchanged}
+use Rattle.writes.specs.Writes.{OverSlot}
+use Rattle.writes.specs.Enter.{Joining, Changing, Spaced, Enters, Entered, JoinEnters, JoinEntered, ExchangeEnters, ExchangeEntered}
+
+module _ (sz : Sizes) (d : Directory) (f : ℕ) (pspace page : List ℕ) (q : Enters sz d f pspace page) where
+  pub slot-lt : (i : ℕ) → i ≡ slotOf sz d vacant → i < sz .P
+  slot-lt i e = rw e (found-slot sz d vacant (q .room) .0)
+
+  pub over : (i : ℕ) → i ≡ slotOf sz d vacant → OverSlot sz i pspace page
+  over i e = record { limits = q .sound .limits; slot-lt = slot-lt i e; pspace-length = q .pspace-length; page-length = q .page-length }
+
+  pub enter-is : (n i : ℕ) (t r : Directory) (pspace′ : List ℕ) → i ≡ slotOf sz d vacant → t ≡ touched sz d f → r ≡ putSlot t i n
+      → slotPages sz pspace′ ≡ set (slotPages sz pspace) i page → Entered sz d f pspace n page r pspace′
+  unfolding entered touched slotOf
+  enter-is n i t r pspace′ ei et er ep = record {
+    directory-is = er ∙ ap (λ (x : Directory). putSlot x i n) et ∙ ap (λ (x : ℕ). putSlot (touched sz d f) x n) ei;
+    pages-are = ep ∙ ap (λ (x : ℕ). set (slotPages sz pspace) x page) ei;
+  }
+
+module _ (sz : Sizes) (d : Directory) (v f : ℕ) (pspace bspace page : List ℕ) where
+  -- after a join
+  pub join-enters : JoinEnters sz d v f pspace bspace page → (j : Directory) → j ≡ joined sz d v f → Enters sz j f pspace page
+  join-enters q j e = let g = q .joining in let s = q .spaced .sound in rw e (record {
+    sound = joined-sound sz d s v f (g .frame-lt) (g .victim-lt) (g .sole) (some-bit sz d s v f (g .victim-pos));
+    frame-lt = g .frame-lt;
+    room = joined-vacant sz d s v f (g .frame-lt) (g .victim-pos);
+    pspace-length = q .spaced .pspace-length;
+    page-length = q .spaced .page-length;
+  })
+
+  pub join-entered : (n : ℕ) (j d′ : Directory) (pspace′ bspace′ : List ℕ) → Joined sz d v f pspace bspace j bspace′ → Entered sz j f pspace n page d′ pspace′
+      → JoinEntered sz d v f pspace bspace n page d′ pspace′ bspace′
+  unfolding spaces putSlotPage joinedPages
+  join-entered n j d′ pspace′ bspace′ a b = record {
+    directory-is = b .directory-is ∙ ap (λ (x : Directory). entered sz (touched sz x f) n) (a .directory);
+    pages-are = λ i. record {
+      flash = [];
+      pspace = (b .pages-are ∙ ap (λ (x : Directory). set (slotPages sz pspace) (slotOf sz x vacant) page) (a .directory)) i;
+      bspace = a .pages i;
+    };
+  }
+
+  -- after an exchange
+  pub exchange-enters : ExchangeEnters sz d v f pspace bspace page → (j : Directory) (pspace₁ : List ℕ) → j ≡ exchanged sz d v f → length pspace₁ ≡ sz .P * sz .S → Enters sz j f pspace₁ page
+  unfolding inSlots
+  exchange-enters q j pspace₁ e l = let g = q .changing in let s = q .spaced .sound in rw e (record {
+    sound = exchanged-sound sz d s v f (g .frame-lt) (g .victim-lt) (q .fewer) (g .block-lt) (g .victim-out);
+    frame-lt = g .frame-lt;
+    room = lt-ltb _ (sz .P) (exchanged-vacant sz (s .limits) d (s .shape) (s .entries) v f (g .frame-lt) (g .victim-lt) (q .fewer) (g .block-lt) (g .victim-out));
+    pspace-length = l;
+    page-length = q .spaced .page-length;
+  })
+
+  pub exchange-entered : (n : ℕ) (j d′ : Directory) (pspace₁ pspace′ bspace′ : List ℕ) → Exchanged sz d v f pspace bspace j pspace₁ bspace′ → Entered sz j f pspace₁ n page d′ pspace′
+      → ExchangeEntered sz d v f pspace bspace n page d′ pspace′ bspace′
+  unfolding spaces putSlotPage
+  exchange-entered n j d′ pspace₁ pspace′ bspace′ a b = record {
+    directory-is = b .directory-is ∙ ap (λ (x : Directory). entered sz (touched sz x f) n) (a .directory);
+    pages-are = (λ i. record { flash = []; pspace = (b .pages-are ∙ ap (λ (x : Directory). set (slotPages sz pspace₁) (slotOf sz x vacant) page) (a .directory)) i; bspace = framePages sz bspace′ })
+        ∙ ap (λ (m : Memory Page). putSlotPage m (slotOf sz (exchanged sz d v f) vacant) page) (a .pages);
+  }

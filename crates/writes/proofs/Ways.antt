@@ -1,0 +1,174 @@
+-- What each way of a write leaves, and what holds of the plan that asks for it.
+use mathlib.Core.Path.{_≡_, refl, sym, ap, _∙_, subst}
+use mathlib.Core.Bool.{true, false}
+use mathlib.Core.List.{List, []}
+use Prim.Native.Nat.{ℕ, _+_, _*_, _%_, _≤_, _<_}
+use native.Mathlib.Omega.{arith}
+use lib.Dec.{leb, ltb}
+use lib.ListN.{length, getD, set}
+use borrow.Author.Tests.{lt-ltb, lt-leb, le-leb}
+use Rattle.prelude.proofs.Tests.{by-test}
+use Rattle.model.specs.Sizes.{Sizes, vacant}
+use Rattle.model.specs.Directory.{Directory, frameAt}
+use Rattle.model.specs.Soundness.{Sound}
+use Rattle.model.specs.Policy.{Choice, slotOf, frameOf, validCount, slotCount, mergeReads, isWorn, Plan, slotHit, frameHit, freeSlot, join, fill, exchange, evict, plan, victim, leastRecent}
+use Rattle.model.specs.Moves.{Memory, worn, wornBy, touched, putSlot, entered, vacated, written, writtenPages, putSlotPage, putFramePage, joined, joinedPages, filled, exchangedPages, rewrittenPages, merged, programmed}
+use Rattle.model.specs.Calls.{Answer, writeDone, refused, writeOutcome, Page, Buffers, zeroPage, flashPages, slotPages, framePages, memoryOf}
+use Rattle.model.specs.Lists.{Picks}
+use Rattle.model.proofs.Lookup.{block-vacant, found-slot, frame-is, no-frame}
+use Rattle.model.proofs.Kept.{vacated-sound}
+use Rattle.model.proofs.Reflects.{vacated-frame′}
+use Rattle.model.proofs.Steps.{wornBy-is}
+use Rattle.model.proofs.Consistent.{vacated-count}
+use Rattle.model.proofs.Plan.{leastRecent-picks, victim-lt, victim-pos, sole-own, occupied-all, fewest-pick, evict-pick, plan-elim, eviction-elim}
+use Rattle.moves.specs.Spaces.{spaces}
+use Rattle.policy.specs.declared.decision.Plan as code
+use Rattle.policy.specs.Views.{planOf}
+use Rattle.cache.specs.declared.Directory as cache
+use Rattle.cache.specs.View.{directoryOf}
+use Rattle.chip.specs.Chip.{Rewritable, Rewritten, chipMemory}
+use Rattle.chip.proofs.Rewriting.{rewritten-memory}
+use Rattle.answer.specs.Carried.{Ready, Carried, buffers}
+use Rattle.writes.specs.Writes.{Writable, state, Wrote, Evicts}
+use Rattle.writes.specs.Enter.{Joining, Changing, Spaced, JoinEnters, JoinEntered, ExchangeEntered}
+
+-- ---- ways 1 to 6
+
+module _ (sz : Sizes) (d : Directory) (flash wear pspace bspace : List ℕ) (n : ℕ) (page : Page) where
+  abbrev lent : Buffers
+  lent = buffers flash wear pspace bspace
+
+  pub way-1 : (i : ℕ) (pspace′ : List ℕ) → slotPages sz pspace′ ≡ set (slotPages sz pspace) i page
+      → Wrote sz d lent n page (slotHit i) (writeDone 1 vacant 0) d (buffers flash wear pspace′ bspace)
+  unfolding writeOutcome isWorn written wornBy writtenPages putSlotPage memoryOf
+  way-1 i pspace′ h = record { answer-is = refl; directory-is = refl; wear-is = refl; pages-are = λ j. record { flash = flashPages sz flash; pspace = h j; bspace = framePages sz bspace } }
+
+  pub way-2 : (f : ℕ) (d′ : Directory) (bspace′ : List ℕ) → d′ ≡ touched sz d f → framePages sz bspace′ ≡ set (framePages sz bspace) (f * sz .K + n % sz .K) page
+      → Wrote sz d lent n page (frameHit f) (writeDone 2 vacant 0) d′ (buffers flash wear pspace bspace′)
+  unfolding writeOutcome isWorn written wornBy writtenPages putFramePage memoryOf
+  way-2 f d′ bspace′ e h = record { answer-is = refl; directory-is = e; wear-is = refl; pages-are = λ j. record { flash = flashPages sz flash; pspace = slotPages sz pspace; bspace = h j } }
+
+  pub way-3 : (i : ℕ) (d′ : Directory) (pspace′ : List ℕ) → d′ ≡ putSlot d i n → slotPages sz pspace′ ≡ set (slotPages sz pspace) i page
+      → Wrote sz d lent n page (freeSlot i) (writeDone 3 vacant 0) d′ (buffers flash wear pspace′ bspace)
+  unfolding writeOutcome isWorn written wornBy writtenPages putSlotPage memoryOf
+  way-3 i d′ pspace′ e h = record { answer-is = refl; directory-is = e; wear-is = refl; pages-are = λ j. record { flash = flashPages sz flash; pspace = h j; bspace = framePages sz bspace } }
+
+  -- the two spaces beside the flash
+  beside : (m : Memory Page) (pspace′ bspace′ : List ℕ) → spaces sz pspace′ bspace′ ≡ m → memoryOf sz (buffers flash wear pspace′ bspace′) ≡ record { flash = flashPages sz flash; pspace = m .pspace; bspace = m .bspace }
+  unfolding spaces memoryOf
+  beside m pspace′ bspace′ h = ap (λ (x : Memory Page). record { flash = flashPages sz flash; pspace = x .pspace; bspace = x .bspace }) h
+
+  module _ (v f : ℕ) (d′ : Directory) (pspace′ bspace′ : List ℕ) where
+    pub way-4 : JoinEntered sz d v f pspace bspace n page d′ pspace′ bspace′ → Wrote sz d lent n page (join v f) (writeDone 4 vacant 0) d′ (buffers flash wear pspace′ bspace′)
+    unfolding writeOutcome isWorn written wornBy writtenPages putSlotPage joinedPages filled memoryOf spaces
+    way-4 h = record { answer-is = refl; directory-is = h .directory-is; wear-is = refl; pages-are = beside _ pspace′ bspace′ (h .pages-are) }
+
+    pub way-5 : JoinEntered sz d v f pspace bspace n page d′ pspace′ bspace′ → Wrote sz d lent n page (fill v f) (writeDone 5 vacant 0) d′ (buffers flash wear pspace′ bspace′)
+    unfolding writeOutcome isWorn written wornBy writtenPages putSlotPage joinedPages filled memoryOf spaces
+    way-5 h = record { answer-is = refl; directory-is = h .directory-is; wear-is = refl; pages-are = beside _ pspace′ bspace′ (h .pages-are) }
+
+    pub way-6 : ExchangeEntered sz d v f pspace bspace n page d′ pspace′ bspace′ → Wrote sz d lent n page (exchange v f) (writeDone 6 vacant 0) d′ (buffers flash wear pspace′ bspace′)
+    unfolding writeOutcome isWorn written wornBy writtenPages putSlotPage exchangedPages filled memoryOf spaces
+    way-6 h = record { answer-is = refl; directory-is = h .directory-is; wear-is = refl; pages-are = beside _ pspace′ bspace′ (h .pages-are) }
+
+-- ---- way 7
+
+-- a join and an entering beside any flash
+joined-beside : (sz : Sizes) (e d′ : Directory) (flash wear pspace bspace pspace′ bspace′ : List ℕ) (v f n : ℕ) (page : Page) → JoinEntered sz e v f pspace bspace n page d′ pspace′ bspace′
+    → memoryOf sz (buffers flash wear pspace′ bspace′) ≡ putSlotPage (joinedPages (zeroPage sz) sz e (memoryOf sz (buffers flash wear pspace bspace)) v f) (slotOf sz (joined sz e v f) vacant) page
+unfolding putSlotPage joinedPages filled spaces memoryOf
+joined-beside sz e d′ flash wear pspace bspace pspace′ bspace′ v f n page j = beside sz e flash wear pspace bspace n page _ pspace′ bspace′ (j .pages-are)
+
+module _ (sz : Sizes) (d : Directory) (flash wear pspace bspace : List ℕ) (v f : ℕ) (page : Page) (q : Evicts sz d (buffers flash wear pspace bspace) v f page) where
+  abbrev evicting : Buffers
+  evicting = buffers flash wear pspace bspace
+
+  block-below : frameAt d f < vacant
+  block-below = block-vacant sz (q .ready .sound .limits) (frameAt d f) (q .changing .block-lt)
+
+  pub worn-way : (n b : ℕ) → b ≡ frameAt d f → sz .W ≤ getD wear b 0 → Wrote sz d evicting n page (evict v f) (refused 6 b) d evicting
+  unfolding writeOutcome isWorn
+  worn-way n b e l = let t : isWorn sz wear (frameAt d f) ≡ true = rw (lt-ltb (frameAt d f) vacant block-below) (le-leb (sz .W) (getD wear (frameAt d f) 0) (rw e at l)) in
+      rw (t, writeOutcome) (record { answer-is = ap (refused 6) e; directory-is = refl; wear-is = refl; pages-are = refl })
+
+  pub rewritable : (b : ℕ) → b ≡ frameAt d f → getD wear b 0 < sz .W → Rewritable sz d b f flash wear bspace
+  rewritable b e l = let t = q .ready .fits in record {
+    sound = q .ready .sound;
+    b-lt = rw e (q .changing .block-lt);
+    f-lt = q .changing .frame-lt;
+    flash-length = t .flash-length;
+    wear-length = t .wear-length;
+    bspace-length = t .bspace-length;
+    unworn = l;
+  }
+
+  pub vacated-joins : (e : Directory) (bspace₁ : List ℕ) → e ≡ vacated d f → length bspace₁ ≡ sz .B * sz .K * sz .S → JoinEnters sz e v f pspace bspace₁ page
+  vacated-joins e bspace₁ h l = let s = q .ready .sound in let g = q .changing in rw h (record {
+    spaced = record { sound = vacated-sound sz d s f (g .frame-lt); pspace-length = q .ready .fits .pspace-length; bspace-length = l; page-length = q .page-length };
+    joining = record {
+      victim-lt = g .victim-lt;
+      victim-pos = rw (vacated-count sz d v f) (q .victim-pos);
+      frame-lt = g .frame-lt;
+      sole = λ k kl ne t. g .victim-out k kl (sym (vacated-frame′ sz (s .limits) d (s .shape) f (g .frame-lt) k ne) ∙ t);
+    };
+  })
+
+  pub way-7 : (n b reads : ℕ) (e d′ : Directory) (flash′ wear′ pspace′ bspace₁ bspace′ : List ℕ) → b ≡ frameAt d f → getD wear b 0 < sz .W → e ≡ vacated d f
+      → Rewritten sz d b f flash wear bspace reads flash′ wear′ bspace₁ → JoinEntered sz e v f pspace bspace₁ n page d′ pspace′ bspace′
+      → Wrote sz d evicting n page (evict v f) (writeDone 7 b reads) d′ (buffers flash′ wear′ pspace′ bspace′)
+  unfolding writeOutcome isWorn written writtenPages
+  way-7 n b reads e d′ flash′ wear′ pspace′ bspace₁ bspace′ eb l ee w j =
+      let t : isWorn sz wear (frameAt d f) ≡ false = by-test (ltb (frameAt d f) vacant) (λ a. rw (a, lt-leb (sz .W) (getD wear (frameAt d f) 0) (rw eb at l))) (λ a. rw a) in
+      rw (t, writeOutcome) (record {
+        answer-is = ap (λ (x : ℕ). writeDone 7 x reads) eb ∙ ap (writeDone 7 (frameAt d f)) (w .reads-are);
+        directory-is = j .directory-is ∙ ap (λ (x : Directory). entered sz (touched sz (joined sz x v f) f) n) ee;
+        wear-is = w .wear-is ∙ ap (worn wear) eb ∙ sym (wornBy-is sz (q .ready .sound .limits) wear (frameAt d f) (q .changing .block-lt));
+        pages-are = joined-beside sz e d′ flash′ wear′ pspace bspace₁ pspace′ bspace′ v f n page j
+            ∙ ap (λ (x : Memory Page). putSlotPage (joinedPages (zeroPage sz) sz e x v f) (slotOf sz (joined sz e v f) vacant) page)
+            (rewritten-memory sz d b f flash wear bspace reads flash′ wear′ bspace₁ w pspace ∙ ap (λ (x : ℕ). rewrittenPages (zeroPage sz) sz d (memoryOf sz evicting) x f) eb)
+            ∙ ap (λ (x : Directory). putSlotPage (joinedPages (zeroPage sz) sz x (rewrittenPages (zeroPage sz) sz d (memoryOf sz evicting) (frameAt d f) f) v f) (slotOf sz (joined sz x v f) vacant) page) ee;
+      })
+
+-- ---- what holds of the plan
+
+abbrev pub PlanHolds : Sizes → Directory → Plan → Type 0
+PlanHolds sz d (slotHit i) = i < sz .P
+PlanHolds sz d (frameHit f) = f < sz .B
+PlanHolds sz d (freeSlot i) = i < sz .P
+PlanHolds sz d (join v f) = Joining sz d v f
+PlanHolds sz d (fill v f) = Joining sz d v f
+PlanHolds sz d (exchange v f) = Changing sz d v f × (validCount sz d f < slotCount sz d v)
+PlanHolds sz d (evict v f) = Changing sz d v f × (0 < slotCount sz d v)
+
+pub plan-holds : (pick : Choice) → Picks pick → (sz : Sizes) (d : Directory) → Sound sz d → (w : List ℕ) (n : ℕ) → PlanHolds sz d (plan pick sz d w n)
+plan-holds pick picks sz d s w n = let Q = PlanHolds sz d in let v : ℕ = victim sz d in let vl = victim-lt sz d s in plan-elim pick sz d w Q n
+    (λ h. found-slot sz d n h .0)
+    (λ h l. l)
+    (λ h k h2. found-slot sz d vacant h2 .0)
+    (λ h k full. let pos = victim-pos sz d s full in eviction-elim pick sz d w Q v
+    (λ q. record { victim-lt = vl; victim-pos = pos; frame-lt = q; sole = sole-own sz d s v (frameOf sz d v) vl q (frame-is sz d v q) })
+    (λ o q. record { victim-lt = vl; victim-pos = pos; frame-lt = q; sole = λ g gl ne e. no-frame sz d v o g gl e })
+    (λ o u q. let p = fewest-pick sz d s pick picks _ refl in
+    (record { victim-lt = vl; victim-out = no-frame sz d v o; frame-lt = p .0; block-lt = occupied-all sz d s u _ (p .0) }, rw (p .1) q))
+    (λ o u q. let fl = evict-pick sz d s pick picks w in
+    (record { victim-lt = vl; victim-out = no-frame sz d v o; frame-lt = fl; block-lt = occupied-all sz d s u _ fl }, pos)))
+
+-- ---- from the plan that was found to the model's
+
+module _ (sz : Sizes) (d : Directory) (u : Buffers) (n : ℕ) (page : Page) (q : Writable sz d u n page) (found shown : code.Plan) (is-plan : planOf found ≡ plan leastRecent sz d (u .wear) n) (is-shown : found ≡ shown) where
+  pub holds : PlanHolds sz d (planOf shown)
+  holds = subst (PlanHolds sz d) (sym is-plan ∙ ap planOf is-shown) (plan-holds leastRecent leastRecent-picks sz d (q .ready .sound) (u .wear) n)
+
+  -- Wrote, of the wear and the pages that the buffers hold at the end
+  abbrev To : Plan → Answer → Directory → List ℕ → Memory Page → Type 0
+  To p a d′ w′ m′ = Carried (writeOutcome sz (state d u) n p) (memoryOf sz u) (writtenPages (zeroPage sz) sz d (memoryOf sz u) n page p) a d′ w′ m′
+
+  pub by-plan : {a : Answer} {d′ : Directory} {w′ : List ℕ} {m′ : Memory Page} → To (planOf shown) a d′ w′ m′ → To (plan leastRecent sz d (u .wear) n) a d′ w′ m′
+  by-plan {a} {d′} {w′} {m′} w = subst (λ (p : Plan). To p a d′ w′ m′) (sym (ap planOf is-shown) ∙ is-plan) w
+
+  pub done-by : (way : ℕ) (a : Answer) (r t : cache.Directory) {w′ : List ℕ} {m′ : Memory Page} → (a ≡ writeDone way vacant 0) × (r ≡ t) → To (planOf shown) (writeDone way vacant 0) (directoryOf t) w′ m′
+      → To (plan leastRecent sz d (u .wear) n) a (directoryOf r) w′ m′
+  done-by way a r t e w = rw (e .0, e .1) (by-plan w)
+
+  pub spaced : Spaced sz d (u .pspace) (u .bspace) page
+  spaced = record { sound = q .ready .sound; pspace-length = q .ready .fits .pspace-length; bspace-length = q .ready .fits .bspace-length; page-length = q .page-length }

@@ -1,0 +1,73 @@
+use borrow.Author.Needs.{needs}
+use native.Mathlib.Omega.{arith}
+use mathlib.Core.Path.{sym, _∙_}
+use Rattle.cache.proofs.View.{frame-of}
+use Rattle.writes.proofs.Ways.{worn-way, rewritable, vacated-joins, way-7}
+use Rattle.writes.proofs.evict.evict.Statement.{statement}
+use Rattle.writes.proofs.evict.evict.Tie as tie
+use Rattle.writes.proofs.evict.evict.Reads as reads
+use Rattle.writes.proofs.evict.evict.Lts as lts
+use Rattle.chip.proofs.rewrite.Reads as rewrite-reads
+use Rattle.moves.proofs.numbers.vacated.Reads as vacated-reads
+use Rattle.writes.proofs.enter.join.Reads as join-reads
+
+mul-b : tie.Need-mul-b
+mul-b c = search needs
+
+element-copy-out-b : tie.Need-element-copy-out-b
+element-copy-out-b c = search needs
+
+cast-i : tie.Need-cast-i
+cast-i c = search needs
+
+mul-if1 : tie.Need-mul-if1
+mul-if1 c = search needs
+
+slice-read-if1 : tie.Need-slice-read-if1
+slice-read-if1 c = let q = c .before .before .before .before .before .before .before .before .pre in let e = frame-of (c .before .before .before .before .before .before .before .before .args .t2) (c .before .before .before .before .before .before .before .before .args .f) in let l = q .changing .block-lt in let w = q .ready .fits .wear-length in omega arith
+
+returns : tie.Need-returns
+returns c = worn-way _ _ _ _ _ _ _ _ _ (c .before .before .before .before .before .before .before .before .before .before .pre) _ _ (sym (frame-of (c .before .before .before .before .before .before .before .before .before .before .args .t2) (c .before .before .before .before .before .before .before .before .before .before .args .f))) (c .if1 .taken)
+
+rewrite-requires : tie.Need-rewrite-requires
+rewrite-requires c κs = rewritable _ _ _ _ _ _ _ _ _ (c .before .before .before .before .before .before .before .before .before .before .before .before .before .pre) _ (sym (frame-of (c .before .before .before .before .before .before .before .before .before .before .before .before .before .args .t2) (c .before .before .before .before .before .before .before .before .before .before .before .before .before .args .f))) (c .before .before .before .if1 .left)
+
+vacated-requires : tie.Need-vacated-requires
+vacated-requires c κs = search needs
+
+join-requires : tie.Need-join-requires
+join-requires c κs = vacated-joins _ _ _ _ _ _ _ _ _ (c .before .before .before .before .before .before .before .before .before .before .before .before .before .before .before .before .before .before .before .before .before .before .before .pre) _ _ (c .before .before .vacated .ensures) (c .before .before .before .before .before .before .before .before .before .rewrite .kept .1 .1 .1 .1 .0 ∙ c .before .before .before .before .before .before .before .before .before .before .before .before .before .before .before .before .before .before .before .before .before .before .before .pre .ready .fits .bspace-length)
+
+same-length : tie.Need-same-length
+same-length c = search needs
+
+same-length-2 : tie.Need-same-length-2
+same-length-2 c = search needs
+
+same-length-3 : tie.Need-same-length-3
+same-length-3 c = search needs
+
+same-length-4 : tie.Need-same-length-4
+same-length-4 c = search needs
+
+returns-2 : tie.Need-returns-2
+returns-2 c = way-7 _ _ _ _ _ _ _ _ _ (c .before .before .before .before .before .before .before .before .before .before .before .before .before .before .before .before .before .before .before .before .before .before .before .before .before .before .before .before .pre) _ _ _ _ _ _ _ _ _ _ (sym (frame-of (c .before .before .before .before .before .before .before .before .before .before .before .before .before .before .before .before .before .before .before .before .before .before .before .before .before .before .before .before .args .t2) (c .before .before .before .before .before .before .before .before .before .before .before .before .before .before .before .before .before .before .before .before .before .before .before .before .before .before .before .before .args .f))) (c .before .before .before .before .before .before .before .before .before .before .before .before .before .before .before .before .before .before .if1 .left) (c .before .before .before .before .before .before .before .vacated .ensures) (c .before .before .before .before .before .before .before .before .before .before .before .before .before .before .rewrite .ensures) (c .before .before .before .before .join .ensures)
+
+pub evict-spec : {M : Type 1} → statement M
+evict-spec =
+    tie.close
+    (tie.spec
+    mul-b
+    element-copy-out-b
+    cast-i
+    mul-if1
+    slice-read-if1
+    returns
+    rewrite-requires
+    vacated-requires
+    join-requires
+    same-length
+    same-length-2
+    same-length-3
+    same-length-4
+    returns-2)

@@ -1,0 +1,67 @@
+-- What the entering of page n asks and leaves, after a join or an exchange has made room; and what holds of a plan's victim and frame.
+use mathlib.Core.Path.{_≡_}
+use mathlib.Core.Bool.{true}
+use mathlib.Core.List.{List}
+use Prim.Native.Nat.{ℕ, _*_, _<_}
+use lib.ListN.{length, set}
+use Rattle.model.specs.Sizes.{Sizes, vacant}
+use Rattle.model.specs.Directory.{Directory, frameAt}
+use Rattle.model.specs.Soundness.{Sound}
+use Rattle.model.specs.Policy.{inSlots, slotOf, validCount, slotCount}
+use Rattle.model.specs.Moves.{touched, entered, joined, joinedPages, exchanged, exchangedPages, putSlotPage}
+use Rattle.model.specs.Calls.{Page, zeroPage, slotPages}
+use Rattle.moves.specs.Spaces.{spaces}
+
+-- ---- the victim v and the frame f that takes its pages
+
+-- ways 4 and 5: v has pages in slots, and no frame but f is v's
+pub record Joining (sz : Sizes) (d : Directory) (v f : ℕ) : Type 0 where
+  pub victim-lt : v < sz .N
+  pub victim-pos : 0 < slotCount sz d v
+  pub frame-lt : f < sz .B
+  pub sole : (g : ℕ) → g < sz .B → (g ≡ f → ⊥) → frameAt d g ≡ v → ⊥
+
+-- ways 6 and 7: v has no frame, and f holds a block
+pub record Changing (sz : Sizes) (d : Directory) (v f : ℕ) : Type 0 where
+  pub victim-lt : v < sz .N
+  pub victim-out : (g : ℕ) → g < sz .B → frameAt d g ≡ v → ⊥
+  pub frame-lt : f < sz .B
+  pub block-lt : frameAt d f < sz .N
+
+-- p-space, b-space and the page buffer in their sizes
+pub record Spaced (sz : Sizes) (d : Directory) (pspace bspace : List ℕ) (page : Page) : Type 0 where
+  pub sound : Sound sz d
+  pub pspace-length : length pspace ≡ sz .P * sz .S
+  pub bspace-length : length bspace ≡ sz .B * sz .K * sz .S
+  pub page-length : length page ≡ sz .S
+
+-- ---- entering
+
+pub record Enters (sz : Sizes) (d : Directory) (f : ℕ) (pspace : List ℕ) (page : Page) : Type 0 where
+  pub sound : Sound sz d
+  pub frame-lt : f < sz .B
+  pub room : inSlots sz d vacant ≡ true
+  pub pspace-length : length pspace ≡ sz .P * sz .S
+  pub page-length : length page ≡ sz .S
+
+pub record Entered (sz : Sizes) (d : Directory) (f : ℕ) (pspace : List ℕ) (n : ℕ) (page : Page) (d′ : Directory) (pspace′ : List ℕ) : Type 0 where
+  pub directory-is : d′ ≡ entered sz (touched sz d f) n
+  pub pages-are : slotPages sz pspace′ ≡ set (slotPages sz pspace) (slotOf sz d vacant) page
+
+pub record JoinEnters (sz : Sizes) (d : Directory) (v f : ℕ) (pspace bspace : List ℕ) (page : Page) : Type 0 where
+  pub spaced : Spaced sz d pspace bspace page
+  pub joining : Joining sz d v f
+
+pub record JoinEntered (sz : Sizes) (d : Directory) (v f : ℕ) (pspace bspace : List ℕ) (n : ℕ) (page : Page) (d′ : Directory) (pspace′ bspace′ : List ℕ) : Type 0 where
+  pub directory-is : d′ ≡ entered sz (touched sz (joined sz d v f) f) n
+  pub pages-are : spaces sz pspace′ bspace′ ≡ putSlotPage (joinedPages (zeroPage sz) sz d (spaces sz pspace bspace) v f) (slotOf sz (joined sz d v f) vacant) page
+
+-- the frame has fewer valid pages than the victim has in slots
+pub record ExchangeEnters (sz : Sizes) (d : Directory) (v f : ℕ) (pspace bspace : List ℕ) (page : Page) : Type 0 where
+  pub spaced : Spaced sz d pspace bspace page
+  pub changing : Changing sz d v f
+  pub fewer : validCount sz d f < slotCount sz d v
+
+pub record ExchangeEntered (sz : Sizes) (d : Directory) (v f : ℕ) (pspace bspace : List ℕ) (n : ℕ) (page : Page) (d′ : Directory) (pspace′ bspace′ : List ℕ) : Type 0 where
+  pub directory-is : d′ ≡ entered sz (touched sz (exchanged sz d v f) f) n
+  pub pages-are : spaces sz pspace′ bspace′ ≡ putSlotPage (exchangedPages (zeroPage sz) sz d (spaces sz pspace bspace) v f) (slotOf sz (exchanged sz d v f) vacant) page

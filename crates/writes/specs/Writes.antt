@@ -1,0 +1,48 @@
+-- What a write asks and leaves, by its plan.
+use mathlib.Core.Path.{_≡_}
+use mathlib.Core.List.{List}
+use Prim.Native.Nat.{ℕ, _*_, _<_}
+use lib.ListN.{length}
+use Rattle.model.specs.Sizes.{Sizes, InLimits}
+use Rattle.model.specs.Directory.{Directory}
+use Rattle.model.specs.Policy.{Plan, slotCount}
+use Rattle.model.specs.Moves.{writtenPages}
+use Rattle.model.specs.Calls.{Answer, State, writeOutcome, Page, Buffers, zeroPage, memoryOf}
+use Rattle.answer.specs.Carried.{Ready, Carried}
+use Rattle.writes.specs.Enter.{Changing}
+
+-- a page of the chip and a page buffer of S bytes
+pub record Writable (sz : Sizes) (d : Directory) (u : Buffers) (n : ℕ) (page : Page) : Type 0 where
+  pub ready : Ready sz d u
+  pub page-lt : n < sz .N * sz .K
+  pub page-length : length page ≡ sz .S
+
+abbrev pub state : Directory → Buffers → State
+state d u = record { directory = d; wear = u .wear }
+
+-- the write of page n by plan p was carried out
+abbrev pub Wrote : Sizes → Directory → Buffers → ℕ → Page → Plan → Answer → Directory → Buffers → Type 0
+Wrote sz d u n page p answer d′ u′ =
+    Carried (writeOutcome sz (state d u) n p) (memoryOf sz u) (writtenPages (zeroPage sz) sz d (memoryOf sz u) n page p) answer d′ (u′ .wear) (memoryOf sz u′)
+
+-- ---- one page put
+
+pub record OverSlot (sz : Sizes) (i : ℕ) (pspace : List ℕ) (page : Page) : Type 0 where
+  pub limits : InLimits sz
+  pub slot-lt : i < sz .P
+  pub pspace-length : length pspace ≡ sz .P * sz .S
+  pub page-length : length page ≡ sz .S
+
+pub record OverFrame (sz : Sizes) (f : ℕ) (bspace : List ℕ) (page : Page) : Type 0 where
+  pub limits : InLimits sz
+  pub frame-lt : f < sz .B
+  pub bspace-length : length bspace ≡ sz .B * sz .K * sz .S
+  pub page-length : length page ≡ sz .S
+
+-- ---- way 7
+
+pub record Evicts (sz : Sizes) (d : Directory) (u : Buffers) (v f : ℕ) (page : Page) : Type 0 where
+  pub ready : Ready sz d u
+  pub page-length : length page ≡ sz .S
+  pub changing : Changing sz d v f
+  pub victim-pos : 0 < slotCount sz d v

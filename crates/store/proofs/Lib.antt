@@ -1,1 +1,2 @@
 pub mod ByTests
+pub mod Carrying

@@ -1,23 +1,34 @@
--- The record, the answers and the lent buffers as the model has them.
+-- The record, the lent buffers and what a call hands back, as the model has them.
 use mathlib.Core.Bool.{Bool, _&&_}
-use mathlib.Core.List.{List}
 use Prim.Native.Nat.{ℕ, _*_}
 use lib.Dec.{eqb}
 use Rattle.model.specs.Sizes as sizes
 use Rattle.model.specs.Directory as directory
-use Rattle.answer.specs.Numbers.{openingOf}
 use Rattle.model.specs.Calls as calls
+use Rattle.model.specs.Calls.{Buffers, Page}
 use Rattle.cache.specs.View.{sizesOf, directoryOf}
+use Rattle.answer.specs.Numbers.{openingOf, readOf, writeOf}
 use Rattle.store.specs.declared.Cache.{Cache}
 use Rattle.store.specs.declared.Opened.{Opened}
+use Rattle.store.specs.declared.ReadOut.{ReadOut}
+use Rattle.store.specs.declared.WriteOut.{WriteOut}
 
 abbrev pub cacheOf : Cache → directory.Cache
 cacheOf c = record { sizes = sizesOf (c .sizes); directory = directoryOf (c .directory) }
 
--- ---- buffers, and what a call hands back
-
 abbrev pub openedOf : Opened → calls.Opened
 openedOf r = record { answer = openingOf (r .answer); cache = cacheOf (r .cache) }
+
+-- the record with its lent buffers
+abbrev pub storeOf : Cache → Buffers → calls.Store
+storeOf c u = record { cache = cacheOf c; lent = u }
+
+-- the answer, the record handed back, the buffers u and the page buffer
+abbrev pub readResult : ReadOut → Buffers → Page → calls.Result
+readResult r u page = record { answer = readOf (r .answer); store = storeOf (r .cache) u; page = page }
+
+abbrev pub writeResult : WriteOut → Buffers → Page → calls.Result
+writeResult r u page = record { answer = writeOf (r .answer); store = storeOf (r .cache) u; page = page }
 
 -- the lengths that the sizes ask for
 unfoldable pub lengthsOk : sizes.Sizes → ℕ → ℕ → ℕ → ℕ → Bool

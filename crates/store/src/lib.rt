@@ -1,7 +1,9 @@
 // The page store: the cache record, and the calls on it. Each call takes the record by value with the lent buffers and hands
 // back the next record beside its answer; a refused call changes nothing.
-mod lent;
-mod open;
+mod lent; // lent.rt: whether lent buffers are as the sizes ask
+mod open; // open.rt: the blank record, and opening a store
+mod read; // read.rt: reading a page
+mod write; // write.rt: writing a page
 
 use answer::Opening;
 use cache::Directory;
@@ -18,4 +20,16 @@ pub struct Cache {
 pub struct Opened {
     pub cache: Cache,
     pub answer: Opening,
+}
+
+// The record after a read, and its answer.
+pub struct ReadOut {
+    pub cache: Cache,
+    pub answer: answer::Read,
+}
+
+// The record after a write, and its answer.
+pub struct WriteOut {
+    pub cache: Cache,
+    pub answer: answer::Write,
 }

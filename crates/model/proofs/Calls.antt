@@ -23,7 +23,7 @@ use Rattle.model.proofs.Lookup.{block-vacant}
 use Rattle.model.proofs.Kept.{touched-sound}
 use Rattle.model.proofs.Plan.{occupied-all, evict-pick, eviction-elim, plan-elim}
 use Rattle.model.proofs.Consistent.{Consistent, write-good}
-use Rattle.model.proofs.Steps.{Empty, due-elim, stepped-sound, cached-less, cached-now, cached-back, none-empty, worn-other, wornBy-length, wornBy-is, Within, worn-within, Below, steps-clean, steps-within}
+use Rattle.model.proofs.Steps.{Empty, due-elim, stepped-sound, cached-less, cached-now, none-empty, wornBy-length, Within, worn-within, Below, stepped-below, steps-clean, steps-within}
 
 -- ---- soundness
 
@@ -54,9 +54,16 @@ module _ (sz : Sizes) (d : Directory) (s : Sound sz d) where
       (λ e′. rw e′ s)))
 
 -- no wear that a test passes is W
-not-worn : (sz : Sizes) (w : List ℕ) (b : ℕ) → b < vacant → isWorn sz w b ≡ false → getD w b 0 < sz .W
+pub not-worn : (sz : Sizes) (w : List ℕ) (b : ℕ) → b < vacant → isWorn sz w b ≡ false → getD w b 0 < sz .W
 unfolding isWorn
 not-worn sz w b l h = leb-false (sz .W) (getD w b 0) (and-not-l (lt-ltb b vacant l) h)
+
+-- a flush that is not refused finds no cached block worn
+pub flush-below : (sz : Sizes) (k : State) → sz .N ≤ lowestWorn sz (k .directory) (k .wear) → Below sz (k .directory) (k .wear)
+unfolding lowestWorn
+flush-below sz k l b bl c = by-test (leb (sz .W) (getD (k .wear) b 0))
+    (λ e. absurd (let q = first-at (sz .N) (λ i. cached sz (k .directory) i && leb (sz .W) (getD (k .wear) i 0)) b bl (and-i c e) in omega arith))
+    (λ e. leb-false (sz .W) (getD (k .wear) b 0) e)
 
 -- ---- a call over numbers
 
@@ -116,13 +123,6 @@ module _ (pick : Choice) (picks : Picks pick) (sz : Sizes) (k : State) (s : Soun
       })))
       (λ e. same)
 
-  -- a flush that is not refused finds no cached block worn
-  flush-below : sz .N ≤ lowestWorn sz (k .directory) (k .wear) → Below sz (k .directory) (k .wear)
-  unfolding lowestWorn
-  flush-below l b bl c = by-test (leb (sz .W) (getD (k .wear) b 0))
-      (λ e. absurd (let q = first-at (sz .N) (λ i. cached sz (k .directory) i && leb (sz .W) (getD (k .wear) i 0)) b bl (and-i c e) in omega arith))
-      (λ e. leb-false (sz .W) (getD (k .wear) b 0) e)
-
   abbrev start : Tally
   start = record { state = k; rewrites = 0; merges = 0 }
 
@@ -135,7 +135,7 @@ module _ (pick : Choice) (picks : Picks pick) (sz : Sizes) (k : State) (s : Soun
       record {
         numbers = c .numbers;
         wear-length = c .wear-length;
-        within = λ h. steps-within pick picks sz (sz .N) start s wl (flush-below (ltb-false _ (sz .N) e)) h;
+        within = λ h. steps-within pick picks sz (sz .N) start s wl (flush-below sz k (ltb-false _ (sz .N) e)) h;
       }))
 
   -- directory and wear stay sound and within W
@@ -210,12 +210,10 @@ module _ (pick : Choice) (picks : Picks pick) (sz : Sizes) where
       let d = t .state .directory in let w = t .state .wear in let bl = y .b-lt in
       let mr : ℕ = mergeReads sz (joined sz d b f) f in
       let t1 : Tally = record { state = record { directory = stepped sz d (due b f); wear = wornBy w b }; rewrites = suc (t .rewrites); merges = mr + t .merges } in
-      let is = wornBy-is sz (s .limits) w b bl in
       let l = cached-less sz d s b f y in
       let go : steps pick sz (suc c) t ≡ steps pick sz c t1 = rw (e, steps) in
       let says = due-answer (t .state) b f e (lo b bl (cached-now sz d s b f y)) in
-      let ih = steps-run c t1 (stepped-sound sz d s b f y) (wornBy-length w b ∙ wl) (omega arith)
-      (λ k kl q. let p = cached-back sz d s b f y k kl q in rw (is, worn-other w b k (p .1)) (lo k kl (p .0))) in
+      let ih = steps-run c t1 (stepped-sound sz d s b f y) (wornBy-length w b ∙ wl) (omega arith) (stepped-below sz d s b f y w lo) in
       let r = ih .0 in let m = ih .1 in let i2 = ih .2 in let i3 = ih .3 in
       rw go (suc r, mr + m, omega arith, omega arith, (b, mr, m, ap (λ (x : Outcome). x .answer) says, refl, rw says (ih .4))))
       (λ q e. let go : steps pick sz (suc c) t ≡ t = rw (e, steps) in rw go (run-none t q))
@@ -232,7 +230,7 @@ flush-is-steps pick picks sz k s wl r m = by-test (ltb (lowestWorn sz (k .direct
     let t0 : Tally = record { state = k; rewrites = 0; merges = 0 } in
     let t = steps pick sz (sz .N) t0 in
     let n = steps-clean pick picks sz (sz .N) t0 s wl (count-le (sz .N) _) .rewrites-are in
-    let run = steps-run pick picks sz (sz .N) t0 s wl (count-le (sz .N) _) (flush-below pick picks sz k s wl (ltb-false _ (sz .N) e)) in
+    let run = steps-run pick picks sz (sz .N) t0 s wl (count-le (sz .N) _) (flush-below sz k (ltb-false _ (sz .N) e)) in
     let r2 = run .2 in let r3 = run .3 in
     let er : t .rewrites ≡ r = cc in let em : t .merges ≡ m = cc in
     let rr : run .0 ≡ r = omega arith in let mm : run .1 ≡ m = omega arith in

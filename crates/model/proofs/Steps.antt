@@ -74,6 +74,12 @@ module _ (sz : Sizes) (d : Directory) (s : Sound sz d) where
       (λ e′. let l = ltb-true (lowestInSlots sz d) (sz .N) e′ in rw e′ (q1 _ _ (ready-slot _ l (ltb-true 0 _ (first-hit (sz .N) (λ b. ltb 0 (slotCount sz d b)) l)) none)))
       (λ e′. rw e′ (q2 (record { no-frames = none; no-slots = λ b bl h. let k = first-at (sz .N) (λ b. ltb 0 (slotCount sz d b)) b bl (lt-ltb 0 _ h) in let k2 = ltb-false (lowestInSlots sz d) (sz .N) e′ in omega arith })))))
 
+  -- what is due may be done
+  pub due-ready : (pick : Choice) → Picks pick → (b f : ℕ) → dueOf pick sz d ≡ due b f → Ready sz d b f
+  due-ready pick picks b f = due-elim pick picks (λ q. q ≡ due b f → Ready sz d b f)
+      (λ c g y e. let eb : c ≡ b = cc in let ef : g ≡ f = cc in rw (eb, ef) at y)
+      (λ n e. absurd (let z : _≡_ {A = ℕ} 0 1 = cc in omega arith))
+
 -- ---- which blocks are cached
 
 module _ (sz : Sizes) (d : Directory) (b : ℕ) where
@@ -217,6 +223,11 @@ worn-within sz w b l h k c = by-test (eqb c b)
 abbrev pub Below : Sizes → Directory → List ℕ → Type 0
 Below sz d w = (b : ℕ) → b < sz .N → cached sz d b ≡ true → getD w b 0 < sz .W
 
+-- a step wears a block that is not cached any more
+pub stepped-below : (sz : Sizes) (d : Directory) → Sound sz d → (b f : ℕ) → Ready sz d b f → (w : List ℕ) → Below sz d w → Below sz (stepped sz d (due b f)) (wornBy w b)
+stepped-below sz d s b f y w lo c l h = let q = cached-back sz d s b f y c l h in
+    rw (wornBy-is sz (s .limits) w b (y .b-lt), worn-other w b c (q .1)) (lo c l (q .0))
+
 module _ (pick : Choice) (picks : Picks pick) (sz : Sizes) where
   -- what c steps come to, where at most c blocks are cached
   pub record Cleaned (t t′ : Tally) : Type 0 where
@@ -256,7 +267,7 @@ module _ (pick : Choice) (picks : Picks pick) (sz : Sizes) where
       let now = lo b bl (cached-now sz d s b f y) in
       let t1 : Tally = record { state = record { directory = stepped sz d (due b f); wear = wornBy w b }; rewrites = suc (t .rewrites); merges = mergeReads sz (joined sz d b f) f + t .merges } in
       steps-within c t1 (stepped-sound sz d s b f y) (wornBy-length w b ∙ wl)
-      (λ k kl h. let q = cached-back sz d s b f y k kl h in rw (is, worn-other w b k (q .1)) (lo k kl (q .0)))
+      (stepped-below sz d s b f y w lo)
       (rw is (worn-within sz w b (omega arith) now hi))))
       (λ q e. rw (e, steps) hi)
       refl

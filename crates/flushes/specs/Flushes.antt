@@ -1,14 +1,24 @@
--- What the cleaning of one block asks and leaves. A primed value is the one afterwards.
+-- What a flush step leaves, and the cleaning of one block. A primed value is the one afterwards.
 use mathlib.Core.Path.{_≡_}
 use Prim.Native.Nat.{ℕ, _<_}
 use lib.ListN.{getD}
 use Rattle.model.specs.Sizes.{Sizes}
 use Rattle.model.specs.Directory.{Directory}
-use Rattle.model.specs.Policy.{mergeReads, due}
+use Rattle.model.specs.Policy.{leastRecent, mergeReads, due, dueOf}
 use Rattle.model.specs.Moves.{wornBy, joined, stepped, steppedPages}
-use Rattle.model.specs.Calls.{Buffers, zeroPage, memoryOf}
+use Rattle.model.specs.Calls.{Answer, State, stepOutcome, Buffers, zeroPage, memoryOf}
 use Rattle.model.proofs.Steps as steps
-use Rattle.answer.specs.Carried.{Ready}
+use Rattle.answer.specs.Carried.{Ready, Carried}
+
+abbrev pub stateIn : Directory → Buffers → State
+stateIn d u = record { directory = d; wear = u .wear }
+
+-- a flush step gave this answer
+abbrev pub StepCarried : Sizes → Directory → Buffers → Answer → Directory → Buffers → Type 0
+StepCarried sz d u answer d′ u′ =
+    let q = dueOf leastRecent sz d in
+    let m = memoryOf sz u in
+    Carried (stepOutcome sz (stateIn d u) q) m (steppedPages (zeroPage sz) sz d m q) answer d′ (u′ .wear) (memoryOf sz u′)
 
 -- ---- one block
 

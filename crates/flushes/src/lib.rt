@@ -1,17 +1,63 @@
 // A flush step and a flush, for a sound record and rightly sized buffers.
 use address::BlockNo;
+use answer::Refusal;
+use answer::Step;
 use cache::Directory;
 use cache::Sizes;
 use moves::join;
 use moves::numbers;
-ghost use Rattle.answer.specs.Carried.{buffers};
+use policy::decision::Due;
+ghost use Rattle.answer.specs.Numbers.{stepOf};
+ghost use Rattle.answer.specs.Carried.{buffers, Ready};
 ghost use Rattle.cache.specs.View.{sizesOf, directoryOf};
-ghost use Rattle.flushes.specs.Flushes.{Cleanable, BlockCleaned};
+ghost use Rattle.flushes.specs.Flushes.{StepCarried, Cleanable, BlockCleaned};
+
+// The directory after a flush step, and the step's answer.
+pub struct Stepped {
+    pub directory: Directory,
+    pub answer: Step,
+}
 
 // The directory once a block is cleaned, and the merge reads of its rewrite.
 struct Cleaned {
     directory: Directory,
     merged: u32,
+}
+
+// One flush step: the block that is due is cleaned, unless it is worn.
+pub fn step(
+    z: Sizes,
+    d: Directory,
+    flash: &mut [u8],
+    wear: &mut [u32],
+    pspace: &[u8],
+    bspace: &mut [u8],
+) -> Stepped
+    requires { ⌜ Ready (sizesOf z) (directoryOf d) (buffers (now flash) (now wear) (now pspace) (now bspace)) ⌝ }
+    ensures { λ r. ⌜ StepCarried (sizesOf z) (directoryOf d) (buffers (now (flash .entry)) (now (wear .entry)) (now (pspace .entry)) (now (bspace .entry))) (stepOf (r .answer)) (directoryOf (r .directory)) (buffers (now (flash .exit)) (now (wear .exit)) (now (pspace .entry)) (now (bspace .exit))) ⌝ }
+{
+    let due = policy::flush::due(z, d);
+    let Due::Block(b, f) = due else {
+        return Stepped {
+            directory: d,
+            answer: Step::Clean,
+        };
+    };
+    if policy::flush::is_worn(z, wear, b) {
+        return Stepped {
+            directory: d,
+            answer: Step::Refused(Refusal::Worn(b)),
+        };
+    }
+    let cleaned = clean_block(z, d, flash, wear, pspace, bspace, b, f);
+    let directory = cleaned.directory;
+    Stepped {
+        directory,
+        answer: Step::Done {
+            block: b,
+            merged: cleaned.merged,
+        },
+    }
 }
 
 // Block b's pages in slots join frame f, and the frame is rewritten and vacated.

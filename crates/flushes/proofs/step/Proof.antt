@@ -1,0 +1,65 @@
+use borrow.Author.Needs.{needs}
+use mathlib.Core.Path.{_≡_, sym, ap, _∙_}
+use Rattle.model.specs.Policy.{leastRecent, due, dueOf}
+use Rattle.cache.specs.View.{sizesOf, directoryOf}
+use Rattle.policy.specs.Views.{dueView}
+use Rattle.flushes.proofs.Stepping.{step-clean, has-wear, step-worn, cleanable, step-done}
+use Rattle.flushes.proofs.step.Statement.{statement}
+use Rattle.flushes.proofs.step.Tie as tie
+
+-- the block and the frame that are due
+found : (c : tie.After-due2) → due (c .due2 .given .0 .0 .0) (c .due2 .given .0 .1 .0) ≡ dueOf leastRecent (sizesOf (c .before .before .before .before .before .before .before .args .z)) (directoryOf (c .before .before .before .before .before .before .before .args .d))
+found c = sym (ap dueView (c .due2 .given .1)) ∙ c .before .before .due .ensures
+
+due-requires : tie.Need-due-requires
+due-requires c κs = search needs
+
+enum-known-due : tie.Need-enum-known-due
+enum-known-due c = search needs
+
+enum-told : tie.Need-enum-told
+enum-told c = search needs
+
+returns : tie.Need-returns
+returns c = step-clean (c .before .before .before .before .before .before .before .pre) (sym (ap dueView (c .enum-told .given .1)) ∙ c .before .before .due .ensures)
+
+is-worn-requires : tie.Need-is-worn-requires
+is-worn-requires c κs = has-wear (c .before .before .before .before .before .before .before .before .before .pre) _ _ (found (c .before .before))
+
+same-length : tie.Need-same-length
+same-length c = search needs
+
+returns-2 : tie.Need-returns-2
+returns-2 c = step-worn (c .before .before .before .before .before .before .before .before .before .before .before .pre) _ _ (found (c .before .before .before .before)) (sym (c .before .is-worn .ensures) ∙ c .if1 .taken)
+
+clean-block-requires : tie.Need-clean-block-requires
+clean-block-requires c κs = cleanable (c .before .before .before .before .before .before .before .before .before .before .before .before .before .before .pre) _ _ (found (c .before .before .before .before .before .before .before)) (sym (c .before .before .before .before .is-worn .ensures) ∙ c .before .before .before .if1 .left)
+
+same-length-2 : tie.Need-same-length-2
+same-length-2 c = search needs
+
+same-length-3 : tie.Need-same-length-3
+same-length-3 c = search needs
+
+same-length-4 : tie.Need-same-length-4
+same-length-4 c = search needs
+
+returns-3 : tie.Need-returns-3
+returns-3 c = step-done (c .before .before .before .before .before .before .before .before .before .before .before .before .before .before .before .before .before .before .before .before .before .before .pre) _ _ (found (c .before .before .before .before .before .before .before .before .before .before .before .before .before .before .before)) (sym (c .before .before .before .before .before .before .before .before .before .before .before .before .is-worn .ensures) ∙ c .before .before .before .before .before .before .before .before .before .before .before .if1 .left) (c .before .before .before .before .before .before .before .clean-block .ensures)
+
+pub step-spec : {M : Type 1} → statement M
+step-spec =
+    tie.close
+    (tie.spec
+    due-requires
+    enum-known-due
+    enum-told
+    returns
+    is-worn-requires
+    same-length
+    returns-2
+    clean-block-requires
+    same-length-2
+    same-length-3
+    same-length-4
+    returns-3)

@@ -7,8 +7,11 @@ use Rattle.flushes.proofs.Stepping.{step-clean, has-wear, step-worn, cl
 use Rattle.flushes.proofs.step.Statement.{statement}
 use Rattle.flushes.proofs.step.Tie as tie
 
+abbrev start : tie.After-due2 → tie.Start
+start c = c .before .before .before .before .before .before .before
+
 -- the block and the frame that are due
-found : (c : tie.After-due2) → due (c .due2 .given .0 .0 .0) (c .due2 .given .0 .1 .0) ≡ dueOf leastRecent (sizesOf (c .before .before .before .before .before .before .before .args .z)) (directoryOf (c .before .before .before .before .before .before .before .args .d))
+found : (c : tie.After-due2) → due (c .due2 .given .0 .0 .0) (c .due2 .given .0 .1 .0) ≡ dueOf leastRecent (sizesOf (start c .args .z)) (directoryOf (start c .args .d))
 found c = sym (ap dueView (c .due2 .given .1)) ∙ c .before .before .due .ensures
 
 due-requires : tie.Need-due-requires
@@ -24,16 +27,16 @@ returns : tie.Need-returns
 returns c = step-clean (c .before .before .before .before .before .before .before .pre) (sym (ap dueView (c .enum-told .given .1)) ∙ c .before .before .due .ensures)
 
 is-worn-requires : tie.Need-is-worn-requires
-is-worn-requires c κs = has-wear (c .before .before .before .before .before .before .before .before .before .pre) _ _ (found (c .before .before))
+is-worn-requires c κs = let at = c .before .before in has-wear (start at .pre) _ _ (found at)
 
 same-length : tie.Need-same-length
 same-length c = search needs
 
 returns-2 : tie.Need-returns-2
-returns-2 c = step-worn (c .before .before .before .before .before .before .before .before .before .before .before .pre) _ _ (found (c .before .before .before .before)) (sym (c .before .is-worn .ensures) ∙ c .if1 .taken)
+returns-2 c = let at = c .before .before .before .before in step-worn (start at .pre) _ _ (found at) (sym (c .before .is-worn .ensures) ∙ c .if1 .taken)
 
 clean-block-requires : tie.Need-clean-block-requires
-clean-block-requires c κs = cleanable (c .before .before .before .before .before .before .before .before .before .before .before .before .before .before .pre) _ _ (found (c .before .before .before .before .before .before .before)) (sym (c .before .before .before .before .is-worn .ensures) ∙ c .before .before .before .if1 .left)
+clean-block-requires c κs = let at = c .before .before .before .before .before .before .before in cleanable (start at .pre) _ _ (found at) (sym (c .before .before .before .before .is-worn .ensures) ∙ c .before .before .before .if1 .left)
 
 same-length-2 : tie.Need-same-length-2
 same-length-2 c = search needs
@@ -45,7 +48,7 @@ same-length-4 : tie.Need-same-length-4
 same-length-4 c = search needs
 
 returns-3 : tie.Need-returns-3
-returns-3 c = step-done (c .before .before .before .before .before .before .before .before .before .before .before .before .before .before .before .before .before .before .before .before .before .before .pre) _ _ (found (c .before .before .before .before .before .before .before .before .before .before .before .before .before .before .before)) (sym (c .before .before .before .before .before .before .before .before .before .before .before .before .is-worn .ensures) ∙ c .before .before .before .before .before .before .before .before .before .before .before .if1 .left) (c .before .before .before .before .before .before .before .clean-block .ensures)
+returns-3 c = step-done (start (c .before .before .before .before .before .before .before .before .before .before .before .before .before .before .before) .pre) _ _ (found (c .before .before .before .before .before .before .before .before .before .before .before .before .before .before .before)) (sym (c .before .before .before .before .before .before .before .before .before .before .before .before .is-worn .ensures) ∙ c .before .before .before .before .before .before .before .before .before .before .before .if1 .left) (c .before .before .before .before .before .before .before .clean-block .ensures)
 
 pub step-spec : {M : Type 1} → statement M
 step-spec =

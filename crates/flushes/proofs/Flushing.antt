@@ -1,0 +1,110 @@
+-- A flush under way: what holds before each of its turns, and what it comes to.
+use mathlib.Core.Path.{_≡_, refl, sym, ap, _∙_}
+use Prim.Native.Nat.{ℕ, zero, suc, _+_, _-_, _*_, _≤_, _<_}
+use native.Mathlib.Nat.{sub-zero, mul-le-mul-right, suc-mul}
+use native.Mathlib.Omega.{arith}
+use borrow.Author.Tests.{lt-ltb, le-ltb}
+use Rattle.prelude.specs.Scan.{count}
+use Rattle.prelude.proofs.Scan.{count-le}
+use Rattle.model.specs.Sizes.{Sizes, vacant}
+use Rattle.model.specs.Directory.{Directory}
+use Rattle.model.specs.Policy.{leastRecent, clean, due, dueOf, cached, lowestWorn}
+use Rattle.model.specs.Moves.{Memory}
+use Rattle.model.specs.Calls.{flushDone, refused, Tally, steps, flushOutcome, stepsPages, Page, Buffers, Fits, zeroPage, memoryOf}
+use Rattle.model.proofs.Soundness.{pages-small}
+use Rattle.model.proofs.Steps.{Below, stepped-sound, cached-now, cached-less, stepped-below}
+use Rattle.model.proofs.Calls.{flush-below}
+use Rattle.answer.specs.Carried.{Ready}
+use Rattle.flushes.specs.Flushes.{stateIn, FlushCarried, Flushable, Cleanable, BlockCleaned}
+use Rattle.flushes.proofs.Stepping.{block-ready}
+
+abbrev tally : Directory → Buffers → ℕ → ℕ → Tally
+tally d u rewrites merges = record { state = stateIn d u; rewrites = rewrites; merges = merges }
+
+-- The flush began at d₀ and u₀ and has come to d and u. The steps that are left lead where all of them lead from the beginning.
+pub record Underway (sz : Sizes) (d₀ : Directory) (u₀ : Buffers) (d : Directory) (u : Buffers) (rewrites merges : ℕ) : Type 0 where
+  pub ready : Ready sz d u
+  -- no block with a page cached is worn
+  pub below : Below sz d (u .wear)
+  -- a step is left for each block with a page cached
+  pub few : count (sz .N) (cached sz d) + rewrites ≤ sz .N
+  pub merges-le : merges ≤ rewrites * sz .K
+  pub numbers : steps leastRecent sz (sz .N - rewrites) (tally d u rewrites merges) ≡ steps leastRecent sz (sz .N) (tally d₀ u₀ 0 0)
+  pub pages : stepsPages leastRecent sz (zeroPage sz) (sz .N - rewrites) d (memoryOf sz u) ≡ stepsPages leastRecent sz (zeroPage sz) (sz .N) d₀ (memoryOf sz u₀)
+
+-- ---- steps by what is due
+
+module _ (sz : Sizes) (d : Directory) where
+  steps-stop : (u : Buffers) (r m : ℕ) → clean ≡ dueOf leastRecent sz d → (c : ℕ) → steps leastRecent sz c (tally d u r m) ≡ tally d u r m
+  unfolding steps
+  steps-stop u r m e zero = refl
+  steps-stop u r m e (suc c) = rw (← e, steps)
+
+  pages-stop : (m : Memory Page) → clean ≡ dueOf leastRecent sz d → (c : ℕ) → stepsPages leastRecent sz (zeroPage sz) c d m ≡ m
+  unfolding stepsPages
+  pages-stop m e zero = refl
+  pages-stop m e (suc c) = rw (← e, stepsPages)
+
+-- ---- a refused flush, and the first turn
+
+pub flush-worn : (sz : Sizes) (d : Directory) (u : Buffers) (b : ℕ) → b ≡ lowestWorn sz d (u .wear) → b < sz .N → FlushCarried sz d u (refused 6 b) d u
+unfolding flushOutcome
+flush-worn sz d u b e l = rw (lt-ltb (lowestWorn sz d (u .wear)) (sz .N) (rw (sym e) l), flushOutcome) (record { answer-is = ap (refused 6) e; directory-is = refl; wear-is = refl; pages-are = refl })
+
+pub begins : {sz : Sizes} {d : Directory} {u : Buffers} → Flushable sz d u → Underway sz d u d u 0 0
+begins {sz} {d} {u} q = record {
+  ready = q .ready;
+  below = flush-below sz (stateIn d u) (q .none-worn);
+  few = (let h = count-le (sz .N) (cached sz d) in omega arith);
+  merges-le = omega arith;
+  numbers = rw (sub-zero (sz .N));
+  pages = rw (sub-zero (sz .N));
+}
+
+-- ---- each turn
+
+module _ {sz : Sizes} {d₀ : Directory} {u₀ : Buffers} {d : Directory} {u : Buffers} {rewrites merges : ℕ} (k : Underway sz d₀ u₀ d u rewrites merges) where
+  -- nothing is cached any more
+  pub flush-done : Flushable sz d₀ u₀ → clean ≡ dueOf leastRecent sz d → FlushCarried sz d₀ u₀ (flushDone rewrites merges) d u
+  unfolding flushOutcome
+  flush-done q e =
+      let ends : tally d u rewrites merges ≡ steps leastRecent sz (sz .N) (tally d₀ u₀ 0 0) = sym (steps-stop sz d u rewrites merges e _) ∙ k .numbers in
+      rw (le-ltb (lowestWorn sz d₀ (u₀ .wear)) (sz .N) (q .none-worn), flushOutcome) (record {
+        answer-is = ap (λ (t : Tally). flushDone (t .rewrites) (t .merges)) ends;
+        directory-is = ap (λ (t : Tally). t .state .directory) ends;
+        wear-is = ap (λ (t : Tally). t .state .wear) ends;
+        pages-are = sym (pages-stop sz d _ e _) ∙ k .pages;
+      })
+
+  module _ (b f : ℕ) (e : due b f ≡ dueOf leastRecent sz d) where
+    pub cleanable : Cleanable sz d u b f
+    cleanable = let y = block-ready (k .ready) b f e in
+        record { ready = k .ready; block = y; unworn = k .below b (y .b-lt) (cached-now sz d (k .ready .sound) b f y) }
+
+    -- there is a step left
+    pub left : rewrites < sz .N
+    left = let h = cached-less sz d (k .ready .sound) b f (block-ready (k .ready) b f e) in let l = k .few in omega arith
+
+    module _ {d′ : Directory} {reads : ℕ} {u′ : Buffers} (c : BlockCleaned sz d u b f d′ reads u′) where
+      reads-le : reads ≤ sz .K
+      reads-le = let h = c .reads-are in omega arith
+
+      merges-next : reads + merges ≤ suc rewrites * sz .K
+      merges-next = let h = reads-le in let l = k .merges-le in let s = suc-mul rewrites (sz .K) in omega arith
+
+      pub merges-small : reads + merges < vacant
+      merges-small = let h = merges-next in let l = mul-le-mul-right (sz .K) left in let s = pages-small sz (k .ready .sound .limits) in omega arith
+
+      pub turns : Fits sz u′ → (r m : ℕ) → r ≡ suc rewrites → m ≡ reads + merges → Underway sz d₀ u₀ d′ u′ r m
+      unfolding steps stepsPages
+      turns fits r m er em =
+          let y = block-ready (k .ready) b f e in
+          let fuel : sz .N - rewrites ≡ suc (sz .N - suc rewrites) = (let l = left in omega arith) in
+          record {
+            ready = record { sound = rw (c .directory-is) (stepped-sound sz d (k .ready .sound) b f y); fits = fits };
+            below = rw (c .directory-is, c .wear-is) (stepped-below sz d (k .ready .sound) b f y (u .wear) (k .below));
+            few = rw (c .directory-is) (let h = cached-less sz d (k .ready .sound) b f y in let l = k .few in omega arith);
+            merges-le = rw (em, er) merges-next;
+            numbers = rw (c .directory-is, c .wear-is, em, c .reads-are, er) (rw (fuel, ← e, steps) at (k .numbers));
+            pages = rw (c .directory-is, c .pages-are, er) (rw (fuel, ← e, stepsPages) at (k .pages));
+          }

@@ -1,0 +1,41 @@
+use borrow.Author.Needs.{needs}
+use Rattle.flushes.proofs.Flushing.{flush-worn}
+use Rattle.flushes.proofs.flush.Statement.{statement}
+use Rattle.flushes.proofs.flush.Tie as tie
+
+lowest-worn-requires : tie.Need-lowest-worn-requires
+lowest-worn-requires c κs = search needs
+
+same-length : tie.Need-same-length
+same-length c = search needs
+
+returns : tie.Need-returns
+returns c = flush-worn _ _ _ _ (c .before .before .lowest-worn .ensures) (c .if1 .taken)
+
+clean-all-requires : tie.Need-clean-all-requires
+clean-all-requires c κs = search needs
+
+same-length-2 : tie.Need-same-length-2
+same-length-2 c = search needs
+
+same-length-3 : tie.Need-same-length-3
+same-length-3 c = search needs
+
+same-length-4 : tie.Need-same-length-4
+same-length-4 c = search needs
+
+returns-2 : tie.Need-returns-2
+returns-2 c = search needs
+
+pub flush-spec : {M : Type 1} → statement M
+flush-spec =
+    tie.close
+    (tie.spec
+    lowest-worn-requires
+    same-length
+    returns
+    clean-all-requires
+    same-length-2
+    same-length-3
+    same-length-4
+    returns-2)

@@ -10,9 +10,9 @@ use Rattle.prelude.proofs.Tests.{by-test}
 use Rattle.model.specs.Sizes.{Sizes, vacant}
 use Rattle.model.specs.Directory.{Directory}
 use Rattle.model.specs.Soundness.{sound}
-use Rattle.model.specs.Policy.{Choice, leastRecent, plan}
+use Rattle.model.specs.Policy.{Choice, leastRecent, plan, dueOf}
 use Rattle.model.specs.Moves.{Memory}
-use Rattle.model.specs.Calls.{Answer, readDone, refused, isRefused, Call, read, write, State, Outcome, turnedDown, checked, readOutcome, writeOutcome, decide, callPages, Page, Buffers, lentOk, Fits, Store, Result, zeroPage, memoryOf, buffersOf, stateOf, told, lentBuffer, filledBuffer, unaltered, carriedOut, call}
+use Rattle.model.specs.Calls.{Answer, readDone, refused, isRefused, Call, read, write, step, flush, State, Outcome, turnedDown, checked, readOutcome, writeOutcome, stepOutcome, flushOutcome, decide, callPages, Page, Buffers, lentOk, Fits, Store, Result, zeroPage, memoryOf, buffersOf, stateOf, told, lentBuffer, filledBuffer, unaltered, carriedOut, call}
 use Rattle.model.proofs.Demand3.{decide-keeps}
 use Rattle.model.proofs.Buffers.{buffers-of-memory, fits-of}
 use Rattle.model.proofs.Soundness.{sound-facts}
@@ -21,6 +21,7 @@ use Rattle.answer.specs.Carried.{Ready, Carried}
 use Rattle.reads.specs.declared.Done.{Done}
 use Rattle.reads.specs.Reads.{Readable, ReadOut}
 use Rattle.writes.specs.Writes.{Writable, Wrote}
+use Rattle.flushes.specs.Flushes.{StepCarried, FlushCarried}
 
 module _ (pick : Choice) (s : Store) (c : Call Page) where
   abbrev sz : Sizes
@@ -111,6 +112,10 @@ module _ (s : Store) (c : Call Page) (n long : ℕ) (o : Outcome) (is : decide l
       let q : decide leastRecent (s .cache .sizes) (stateOf s) (told c) ≡ o = is ∙ checked-passed (s .cache .sizes) (stateOf s) n long o e l in
       carried-call leastRecent s c (fits-of (s .cache .sizes) (s .lent) b) u′ f′ answer d′ page′ (rw q h) (rw q p) ∙ sym (call-carried leastRecent s c a b)
 
+same-either : (x : Page) (t : Bool) → x ≡ cond t x x
+same-either x true = refl
+same-either x false = refl
+
 module _ (s : Store) (n : ℕ) (x : Page) where
   pub read-checked : decide leastRecent (s .cache .sizes) (stateOf s) (told (read n x)) ≡ checked (s .cache .sizes) (stateOf s) n (length x) (readOutcome (s .cache .sizes) (stateOf s) n)
   unfolding decide
@@ -139,8 +144,21 @@ module _ (s : Store) (n : ℕ) (x : Page) where
       → Wrote (s .cache .sizes) (s .cache .directory) (s .lent) n x (plan leastRecent (s .cache .sizes) (s .cache .directory) (s .lent .wear) n) answer d′ u′
       → record { answer = answer; store = record { cache = record { sizes = s .cache .sizes; directory = d′ }; lent = u′ }; page = x } ≡ call leastRecent s (write n x)
     unfolding callPages
-    write-done u′ f′ answer d′ h = call-passed s (write n x) n (length x) (writeOutcome (s .cache .sizes) (stateOf s) n (plan leastRecent (s .cache .sizes) (s .cache .directory) (s .lent .wear) n)) write-checked a b e l u′ f′ answer d′ x h (same-either (isRefused (writeOutcome (s .cache .sizes) (stateOf s) n (plan leastRecent (s .cache .sizes) (s .cache .directory) (s .lent .wear) n) .answer)))
-      where
-        same-either : (t : Bool) → x ≡ cond t x x
-        same-either true = refl
-        same-either false = refl
+    write-done u′ f′ answer d′ h = call-passed s (write n x) n (length x) (writeOutcome (s .cache .sizes) (stateOf s) n (plan leastRecent (s .cache .sizes) (s .cache .directory) (s .lent .wear) n)) write-checked a b e l u′ f′ answer d′ x h (same-either x (isRefused (writeOutcome (s .cache .sizes) (stateOf s) n (plan leastRecent (s .cache .sizes) (s .cache .directory) (s .lent .wear) n) .answer)))
+
+-- ---- the calls without a page buffer
+
+module _ (s : Store) (a : sound (s .cache .sizes) (s .cache .directory) ≡ true) (b : lentOk (s .cache .sizes) (s .lent) ≡ true) where
+  pub ready : Ready (s .cache .sizes) (s .cache .directory) (s .lent)
+  ready = record { sound = sound-facts (s .cache .sizes) (s .cache .directory) a; fits = fits-of (s .cache .sizes) (s .lent) b }
+
+  module _ (u′ : Buffers) (f′ : Fits (s .cache .sizes) u′) (answer : Answer) (d′ : Directory) where
+    pub step-done : StepCarried (s .cache .sizes) (s .cache .directory) (s .lent) answer d′ u′
+      → record { answer = answer; store = record { cache = record { sizes = s .cache .sizes; directory = d′ }; lent = u′ }; page = [] } ≡ call leastRecent s step
+    unfolding decide callPages
+    step-done h = carried-call leastRecent s step (ready .fits) u′ f′ answer d′ [] h (same-either [] (isRefused (stepOutcome (s .cache .sizes) (stateOf s) (dueOf leastRecent (s .cache .sizes) (s .cache .directory)) .answer))) ∙ sym (call-carried leastRecent s step a b)
+
+    pub flush-done : FlushCarried (s .cache .sizes) (s .cache .directory) (s .lent) answer d′ u′
+      → record { answer = answer; store = record { cache = record { sizes = s .cache .sizes; directory = d′ }; lent = u′ }; page = [] } ≡ call leastRecent s flush
+    unfolding decide callPages
+    flush-done h = carried-call leastRecent s flush (ready .fits) u′ f′ answer d′ [] h (same-either [] (isRefused (flushOutcome leastRecent (s .cache .sizes) (stateOf s) .answer))) ∙ sym (call-carried leastRecent s flush a b)

@@ -1,5 +1,6 @@
 -- The record, the lent buffers and what a call hands back, as the model has them.
 use mathlib.Core.Bool.{Bool, _&&_}
+use mathlib.Core.List.{[]}
 use Prim.Native.Nat.{ℕ, _*_}
 use lib.Dec.{eqb}
 use Rattle.model.specs.Sizes as sizes
@@ -7,11 +8,13 @@ use Rattle.model.specs.Directory as directory
 use Rattle.model.specs.Calls as calls
 use Rattle.model.specs.Calls.{Buffers, Page}
 use Rattle.cache.specs.View.{sizesOf, directoryOf}
-use Rattle.answer.specs.Numbers.{openingOf, readOf, writeOf}
+use Rattle.answer.specs.Numbers.{openingOf, readOf, writeOf, stepOf, flushOf}
 use Rattle.store.specs.declared.Cache.{Cache}
 use Rattle.store.specs.declared.Opened.{Opened}
 use Rattle.store.specs.declared.ReadOut.{ReadOut}
 use Rattle.store.specs.declared.WriteOut.{WriteOut}
+use Rattle.store.specs.declared.StepOut.{StepOut}
+use Rattle.store.specs.declared.FlushOut.{FlushOut}
 
 abbrev pub cacheOf : Cache → directory.Cache
 cacheOf c = record { sizes = sizesOf (c .sizes); directory = directoryOf (c .directory) }
@@ -29,6 +32,13 @@ readResult r u page = record { answer = readOf (r .answer); store = storeOf (r .
 
 abbrev pub writeResult : WriteOut → Buffers → Page → calls.Result
 writeResult r u page = record { answer = writeOf (r .answer); store = storeOf (r .cache) u; page = page }
+
+-- a flush step and a flush have no page buffer
+abbrev pub stepResult : StepOut → Buffers → calls.Result
+stepResult r u = record { answer = stepOf (r .answer); store = storeOf (r .cache) u; page = [] }
+
+abbrev pub flushResult : FlushOut → Buffers → calls.Result
+flushResult r u = record { answer = flushOf (r .answer); store = storeOf (r .cache) u; page = [] }
 
 -- the lengths that the sizes ask for
 unfoldable pub lengthsOk : sizes.Sizes → ℕ → ℕ → ℕ → ℕ → Bool

@@ -1,5 +1,6 @@
 // The page store: the cache record, and the calls on it. Each call takes the record by value with the lent buffers and hands
 // back the next record beside its answer; a refused call changes nothing.
+mod flush; // flush.rt: a flush step, and a flush
 mod lent; // lent.rt: whether lent buffers are as the sizes ask
 mod open; // open.rt: the blank record, and opening a store
 mod read; // read.rt: reading a page
@@ -32,4 +33,16 @@ pub struct ReadOut {
 pub struct WriteOut {
     pub cache: Cache,
     pub answer: answer::Write,
+}
+
+// The record after a flush step, and its answer.
+pub struct StepOut {
+    pub cache: Cache,
+    pub answer: answer::Step,
+}
+
+// The record after a flush, and its answer.
+pub struct FlushOut {
+    pub cache: Cache,
+    pub answer: answer::Flush,
 }

@@ -56,25 +56,25 @@ module _ (pick : Choice) (s : Store) (c : Call Page) where
 
   module _ (f : Fits sz (s .lent)) (u′ : Buffers) (f′ : Fits sz u′) (a : Answer) (d′ : Directory) (page′ : Page) where
     pub carried-call : Carried (decide pick sz (stateOf s) (told c)) (memoryOf sz (s .lent)) (callPages pick sz (zeroPage sz) (stateOf s) (memoryOf sz (s .lent)) c) a d′ (u′ .wear) (memoryOf sz u′)
-      → page′ ≡ bufferAfter (decide pick sz (stateOf s) (told c))
-      → record { answer = a; store = record { cache = record { sizes = sz; directory = d′ }; lent = u′ }; page = page′ } ≡ carriedOut pick s c (decide pick sz (stateOf s) (told c))
+        → page′ ≡ bufferAfter (decide pick sz (stateOf s) (told c))
+        → record { answer = a; store = record { cache = record { sizes = sz; directory = d′ }; lent = u′ }; page = page′ } ≡ carriedOut pick s c (decide pick sz (stateOf s) (told c))
     unfolding carriedOut
     carried-call h p =
         let o : Outcome = decide pick sz (stateOf s) (told c) in
         by-test (isRefused (o .answer))
-          (λ e. let k = decide-keeps sz (stateOf s) pick (told c) e in
-            let w : u′ .wear ≡ s .lent .wear = h .wear-is ∙ ap (λ (x : State). x .wear) k in
-            let m : memoryOf sz u′ ≡ memoryOf sz (s .lent) = h .pages-are ∙ rw e in
-            let u : u′ ≡ s .lent = sym (joined-again u′ f′) ∙ ap (λ (x : Memory Page). buffersOf x (u′ .wear)) m ∙ ap (buffersOf (memoryOf sz (s .lent))) w ∙ joined-again (s .lent) f in
-            let d : d′ ≡ s .cache .directory = h .directory-is ∙ ap (λ (x : State). x .directory) k in
-            let q : page′ ≡ lentBuffer c = p ∙ rw e in
-            let b : a ≡ o .answer = h .answer-is in
-            rw (e, carriedOut) (λ i. record { answer = b i; store = record { cache = record { sizes = sz; directory = d i }; lent = u i }; page = q i }))
-          (λ e. let m : memoryOf sz u′ ≡ callPages pick sz (zeroPage sz) (stateOf s) (memoryOf sz (s .lent)) c = h .pages-are ∙ rw e in
-            let u : u′ ≡ buffersOf (callPages pick sz (zeroPage sz) (stateOf s) (memoryOf sz (s .lent)) c) (o .state .wear) = sym (joined-again u′ f′) ∙ ap (λ (x : Memory Page). buffersOf x (u′ .wear)) m ∙ ap (buffersOf (callPages pick sz (zeroPage sz) (stateOf s) (memoryOf sz (s .lent)) c)) (h .wear-is) in
-            let q : page′ ≡ filledBuffer sz (s .cache .directory) (memoryOf sz (s .lent)) c = p ∙ rw e in
-            let b : a ≡ o .answer = h .answer-is in let d : d′ ≡ o .state .directory = h .directory-is in
-            rw (e, carriedOut) (λ i. record { answer = b i; store = record { cache = record { sizes = sz; directory = d i }; lent = u i }; page = q i }))
+        (λ e. let k = decide-keeps sz (stateOf s) pick (told c) e in
+        let w : u′ .wear ≡ s .lent .wear = h .wear-is ∙ ap (λ (x : State). x .wear) k in
+        let m : memoryOf sz u′ ≡ memoryOf sz (s .lent) = h .pages-are ∙ rw e in
+        let u : u′ ≡ s .lent = sym (joined-again u′ f′) ∙ ap (λ (x : Memory Page). buffersOf x (u′ .wear)) m ∙ ap (buffersOf (memoryOf sz (s .lent))) w ∙ joined-again (s .lent) f in
+        let d : d′ ≡ s .cache .directory = h .directory-is ∙ ap (λ (x : State). x .directory) k in
+        let q : page′ ≡ lentBuffer c = p ∙ rw e in
+        let b : a ≡ o .answer = h .answer-is in
+        rw (e, carriedOut) (λ i. record { answer = b i; store = record { cache = record { sizes = sz; directory = d i }; lent = u i }; page = q i }))
+        (λ e. let m : memoryOf sz u′ ≡ callPages pick sz (zeroPage sz) (stateOf s) (memoryOf sz (s .lent)) c = h .pages-are ∙ rw e in
+        let u : u′ ≡ buffersOf (callPages pick sz (zeroPage sz) (stateOf s) (memoryOf sz (s .lent)) c) (o .state .wear) = sym (joined-again u′ f′) ∙ ap (λ (x : Memory Page). buffersOf x (u′ .wear)) m ∙ ap (buffersOf (callPages pick sz (zeroPage sz) (stateOf s) (memoryOf sz (s .lent)) c)) (h .wear-is) in
+        let q : page′ ≡ filledBuffer sz (s .cache .directory) (memoryOf sz (s .lent)) c = p ∙ rw e in
+        let b : a ≡ o .answer = h .answer-is in let d : d′ ≡ o .state .directory = h .directory-is in
+        rw (e, carriedOut) (λ i. record { answer = b i; store = record { cache = record { sizes = sz; directory = d i }; lent = u i }; page = q i }))
 
 -- ---- the checks of a read and a write
 
@@ -105,9 +105,9 @@ module _ (s : Store) (c : Call Page) (n long : ℕ) (o : Outcome) (is : decide l
 
   -- accepted, as far as these checks go
   pub call-passed : long ≡ s .cache .sizes .S → n < s .cache .sizes .N * s .cache .sizes .K → (u′ : Buffers) → Fits (s .cache .sizes) u′ → (answer : Answer) (d′ : Directory) (page′ : Page)
-    → Carried o (memoryOf (s .cache .sizes) (s .lent)) (callPages leastRecent (s .cache .sizes) (zeroPage (s .cache .sizes)) (stateOf s) (memoryOf (s .cache .sizes) (s .lent)) c) answer d′ (u′ .wear) (memoryOf (s .cache .sizes) u′)
-    → page′ ≡ bufferAfter leastRecent s c o
-    → record { answer = answer; store = record { cache = record { sizes = s .cache .sizes; directory = d′ }; lent = u′ }; page = page′ } ≡ call leastRecent s c
+      → Carried o (memoryOf (s .cache .sizes) (s .lent)) (callPages leastRecent (s .cache .sizes) (zeroPage (s .cache .sizes)) (stateOf s) (memoryOf (s .cache .sizes) (s .lent)) c) answer d′ (u′ .wear) (memoryOf (s .cache .sizes) u′)
+      → page′ ≡ bufferAfter leastRecent s c o
+      → record { answer = answer; store = record { cache = record { sizes = s .cache .sizes; directory = d′ }; lent = u′ }; page = page′ } ≡ call leastRecent s c
   call-passed e l u′ f′ answer d′ page′ h p =
       let q : decide leastRecent (s .cache .sizes) (stateOf s) (told c) ≡ o = is ∙ checked-passed (s .cache .sizes) (stateOf s) n long o e l in
       carried-call leastRecent s c (fits-of (s .cache .sizes) (s .lent) b) u′ f′ answer d′ page′ (rw q h) (rw q p) ∙ sym (call-carried leastRecent s c a b)
@@ -122,27 +122,33 @@ module _ (s : Store) (n : ℕ) (x : Page) where
   read-checked = refl
 
   pub write-checked : decide leastRecent (s .cache .sizes) (stateOf s) (told (write n x))
-    ≡ checked (s .cache .sizes) (stateOf s) n (length x) (writeOutcome (s .cache .sizes) (stateOf s) n (plan leastRecent (s .cache .sizes) (s .cache .directory) (s .lent .wear) n))
+      ≡ checked (s .cache .sizes) (stateOf s) n (length x) (writeOutcome (s .cache .sizes) (stateOf s) n (plan leastRecent (s .cache .sizes) (s .cache .directory) (s .lent .wear) n))
   unfolding decide
   write-checked = refl
 
   module _ (a : sound (s .cache .sizes) (s .cache .directory) ≡ true) (b : lentOk (s .cache .sizes) (s .lent) ≡ true) (e : length x ≡ s .cache .sizes .S) (l : n < s .cache .sizes .N * s .cache .sizes .K) where
     pub readable : Readable (s .cache .sizes) (s .cache .directory) (s .lent .flash) (s .lent .pspace) (s .lent .bspace) n x
     readable = let f = fits-of (s .cache .sizes) (s .lent) b in record {
-        sound = sound-facts (s .cache .sizes) (s .cache .directory) a; flash-length = f .flash-length; pspace-length = f .pspace-length; bspace-length = f .bspace-length; page-lt = l; page-length = e }
+      sound = sound-facts (s .cache .sizes) (s .cache .directory) a;
+      flash-length = f .flash-length;
+      pspace-length = f .pspace-length;
+      bspace-length = f .bspace-length;
+      page-lt = l;
+      page-length = e;
+    }
 
     pub writable : Writable (s .cache .sizes) (s .cache .directory) (s .lent) n x
     writable = record { ready = record { sound = sound-facts (s .cache .sizes) (s .cache .directory) a; fits = fits-of (s .cache .sizes) (s .lent) b }; page-lt = l; page-length = e }
 
     pub read-done : (out : Done) (page′ : Page) → ReadOut (s .cache .sizes) (s .cache .directory) (s .lent .flash) (s .lent .pspace) (s .lent .bspace) n out page′
-      → record { answer = readDone (out .way); store = record { cache = record { sizes = s .cache .sizes; directory = directoryOf (out .directory) }; lent = s .lent }; page = page′ } ≡ call leastRecent s (read n x)
+        → record { answer = readDone (out .way); store = record { cache = record { sizes = s .cache .sizes; directory = directoryOf (out .directory) }; lent = s .lent }; page = page′ } ≡ call leastRecent s (read n x)
     unfolding readOutcome callPages memoryOf
     read-done out page′ h = call-passed s (read n x) n (length x) (readOutcome (s .cache .sizes) (stateOf s) n) read-checked a b e l (s .lent) (fits-of (s .cache .sizes) (s .lent) b) (readDone (out .way)) (directoryOf (out .directory)) page′
         (record { answer-is = ap readDone (h .way-is); directory-is = h .directory-is; wear-is = refl; pages-are = refl }) (h .page-is)
 
     pub write-done : (u′ : Buffers) → Fits (s .cache .sizes) u′ → (answer : Answer) (d′ : Directory)
-      → Wrote (s .cache .sizes) (s .cache .directory) (s .lent) n x (plan leastRecent (s .cache .sizes) (s .cache .directory) (s .lent .wear) n) answer d′ u′
-      → record { answer = answer; store = record { cache = record { sizes = s .cache .sizes; directory = d′ }; lent = u′ }; page = x } ≡ call leastRecent s (write n x)
+        → Wrote (s .cache .sizes) (s .cache .directory) (s .lent) n x (plan leastRecent (s .cache .sizes) (s .cache .directory) (s .lent .wear) n) answer d′ u′
+        → record { answer = answer; store = record { cache = record { sizes = s .cache .sizes; directory = d′ }; lent = u′ }; page = x } ≡ call leastRecent s (write n x)
     unfolding callPages
     write-done u′ f′ answer d′ h = call-passed s (write n x) n (length x) (writeOutcome (s .cache .sizes) (stateOf s) n (plan leastRecent (s .cache .sizes) (s .cache .directory) (s .lent .wear) n)) write-checked a b e l u′ f′ answer d′ x h (same-either x (isRefused (writeOutcome (s .cache .sizes) (stateOf s) n (plan leastRecent (s .cache .sizes) (s .cache .directory) (s .lent .wear) n) .answer)))
 
@@ -154,11 +160,11 @@ module _ (s : Store) (a : sound (s .cache .sizes) (s .cache .directory) ≡ true
 
   module _ (u′ : Buffers) (f′ : Fits (s .cache .sizes) u′) (answer : Answer) (d′ : Directory) where
     pub step-done : StepCarried (s .cache .sizes) (s .cache .directory) (s .lent) answer d′ u′
-      → record { answer = answer; store = record { cache = record { sizes = s .cache .sizes; directory = d′ }; lent = u′ }; page = [] } ≡ call leastRecent s step
+        → record { answer = answer; store = record { cache = record { sizes = s .cache .sizes; directory = d′ }; lent = u′ }; page = [] } ≡ call leastRecent s step
     unfolding decide callPages
     step-done h = carried-call leastRecent s step (ready .fits) u′ f′ answer d′ [] h (same-either [] (isRefused (stepOutcome (s .cache .sizes) (stateOf s) (dueOf leastRecent (s .cache .sizes) (s .cache .directory)) .answer))) ∙ sym (call-carried leastRecent s step a b)
 
     pub flush-done : FlushCarried (s .cache .sizes) (s .cache .directory) (s .lent) answer d′ u′
-      → record { answer = answer; store = record { cache = record { sizes = s .cache .sizes; directory = d′ }; lent = u′ }; page = [] } ≡ call leastRecent s flush
+        → record { answer = answer; store = record { cache = record { sizes = s .cache .sizes; directory = d′ }; lent = u′ }; page = [] } ≡ call leastRecent s flush
     unfolding decide callPages
     flush-done h = carried-call leastRecent s flush (ready .fits) u′ f′ answer d′ [] h (same-either [] (isRefused (flushOutcome leastRecent (s .cache .sizes) (stateOf s) .answer))) ∙ sym (call-carried leastRecent s flush a b)

@@ -1,2 +1,3 @@
 pub mod ByTests
 pub mod Carrying
+pub mod Demand3

@@ -45,8 +45,8 @@ same-length-3 c = search needs
 returns-3 : tie.Need-returns-3
 returns-3 c = let b = sym (lengths-lent (sizesOf (c .before .before .before .before .before .before .before .before .before .before .before .before .before .before .before .before .before .before .before .before .before .args .self .sizes)) (c .before .before .before .before .before .before .before .before .before .before .before .before .before .before .before .before .before .before .before .before .before .args .flash .now) (c .before .before .before .before .before .before .before .before .before .before .before .before .before .before .before .before .before .before .before .before .before .args .wear .now) (c .before .before .before .before .before .before .before .before .before .before .before .before .before .before .before .before .before .before .before .before .before .args .pspace .now) (c .before .before .before .before .before .before .before .before .before .before .before .before .before .before .before .before .before .before .before .before .before .args .bspace .now)) ∙ sym (c .before .before .before .before .before .before .before .before .before .before .before .before .lengths-ok .ensures) ∙ not-false _ (c .before .before .before .before .before .before .before .before .before .before .before .if2 .left) in let f = fits-of _ (buffers (c .before .before .before .before .before .before .before .before .before .before .before .before .before .before .before .before .before .before .before .before .before .args .flash .now) (c .before .before .before .before .before .before .before .before .before .before .before .before .before .before .before .before .before .before .before .before .before .args .wear .now) (c .before .before .before .before .before .before .before .before .before .before .before .before .before .before .before .before .before .before .before .before .before .args .pspace .now) (c .before .before .before .before .before .before .before .before .before .before .before .before .before .before .before .before .before .before .before .before .before .args .bspace .now)) b in let k = c .before .before .before .before .before .before .before .flush .kept in
     flush-done (storeOf (c .before .before .before .before .before .before .before .before .before .before .before .before .before .before .before .before .before .before .before .before .before .args .self) (buffers (c .before .before .before .before .before .before .before .before .before .before .before .before .before .before .before .before .before .before .before .before .before .args .flash .now) (c .before .before .before .before .before .before .before .before .before .before .before .before .before .before .before .before .before .before .before .before .before .args .wear .now) (c .before .before .before .before .before .before .before .before .before .before .before .before .before .before .before .before .before .before .before .before .before .args .pspace .now) (c .before .before .before .before .before .before .before .before .before .before .before .before .before .before .before .before .before .before .before .before .before .args .bspace .now))) (sym (c .before .before .before .before .before .before .before .before .before .before .before .before .before .before .sound .ensures) ∙ not-false _ (c .before .before .before .before .before .before .before .before .before .before .before .before .before .if1 .left)) b _
-      (record { flash-length = k .1 .1 .0 ∙ f .flash-length; wear-length = k .1 .1 .1 .0 ∙ f .wear-length; pspace-length = f .pspace-length; bspace-length = k .1 .1 .1 .1 .1 .0 ∙ f .bspace-length })
-      _ _ (c .before .before .before .before .before .before .before .flush .ensures)
+    (record { flash-length = k .1 .1 .0 ∙ f .flash-length; wear-length = k .1 .1 .1 .0 ∙ f .wear-length; pspace-length = f .pspace-length; bspace-length = k .1 .1 .1 .1 .1 .0 ∙ f .bspace-length })
+    _ _ (c .before .before .before .before .before .before .before .flush .ensures)
 
 pub flush-spec : {M : Type 1} → statement M
 flush-spec =

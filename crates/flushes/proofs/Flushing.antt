@@ -1,8 +1,10 @@
 -- A flush under way: what holds before each of its turns, and what it comes to.
 use mathlib.Core.Path.{_≡_, refl, sym, ap, _∙_}
+use mathlib.Core.List.{List}
 use Prim.Native.Nat.{ℕ, zero, suc, _+_, _-_, _*_, _≤_, _<_}
 use native.Mathlib.Nat.{sub-zero, mul-le-mul-right, suc-mul}
 use native.Mathlib.Omega.{arith}
+use lib.ListN.{length}
 use borrow.Author.Tests.{lt-ltb, le-ltb}
 use Rattle.prelude.specs.Scan.{count}
 use Rattle.prelude.proofs.Scan.{count-le}
@@ -14,7 +16,7 @@ use Rattle.model.specs.Calls.{flushDone, refused, Tally, steps, flushOutcome, s
 use Rattle.model.proofs.Soundness.{pages-small}
 use Rattle.model.proofs.Steps.{Below, stepped-sound, cached-now, cached-less, stepped-below}
 use Rattle.model.proofs.Calls.{flush-below}
-use Rattle.answer.specs.Carried.{Ready}
+use Rattle.answer.specs.Carried.{buffers, Ready}
 use Rattle.flushes.specs.Flushes.{stateIn, FlushCarried, Flushable, Cleanable, BlockCleaned}
 use Rattle.flushes.proofs.Stepping.{block-ready}
 
@@ -44,6 +46,12 @@ module _ (sz : Sizes) (d : Directory) where
   unfolding stepsPages
   pages-stop m e zero = refl
   pages-stop m e (suc c) = rw (← e, stepsPages)
+
+-- ---- buffers keep their sizes
+
+pub fits-kept : {sz : Sizes} {flash wear pspace bspace : List ℕ} (flash′ wear′ bspace′ : List ℕ) → Fits sz (buffers flash wear pspace bspace)
+    → length flash′ ≡ length flash → length wear′ ≡ length wear → length bspace′ ≡ length bspace → Fits sz (buffers flash′ wear′ pspace bspace′)
+fits-kept flash′ wear′ bspace′ h a b c = record { flash-length = a ∙ h .flash-length; wear-length = b ∙ h .wear-length; pspace-length = h .pspace-length; bspace-length = c ∙ h .bspace-length }
 
 -- ---- a refused flush, and the first turn
 

@@ -6,7 +6,7 @@ use Rattle.model.specs.Policy.{leastRecent, due, dueOf}
 use Rattle.answer.specs.Carried.{buffers}
 use Rattle.cache.specs.View.{sizesOf, directoryOf}
 use Rattle.policy.specs.Views.{dueView}
-use Rattle.flushes.proofs.Flushing.{Underway, begins, flush-done, cleanable, left, merges-small, turns}
+use Rattle.flushes.proofs.Flushing.{Underway, fits-kept, begins, flush-done, cleanable, left, merges-small, turns}
 use Rattle.flushes.proofs.clean_all.Statement.{statement}
 use Rattle.flushes.proofs.clean_all.Tie as tie
 
@@ -60,7 +60,7 @@ loop-less : tie.Need-loop-less Inv-loop μ-loop
 loop-less c = let at = c .before .before .before .before .before .before .before .before .before .before .before .before .before in let l = left (head at .loop .inv) _ _ (found at) in omega arith
 
 loop-again : tie.Need-loop-again Inv-loop μ-loop
-loop-again c = turns (head (c .before .before .before .before .before .before .before .before .before .before .before .before .before) .loop .inv) _ _ (found (c .before .before .before .before .before .before .before .before .before .before .before .before .before)) (c .before .before .before .before .before .before .before .before .clean-block .ensures) (search needs) _ _ (omega arith) (omega arith)
+loop-again c = turns (head (c .before .before .before .before .before .before .before .before .before .before .before .before .before) .loop .inv) _ _ (found (c .before .before .before .before .before .before .before .before .before .before .before .before .before)) (c .before .before .before .before .before .before .before .before .clean-block .ensures) (fits-kept _ _ _ (head (c .before .before .before .before .before .before .before .before .before .before .before .before .before) .loop .inv .ready .fits) (c .before .before .before .before .before .before .before .before .clean-block .kept .1 .1 .0) (c .before .before .before .before .before .before .before .before .clean-block .kept .1 .1 .1 .0) (c .before .before .before .before .before .before .before .before .clean-block .kept .1 .1 .1 .1 .1 .0)) _ _ (omega arith) (omega arith)
 
 pub clean-all-spec : {M : Type 1} → statement M
 clean-all-spec =

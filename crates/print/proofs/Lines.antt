@@ -1,0 +1,110 @@
+-- The printed lines as the pieces that are put one after the other.
+use mathlib.Core.Path.{_≡_, refl, sym, ap, _∙_}
+use mathlib.Core.List.{List, [], _∷_, _++_, append-assoc, append-nil, map}
+use Prim.Native.Nat.{ℕ, zero, suc, _+_, _<_}
+use native.Mathlib.Nat.{le-of-suc-le-suc, not-suc-le-zero}
+use native.Mathlib.Numerals.{add-one}
+use lib.ListN.{length, take, getD}
+use Rattle.model.specs.Sizes.{vacant}
+use Rattle.model.specs.Calls.{readDone, writeDone, stepDone, flushDone, refused}
+use Rattle.print.specs.Text.{decimal, form, items, write-word, read-word, step-word, flush-word, wear-word, bad-word, refused-word, way-word, merged-word, byte-word, block-word, rewrites-word}
+use Rattle.print.specs.Print.{line, said, field, erased, writeLine, readLine, stepLine, flushLine, wearLine, badLine, spaced}
+
+-- the end of a line
+abbrev pub end : List ℕ
+end = 41 ∷ (10 ∷ [])
+
+-- what follows the word of a line
+tails : List (List ℕ) → List ℕ
+tails [] = end
+tails (i ∷ l) = 32 ∷ (i ++ tails l)
+
+tails-is : (l : List (List ℕ)) → items l ++ (10 ∷ []) ≡ tails l
+unfolding items tails
+tails-is [] = refl
+tails-is (i ∷ l) = ap (λ (x : List ℕ). 32 ∷ x) (append-assoc i (items l) (10 ∷ []) ∙ ap (λ (x : List ℕ). i ++ x) (tails-is l))
+
+-- a line from its word and what follows
+whole : (w : List ℕ) (l : List (List ℕ)) → (40 ∷ w) ++ tails l ≡ line w l
+unfolding line form
+whole w l = ap (λ (x : List ℕ). 40 ∷ x) (ap (λ (x : List ℕ). w ++ x) (sym (tails-is l)) ∙ sym (append-assoc w (items l) (10 ∷ [])))
+
+-- a line whose first item is put with the word
+numbered : (w x : List ℕ) (l : List (List ℕ)) → ((40 ∷ (w ++ (32 ∷ []))) ++ x) ++ tails l ≡ line w (x ∷ l)
+unfolding tails
+numbered w x l = ap (λ (y : List ℕ). 40 ∷ y) (append-assoc (w ++ (32 ∷ [])) x (tails l) ∙ append-assoc w (32 ∷ []) (x ++ tails l)) ∙ whole w (x ∷ l)
+
+-- pieces put one after the other
+four : (a b c d : List ℕ) → ((a ++ b) ++ c) ++ d ≡ a ++ (b ++ (c ++ d))
+four a b c d = simp append-assoc
+
+five : (a b c d e : List ℕ) → (((a ++ b) ++ c) ++ d) ++ e ≡ a ++ (b ++ (c ++ (d ++ e)))
+five a b c d e = simp append-assoc
+
+-- the word of a line and the space after it
+abbrev pub lead : List ℕ → List ℕ
+lead w = 40 ∷ (w ++ (32 ∷ []))
+
+pub bad-line : (n : ℕ) → (lead bad-word ++ (decimal n ++ (41 ∷ []))) ++ (10 ∷ []) ≡ badLine n
+unfolding line form items
+bad-line n = refl
+
+pub write-line : (n way b m : ℕ)
+    → ((((lead write-word ++ decimal n) ++ (32 ∷ field way-word way)) ++ (32 ∷ erased b)) ++ (32 ∷ field merged-word m)) ++ end ≡ writeLine n (writeDone way b m)
+unfolding said tails
+write-line n way b m = five (lead write-word ++ decimal n) (32 ∷ field way-word way) (32 ∷ erased b) (32 ∷ field merged-word m) end ∙ numbered write-word (decimal n) _
+
+pub read-line : (n way byte : ℕ)
+    → (((lead read-word ++ decimal n) ++ (32 ∷ field way-word way)) ++ (32 ∷ field byte-word byte)) ++ end ≡ readLine n (readDone way) byte
+unfolding said tails
+read-line n way byte = four (lead read-word ++ decimal n) (32 ∷ field way-word way) (32 ∷ field byte-word byte) end ∙ numbered read-word (decimal n) _
+
+pub step-line : (b m : ℕ) → (((40 ∷ step-word) ++ (32 ∷ field block-word b)) ++ (32 ∷ field merged-word m)) ++ end ≡ stepLine (stepDone b m)
+unfolding said tails
+step-line b m = four (40 ∷ step-word) (32 ∷ field block-word b) (32 ∷ field merged-word m) end ∙ whole step-word _
+
+pub flush-line : (r m : ℕ) → (((40 ∷ flush-word) ++ (32 ∷ field rewrites-word r)) ++ (32 ∷ field merged-word m)) ++ end ≡ flushLine (flushDone r m)
+unfolding said tails
+flush-line r m = four (40 ∷ flush-word) (32 ∷ field rewrites-word r) (32 ∷ field merged-word m) end ∙ whole flush-word _
+
+-- a refusal's block is not printed, nor the byte of a page
+pub refused-alike : (r b byte : ℕ) → said (refused r b) byte ≡ said (refused r vacant) 0
+unfolding said
+refused-alike r b byte = refl
+
+-- a refusal after a call's words
+pub refused-line : (w : List ℕ) (r : ℕ) → (40 ∷ w) ++ (32 ∷ (field refused-word r ++ end)) ≡ line w (field refused-word r ∷ [])
+unfolding tails
+refused-line w r = whole w (field refused-word r ∷ [])
+
+pub refused-number : (w : List ℕ) (n r : ℕ) → (lead w ++ decimal n) ++ (32 ∷ (field refused-word r ++ end)) ≡ line w (decimal n ∷ field refused-word r ∷ [])
+unfolding tails
+refused-number w n r = numbered w (decimal n) (field refused-word r ∷ [])
+
+-- ---- numbers after spaces, one by one
+
+spaced-append : (l m : List (List ℕ)) → spaced (l ++ m) ≡ spaced l ++ spaced m
+unfolding spaced
+spaced-append [] m = refl
+spaced-append (i ∷ l) m = ap (λ (x : List ℕ). 32 ∷ x) (ap (λ (x : List ℕ). i ++ x) (spaced-append l m) ∙ sym (append-assoc i (spaced l) (spaced m)))
+
+spaced-items : (l : List (List ℕ)) → spaced l ++ end ≡ tails l
+unfolding spaced tails
+spaced-items [] = refl
+spaced-items (i ∷ l) = ap (λ (x : List ℕ). 32 ∷ x) (append-assoc i (spaced l) end ∙ ap (λ (x : List ℕ). i ++ x) (spaced-items l))
+
+pub wear-line : (ws : List ℕ) → ((40 ∷ wear-word) ++ spaced (map decimal ws)) ++ end ≡ wearLine ws
+wear-line ws = append-assoc (40 ∷ wear-word) (spaced (map decimal ws)) end ∙ ap (λ (x : List ℕ). (40 ∷ wear-word) ++ x) (spaced-items (map decimal ws)) ∙ whole wear-word (map decimal ws)
+
+map-take : (ns : List ℕ) (i : ℕ) → i < length ns → map decimal (take (suc i) ns) ≡ map decimal (take i ns) ++ (decimal (getD ns i 0) ∷ [])
+map-take [] i h = absurd (not-suc-le-zero h)
+map-take (x ∷ ns) zero h = refl
+map-take (x ∷ ns) (suc i) h = ap (λ (l : List (List ℕ)). decimal x ∷ l) (map-take ns i (le-of-suc-le-suc h))
+
+-- one number more
+pub spaced-more : (ns : List ℕ) (i : ℕ) → i < length ns → spaced (map decimal (take i ns)) ++ ((32 ∷ []) ++ decimal (getD ns i 0)) ≡ spaced (map decimal (take (i + 1) ns))
+unfolding spaced
+spaced-more ns i h =
+    ap (λ (x : List ℕ). spaced (map decimal (take i ns)) ++ (32 ∷ x)) (sym (append-nil (decimal (getD ns i 0))))
+    ∙ sym (spaced-append (map decimal (take i ns)) (decimal (getD ns i 0) ∷ []))
+    ∙ ap spaced (sym (map-take ns i h) ∙ ap (λ (k : ℕ). map decimal (take k ns)) (sym (add-one i)))

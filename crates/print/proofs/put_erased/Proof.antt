@@ -1,0 +1,49 @@
+use borrow.Author.Needs.{needs}
+use native.Mathlib.Omega.{arith}
+use mathlib.Core.Path.{sym, ap}
+use mathlib.Core.Bool.{Bool, cond}
+use mathlib.Core.List.{[], _∷_, _++_}
+use borrow.Author.Tests.{eq-eqb, ne-eqb}
+use Rattle.print.specs.Text.{form, items, decimal, erased-word, none-word}
+use Rattle.print.proofs.Put.{printed-as}
+use Rattle.print.proofs.put_erased.Statement.{statement}
+use Rattle.print.proofs.put_erased.Tie as tie
+
+slice-aggregate-put-bytes : tie.Need-slice-aggregate-put-bytes
+slice-aggregate-put-bytes c = search needs
+
+put-bytes-requires : tie.Need-put-bytes-requires
+put-bytes-requires c κs = search needs
+
+same-length : tie.Need-same-length
+same-length c = search needs
+
+returns : tie.Need-returns
+unfolding form items
+returns c = printed-as (omega arith) (ap (λ (x : Bool). 32 ∷ (40 ∷ (erased-word ++ (32 ∷ (cond x none-word (decimal (c .before .before .before .before .before .before .before .args .block)) ++ (41 ∷ [])))))) (sym (eq-eqb _ _ (c .before .before .before .before .before .if1 .taken)))) (c .before .before .put-bytes .ensures)
+
+slice-aggregate-put-field : tie.Need-slice-aggregate-put-field
+slice-aggregate-put-field c = search needs
+
+put-field-requires : tie.Need-put-field-requires
+put-field-requires c κs = search needs
+
+same-length-2 : tie.Need-same-length-2
+same-length-2 c = search needs
+
+returns-2 : tie.Need-returns-2
+unfolding form items
+returns-2 c = printed-as (omega arith) (ap (λ (x : Bool). 32 ∷ (40 ∷ (erased-word ++ (32 ∷ (cond x none-word (decimal (c .before .before .before .before .before .before .before .args .block)) ++ (41 ∷ [])))))) (sym (ne-eqb _ _ (c .before .before .before .before .before .if1 .left)))) (c .before .before .put-field .ensures)
+
+pub put-erased-spec : {M : Type 1} → statement M
+put-erased-spec =
+    tie.close
+    (tie.spec
+    slice-aggregate-put-bytes
+    put-bytes-requires
+    same-length
+    returns
+    slice-aggregate-put-field
+    put-field-requires
+    same-length-2
+    returns-2)

@@ -1,0 +1,4 @@
+pub mod Words
+pub mod Value
+pub mod Args
+pub mod With

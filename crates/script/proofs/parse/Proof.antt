@@ -1,0 +1,50 @@
+use mathlib.Core.Path.{sym, _∙_}
+use Rattle.script.proofs.With.{short-bad, bare-bad, inside-form}
+use borrow.Author.Needs.{needs}
+use Rattle.script.proofs.parse.Statement.{statement}
+use Rattle.script.proofs.parse.Tie as tie
+
+returns : tie.Need-returns
+returns c = sym (short-bad _ (c .if1 .taken))
+
+sub-last : tie.Need-sub-last
+sub-last c = search needs
+
+shared-slice-read-if2 : tie.Need-shared-slice-read-if2
+shared-slice-read-if2 c = search needs
+
+shared-slice-read-if2-2 : tie.Need-shared-slice-read-if2-2
+shared-slice-read-if2-2 c = search needs
+
+returns-2 : tie.Need-returns-2
+returns-2 c = sym (bare-bad _ (c .before .before .before .if1 .left) (c .if2 .taken))
+
+sub-form-of : tie.Need-sub-form-of
+sub-form-of c = search needs
+
+part-form-of-start : tie.Need-part-form-of-start
+part-form-of-start c = search needs
+
+part-form-of-end : tie.Need-part-form-of-end
+part-form-of-end c = search needs
+
+form-of-requires : tie.Need-form-of-requires
+form-of-requires c κs = search needs
+
+returns-3 : tie.Need-returns-3
+returns-3 c = c .form-of .ensures ∙ sym (inside-form _ (c .before .before .before .before .before .if1 .left) (c .before .before .if2 .left))
+
+pub parse-spec : {M : Type 1} → statement M
+parse-spec =
+    tie.close
+    (tie.spec
+    returns
+    sub-last
+    shared-slice-read-if2
+    shared-slice-read-if2-2
+    returns-2
+    sub-form-of
+    part-form-of-start
+    part-form-of-end
+    form-of-requires
+    returns-3)

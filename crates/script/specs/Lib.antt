@@ -1,0 +1,3 @@
+pub mod Forms
+pub mod View
+pub mod Parts

@@ -2,3 +2,4 @@ pub mod Words
 pub mod Value
 pub mod Args
 pub mod With
+pub mod Walk

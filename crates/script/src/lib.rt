@@ -1,4 +1,6 @@
-// The script program: what a line means.
+// The script program: what a line means, and a script walked line by line.
+pub mod reader;
+
 use cache::Sizes;
 ghost use mathlib.Core.Path.{_≡_};
 ghost use Prim.Native.Nat.{_≤_};
@@ -143,11 +145,11 @@ fn read_numbers(s: &[u8], from: usize) -> Numbers
         }
         let a = at + 1;
         let e = end_of(s, a, b' ');
-        let v = number(&s[a..e]);
-        if v > 4294967295 {
+        let value = number(&s[a..e]);
+        if value > 4294967295 {
             return Numbers { count: 7, values };
         }
-        values[count] = v as u32;
+        values[count] = value as u32;
         count += 1;
         at = e;
     }

@@ -1,0 +1,41 @@
+use borrow.Author.Needs.{needs}
+use native.Mathlib.Omega.{arith}
+use Rattle.clash_c.proofs.clash_write.Statement.{statement}
+use Rattle.clash_c.proofs.clash_write.Tie as tie
+use Rattle.clash_c.proofs.clash_write.Reads as reads
+use Rattle.clash_c.proofs.clash_write.Lts as lts
+use Rattle.clash_c.proofs.write_answer.Reads as write-answer-reads
+use Rattle.store.proofs.Cache.write.Reads as write-reads
+
+write-requires : tie.Need-write-requires
+write-requires c κs = search needs
+
+write-answer-requires : tie.Need-write-answer-requires
+write-answer-requires c κs = search needs
+
+same-length : tie.Need-same-length
+same-length c = search needs
+
+same-length-2 : tie.Need-same-length-2
+same-length-2 c = search needs
+
+same-length-3 : tie.Need-same-length-3
+same-length-3 c = search needs
+
+same-length-4 : tie.Need-same-length-4
+same-length-4 c = search needs
+
+returns : tie.Need-returns
+returns c = rw (c .write-answer .ensures) (c .before .before .before .before .before .before .before .before .before .before .write .ensures)
+
+pub clash-write-spec : {M : Type 1} → statement M
+clash-write-spec =
+    tie.close
+    (tie.spec
+    write-requires
+    write-answer-requires
+    same-length
+    same-length-2
+    same-length-3
+    same-length-4
+    returns)

@@ -1,0 +1,85 @@
+use borrow.Author.Needs.{needs}
+use native.Mathlib.Omega.{arith}
+use mathlib.Core.Path.{_≡_, refl, sym, ap, _∙_}
+use Rattle.clash_c.proofs.refused.Statement.{statement}
+use Rattle.clash_c.proofs.refused.Tie as tie
+use Rattle.clash_c.proofs.refused.Reads as reads
+use Rattle.clash_c.proofs.refused.Lts as lts
+use Rattle.clash_c.proofs.turned_down.Reads as turned-down-reads
+
+enum-told : tie.Need-enum-told
+enum-told c = search needs
+
+turned-down-requires : tie.Need-turned-down-requires
+turned-down-requires c κs = search needs
+
+enum-told-2 : tie.Need-enum-told-2
+enum-told-2 c = search needs
+
+turned-down-requires-2 : tie.Need-turned-down-requires-2
+turned-down-requires-2 c κs = search needs
+
+enum-told-3 : tie.Need-enum-told-3
+enum-told-3 c = search needs
+
+turned-down-requires-3 : tie.Need-turned-down-requires-3
+turned-down-requires-3 c κs = search needs
+
+enum-told-4 : tie.Need-enum-told-4
+enum-told-4 c = search needs
+
+turned-down-requires-4 : tie.Need-turned-down-requires-4
+turned-down-requires-4 c κs = search needs
+
+enum-told-5 : tie.Need-enum-told-5
+enum-told-5 c = search needs
+
+turned-down-requires-5 : tie.Need-turned-down-requires-5
+turned-down-requires-5 c κs = search needs
+
+enum-known-why : tie.Need-enum-known-why
+enum-known-why c = search needs
+
+turned-down-requires-6 : tie.Need-turned-down-requires-6
+turned-down-requires-6 c κs = search needs
+
+returns : tie.Need-returns
+returns c = rw (c .turned-down .ensures) (rw (c .before .enum-told .given .1) (refl, refl))
+
+returns-2 : tie.Need-returns-2
+returns-2 c = rw (c .turned-down2 .ensures) (rw (c .before .enum-told2 .given .1) (refl, refl))
+
+returns-3 : tie.Need-returns-3
+returns-3 c = rw (c .turned-down3 .ensures) (rw (c .before .enum-told3 .given .1) (refl, refl))
+
+returns-4 : tie.Need-returns-4
+returns-4 c = rw (c .turned-down4 .ensures) (rw (c .before .enum-told4 .given .1) (refl, refl))
+
+returns-5 : tie.Need-returns-5
+returns-5 c = rw (c .turned-down5 .ensures) (rw (c .before .enum-told5 .given .1) (refl, refl))
+
+returns-6 : tie.Need-returns-6
+returns-6 c = rw (c .turned-down6 .ensures) (rw (c .before .before .why .given .1) (refl, refl))
+
+pub refused-spec : {M : Type 1} → statement M
+refused-spec =
+    tie.close
+    (tie.spec
+    enum-told
+    turned-down-requires
+    enum-told-2
+    turned-down-requires-2
+    enum-told-3
+    turned-down-requires-3
+    enum-told-4
+    turned-down-requires-4
+    enum-told-5
+    turned-down-requires-5
+    enum-known-why
+    turned-down-requires-6
+    returns
+    returns-2
+    returns-3
+    returns-4
+    returns-5
+    returns-6)

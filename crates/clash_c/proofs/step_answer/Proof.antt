@@ -1,0 +1,51 @@
+use borrow.Author.Needs.{needs}
+use native.Mathlib.Omega.{arith}
+use mathlib.Core.Path.{_≡_, refl, sym, ap, _∙_}
+use Rattle.answer.specs.Numbers.{stepOf}
+use Rattle.clash_c.proofs.step_answer.Statement.{statement}
+use Rattle.clash_c.proofs.step_answer.Tie as tie
+use Rattle.clash_c.proofs.step_answer.Reads as reads
+use Rattle.clash_c.proofs.step_answer.Lts as lts
+use Rattle.clash_c.proofs.done.Reads as done-reads
+use Rattle.clash_c.proofs.refused.Reads as refused-reads
+
+enum-known-a : tie.Need-enum-known-a
+enum-known-a c = search needs
+
+done-requires : tie.Need-done-requires
+done-requires c κs = search needs
+
+enum-told : tie.Need-enum-told
+enum-told c = search needs
+
+done-requires-2 : tie.Need-done-requires-2
+done-requires-2 c κs = search needs
+
+enum-known-a-2 : tie.Need-enum-known-a-2
+enum-known-a-2 c = search needs
+
+refused-requires : tie.Need-refused-requires
+refused-requires c κs = search needs
+
+returns : tie.Need-returns
+returns c = rw (c .done .ensures) (rw (c .before .before .a .given .1) refl)
+
+returns-2 : tie.Need-returns-2
+returns-2 c = rw (c .done2 .ensures) (rw (c .before .enum-told .given .1) refl)
+
+returns-3 : tie.Need-returns-3
+returns-3 c = rw (c .refused .ensures .1) (c .refused .ensures .0 ∙ sym (ap stepOf (c .before .before .a2 .given .1)))
+
+pub step-answer-spec : {M : Type 1} → statement M
+step-answer-spec =
+    tie.close
+    (tie.spec
+    enum-known-a
+    done-requires
+    enum-told
+    done-requires-2
+    enum-known-a-2
+    refused-requires
+    returns
+    returns-2
+    returns-3)

@@ -6,7 +6,7 @@ use lib.ListN.{length, drop}
 use borrow.Author.Tests.{lt-ltb, le-ltb}
 use Rattle.script.specs.Forms.{formOf}
 use Rattle.script.specs.Parts.{upTo, endOf}
-use Rattle.script.specs.Walk.{Item, line, end, itemAt}
+use Rattle.script.specs.Walk.{line, end, itemAt}
 
 module _ (script : List ℕ) (at n : ℕ) where
   pub item-line : at < length script → itemAt script at n ≡ line (formOf (upTo 10 (drop at script))) n (endOf 10 script at + 1)

@@ -23,3 +23,31 @@ pub fn item_at(src: &[u8], at: usize, line: u32) -> Item
     }
     Item::End
 }
+
+// A script, the place of the next line in it and that line's number.
+pub struct Reader<'a> {
+    pub src: &'a [u8],
+    pub at: usize,
+    pub line: u32,
+}
+
+// A reader at a place of a script, whose line number is given: 0 and 1 to begin with.
+pub fn new<'a>(src: &'a [u8], at: usize, line: u32) -> Reader<'a>
+    ensures { λ r. ⌜ (r .src ≡ src .entry) × (r .at ≡ at) × (r .line ≡ line) ⌝ }
+{
+    Reader { src, at, line }
+}
+
+// What stands at the reader's place.
+pub fn next<'a>(r: Reader<'a>) -> Item
+    ensures { λ i. ⌜ itemOf i ≡ itemAt (now (r .entry .src)) (r .entry .at) (r .entry .line) ⌝ }
+{
+    item_at(r.src, r.at, r.line)
+}
+
+// The same from a plain slice and numbers: what walks a script calls this one.
+pub fn form_at(src: &[u8], at: usize, line: u32) -> Item
+    ensures { λ r. ⌜ itemOf r ≡ itemAt (now (src .entry)) at line ⌝ }
+{
+    next(new(src, at, line))
+}

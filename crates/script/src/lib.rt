@@ -11,6 +11,9 @@ ghost use Rattle.script.specs.Forms.{wordsOf, same, five, buffersFit, op
 ghost use Rattle.script.specs.View.{meant};
 ghost use Rattle.script.specs.Parts.{endOf, numberOf, wordsAfter, NumbersOf};
 
+// What stands for a number where there is none: one more than the largest.
+const NONE: u64 = 4294967296;
+
 // What a line of a script says.
 pub enum Form {
     Open(Sizes),
@@ -146,7 +149,7 @@ fn read_numbers(s: &[u8], from: usize) -> Numbers
         let a = at + 1;
         let e = end_of(s, a, b' ');
         let value = number(&s[a..e]);
-        if value > 4294967295 {
+        if value >= NONE {
             return Numbers { count: 7, values };
         }
         values[count] = value as u32;
@@ -156,27 +159,27 @@ fn read_numbers(s: &[u8], from: usize) -> Numbers
     Numbers { count, values }
 }
 
-// The number that a word says, without leading zeros: 4,294,967,296 for none.
+// The number that a word says, without leading zeros: NONE for any other word.
 fn number(w: &[u8]) -> u64
     ensures { λ r. ⌜ r ≡ numberOf (now (w .entry)) ⌝ }
 {
     let n = w.len();
     if n == 0 {
-        return 4294967296;
+        return NONE; // two spaces in a row, or one before the bracket
     }
     if (w[0] == b'0') & (n != 1) {
-        return 4294967296;
+        return NONE;
     }
     let mut v: u64 = 0;
     let mut i = 0;
     while i < n {
         let x = w[i];
         if (x < b'0') | (b'9' < x) {
-            return 4294967296;
+            return NONE;
         }
         v = v * 10 + wide(x - b'0');
         if v > 4294967295 {
-            return 4294967296;
+            return NONE;
         }
         i += 1;
     }

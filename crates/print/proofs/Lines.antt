@@ -1,14 +1,15 @@
 -- The printed lines as the pieces that are put one after the other.
 use mathlib.Core.Path.{_≡_, refl, sym, ap, _∙_}
 use mathlib.Core.List.{List, [], _∷_, _++_, append-assoc, append-nil, map}
+use Prim.Native.String.{String}
 use Prim.Native.Nat.{ℕ, zero, suc, _+_, _<_}
 use native.Mathlib.Nat.{le-of-suc-le-suc, not-suc-le-zero}
 use native.Mathlib.Numerals.{add-one}
 use lib.ListN.{length, take, getD}
 use Rattle.model.specs.Sizes.{vacant}
 use Rattle.model.specs.Calls.{readDone, writeDone, stepDone, flushDone, refused}
-use Rattle.print.specs.Text.{decimal, form, items, write-word, read-word, step-word, flush-word, wear-word, bad-word, refused-word, way-word, merged-word, byte-word, block-word, rewrites-word}
-use Rattle.print.specs.Print.{line, said, field, erased, writeLine, readLine, stepLine, flushLine, wearLine, badLine, spaced}
+use Rattle.print.specs.Text.{bytes, decimal, form, items}
+use Rattle.print.specs.Print.{line, said, field, refusal, erased, writeLine, readLine, stepLine, flushLine, wearLine, badLine, spaced}
 
 -- the end of a line
 abbrev pub end : List ℕ
@@ -25,14 +26,14 @@ tails-is [] = refl
 tails-is (i ∷ l) = ap (λ (x : List ℕ). 32 ∷ x) (append-assoc i (items l) (10 ∷ []) ∙ ap (λ (x : List ℕ). i ++ x) (tails-is l))
 
 -- a line from its word and what follows
-whole : (w : List ℕ) (l : List (List ℕ)) → (40 ∷ w) ++ tails l ≡ line w l
+whole : (w : String) (l : List (List ℕ)) → (40 ∷ bytes w) ++ tails l ≡ line w l
 unfolding line form
-whole w l = ap (λ (x : List ℕ). 40 ∷ x) (ap (λ (x : List ℕ). w ++ x) (sym (tails-is l)) ∙ sym (append-assoc w (items l) (10 ∷ [])))
+whole w l = ap (λ (x : List ℕ). 40 ∷ x) (ap (λ (x : List ℕ). bytes w ++ x) (sym (tails-is l)) ∙ sym (append-assoc (bytes w) (items l) (10 ∷ [])))
 
 -- a line whose first item is put with the word
-numbered : (w x : List ℕ) (l : List (List ℕ)) → ((40 ∷ (w ++ (32 ∷ []))) ++ x) ++ tails l ≡ line w (x ∷ l)
+numbered : (w : String) (x : List ℕ) (l : List (List ℕ)) → ((40 ∷ (bytes w ++ (32 ∷ []))) ++ x) ++ tails l ≡ line w (x ∷ l)
 unfolding tails
-numbered w x l = ap (λ (y : List ℕ). 40 ∷ y) (append-assoc (w ++ (32 ∷ [])) x (tails l) ∙ append-assoc w (32 ∷ []) (x ++ tails l)) ∙ whole w (x ∷ l)
+numbered w x l = ap (λ (y : List ℕ). 40 ∷ y) (append-assoc (bytes w ++ (32 ∷ [])) x (tails l) ∙ append-assoc (bytes w) (32 ∷ []) (x ++ tails l)) ∙ whole w (x ∷ l)
 
 -- pieces put one after the other
 four : (a b c d : List ℕ) → ((a ++ b) ++ c) ++ d ≡ a ++ (b ++ (c ++ d))
@@ -42,30 +43,30 @@ five : (a b c d e : List ℕ) → (((a ++ b) ++ c) ++ d) ++ e ≡ a ++ (b ++ (c 
 five a b c d e = simp append-assoc
 
 -- the word of a line and the space after it
-abbrev pub lead : List ℕ → List ℕ
-lead w = 40 ∷ (w ++ (32 ∷ []))
+abbrev pub lead : String → List ℕ
+lead w = 40 ∷ (bytes w ++ (32 ∷ []))
 
-pub bad-line : (n : ℕ) → (lead bad-word ++ (decimal n ++ (41 ∷ []))) ++ (10 ∷ []) ≡ badLine n
+pub bad-line : (n : ℕ) → (lead "bad" ++ (decimal n ++ (41 ∷ []))) ++ (10 ∷ []) ≡ badLine n
 unfolding line form items
 bad-line n = refl
 
 pub write-line : (n way b m : ℕ)
-    → ((((lead write-word ++ decimal n) ++ (32 ∷ field way-word way)) ++ (32 ∷ erased b)) ++ (32 ∷ field merged-word m)) ++ end ≡ writeLine n (writeDone way b m)
+    → ((((lead "write" ++ decimal n) ++ (32 ∷ field "way" way)) ++ (32 ∷ erased b)) ++ (32 ∷ field "merged" m)) ++ end ≡ writeLine n (writeDone way b m)
 unfolding said tails
-write-line n way b m = five (lead write-word ++ decimal n) (32 ∷ field way-word way) (32 ∷ erased b) (32 ∷ field merged-word m) end ∙ numbered write-word (decimal n) _
+write-line n way b m = five (lead "write" ++ decimal n) (32 ∷ field "way" way) (32 ∷ erased b) (32 ∷ field "merged" m) end ∙ numbered "write" (decimal n) _
 
 pub read-line : (n way byte : ℕ)
-    → (((lead read-word ++ decimal n) ++ (32 ∷ field way-word way)) ++ (32 ∷ field byte-word byte)) ++ end ≡ readLine n (readDone way) byte
+    → (((lead "read" ++ decimal n) ++ (32 ∷ field "way" way)) ++ (32 ∷ field "byte" byte)) ++ end ≡ readLine n (readDone way) byte
 unfolding said tails
-read-line n way byte = four (lead read-word ++ decimal n) (32 ∷ field way-word way) (32 ∷ field byte-word byte) end ∙ numbered read-word (decimal n) _
+read-line n way byte = four (lead "read" ++ decimal n) (32 ∷ field "way" way) (32 ∷ field "byte" byte) end ∙ numbered "read" (decimal n) _
 
-pub step-line : (b m : ℕ) → (((40 ∷ step-word) ++ (32 ∷ field block-word b)) ++ (32 ∷ field merged-word m)) ++ end ≡ stepLine (stepDone b m)
+pub step-line : (b m : ℕ) → (((40 ∷ bytes "step") ++ (32 ∷ field "block" b)) ++ (32 ∷ field "merged" m)) ++ end ≡ stepLine (stepDone b m)
 unfolding said tails
-step-line b m = four (40 ∷ step-word) (32 ∷ field block-word b) (32 ∷ field merged-word m) end ∙ whole step-word _
+step-line b m = four (40 ∷ bytes "step") (32 ∷ field "block" b) (32 ∷ field "merged" m) end ∙ whole "step" _
 
-pub flush-line : (r m : ℕ) → (((40 ∷ flush-word) ++ (32 ∷ field rewrites-word r)) ++ (32 ∷ field merged-word m)) ++ end ≡ flushLine (flushDone r m)
+pub flush-line : (r m : ℕ) → (((40 ∷ bytes "flush") ++ (32 ∷ field "rewrites" r)) ++ (32 ∷ field "merged" m)) ++ end ≡ flushLine (flushDone r m)
 unfolding said tails
-flush-line r m = four (40 ∷ flush-word) (32 ∷ field rewrites-word r) (32 ∷ field merged-word m) end ∙ whole flush-word _
+flush-line r m = four (40 ∷ bytes "flush") (32 ∷ field "rewrites" r) (32 ∷ field "merged" m) end ∙ whole "flush" _
 
 -- a refusal's block is not printed, nor the byte of a page
 pub refused-alike : (r b byte : ℕ) → said (refused r b) byte ≡ said (refused r vacant) 0
@@ -73,13 +74,13 @@ unfolding said
 refused-alike r b byte = refl
 
 -- a refusal after a call's words
-pub refused-line : (w : List ℕ) (r : ℕ) → (40 ∷ w) ++ (32 ∷ (field refused-word r ++ end)) ≡ line w (field refused-word r ∷ [])
+pub refused-line : (w : String) (r : ℕ) → (40 ∷ bytes w) ++ (32 ∷ (refusal r ++ end)) ≡ line w (refusal r ∷ [])
 unfolding tails
-refused-line w r = whole w (field refused-word r ∷ [])
+refused-line w r = whole w (refusal r ∷ [])
 
-pub refused-number : (w : List ℕ) (n r : ℕ) → (lead w ++ decimal n) ++ (32 ∷ (field refused-word r ++ end)) ≡ line w (decimal n ∷ field refused-word r ∷ [])
+pub refused-number : (w : String) (n r : ℕ) → (lead w ++ decimal n) ++ (32 ∷ (refusal r ++ end)) ≡ line w (decimal n ∷ refusal r ∷ [])
 unfolding tails
-refused-number w n r = numbered w (decimal n) (field refused-word r ∷ [])
+refused-number w n r = numbered w (decimal n) (refusal r ∷ [])
 
 -- ---- numbers after spaces, one by one
 
@@ -93,8 +94,8 @@ unfolding spaced tails
 spaced-items [] = refl
 spaced-items (i ∷ l) = ap (λ (x : List ℕ). 32 ∷ x) (append-assoc i (spaced l) end ∙ ap (λ (x : List ℕ). i ++ x) (spaced-items l))
 
-pub wear-line : (ws : List ℕ) → ((40 ∷ wear-word) ++ spaced (map decimal ws)) ++ end ≡ wearLine ws
-wear-line ws = append-assoc (40 ∷ wear-word) (spaced (map decimal ws)) end ∙ ap (λ (x : List ℕ). (40 ∷ wear-word) ++ x) (spaced-items (map decimal ws)) ∙ whole wear-word (map decimal ws)
+pub wear-line : (ws : List ℕ) → ((40 ∷ bytes "wear") ++ spaced (map decimal ws)) ++ end ≡ wearLine ws
+wear-line ws = append-assoc (40 ∷ bytes "wear") (spaced (map decimal ws)) end ∙ ap (λ (x : List ℕ). (40 ∷ bytes "wear") ++ x) (spaced-items (map decimal ws)) ∙ whole "wear" (map decimal ws)
 
 map-take : (ns : List ℕ) (i : ℕ) → i < length ns → map decimal (take (suc i) ns) ≡ map decimal (take i ns) ++ (decimal (getD ns i 0) ∷ [])
 map-take [] i h = absurd (not-suc-le-zero h)

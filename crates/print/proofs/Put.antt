@@ -43,15 +43,15 @@ put-more l src m at i room h long e =
     ∙ ap (putAt l at) (rw (add-one, take-suc src i 0 h))
 
 pub printed-none : (l : List ℕ) (at : ℕ) → Printed 0 [] l at l at
-printed-none l at = record { bytes = sym (put-none l at); place = sym (add-zero at); within = omega arith }
+printed-none l at = record { buffer = sym (put-none l at); place = sym (add-zero at); within = omega arith }
 
 pub printed-one : (l : List ℕ) (at x : ℕ) → at < length l → Printed 1 (x ∷ []) l at (set l at x) (at + 1)
-printed-one l at x h = record { bytes = put-one l at x h; place = refl; within = omega arith }
+printed-one l at x h = record { buffer = put-one l at x h; place = refl; within = omega arith }
 
 -- one after the other
 pub printed-then : {q r : ℕ} {a b old m new : List ℕ} {at i j : ℕ} → at ≤ length old → Printed q a old at m i → Printed r b m i new j → Printed (q + r) (a ++ b) old at new j
 printed-then {q} {r} {a} {b} {old} {m} {new} {at} {i} {j} h x y = record {
-  bytes = y .bytes ∙ ap (λ (l : List ℕ). putAt l i b) (x .bytes) ∙ ap (λ (k : ℕ). putAt (putAt old at a) k b) (x .place) ∙ put-then old at a b h;
+  buffer = y .buffer ∙ ap (λ (l : List ℕ). putAt l i b) (x .buffer) ∙ ap (λ (k : ℕ). putAt (putAt old at a) k b) (x .place) ∙ put-then old at a b h;
   place = y .place ∙ ap (λ (k : ℕ). k + length b) (x .place) ∙ rw (length-append, add-assoc);
   within = omega arith;
 }
@@ -59,7 +59,7 @@ printed-then {q} {r} {a} {b} {old} {m} {new} {at} {i} {j} h x y = record {
 -- the same bytes otherwise written, and more room
 pub printed-as : {q r : ℕ} {a b old new : List ℕ} {at j : ℕ} → q ≤ r → a ≡ b → Printed q a old at new j → Printed r b old at new j
 printed-as {q} {r} {a} {b} {old} {new} {at} {j} h e x = record {
-  bytes = x .bytes ∙ ap (putAt old at) e;
+  buffer = x .buffer ∙ ap (putAt old at) e;
   place = x .place ∙ ap (λ (l : List ℕ). at + length l) e;
   within = omega arith;
 }
@@ -69,4 +69,4 @@ pub printed-front : {q : ℕ} {bs old new : List ℕ} {at next : ℕ} → at ≤
 unfolding putAt
 printed-front {q} {bs} {old} {new} {at} {next} h x =
     let long : length (take at old ++ bs) ≡ next = length-append (take at old) bs ∙ ap (λ (k : ℕ). k + length bs) (length-take-le at old h) ∙ sym (x .place) in
-    ap (take next) (x .bytes ∙ sym (append-assoc (take at old) bs _)) ∙ take-at (take at old ++ bs) _ next long
+    ap (take next) (x .buffer ∙ sym (append-assoc (take at old) bs _)) ∙ take-at (take at old ++ bs) _ next long

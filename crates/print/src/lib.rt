@@ -6,8 +6,8 @@ ghost use Prim.Native.Nat.{_+_, _*_, _≤_};
 ghost use lib.ListN.{length};
 ghost use Rattle.model.specs.Sizes.{vacant};
 ghost use Rattle.model.specs.Calls.{openDone, readDone, writeDone, stepDone, stepClean, flushDone, refused};
-ghost use Rattle.print.specs.Text.{lastDigit, decimal, refused-word};
-ghost use Rattle.print.specs.Print.{Printed, lineRoom, wearRoom, spaced, openLine, writeLine, readLine, stepLine, flushLine, wearLine, badLine, field, erased};
+ghost use Rattle.print.specs.Text.{lastDigit, decimal};
+ghost use Rattle.print.specs.Print.{Printed, lineRoom, wearRoom, spaced, openLine, writeLine, readLine, stepLine, flushLine, wearLine, badLine, refusal, erased};
 
 // (bad n), for line n.
 pub fn put_bad(out: &mut [u8], at: usize, n: u32) -> usize
@@ -181,7 +181,7 @@ fn put_erased(out: &mut [u8], at: usize, block: u32) -> usize
 // The number of a refusal, after a space, and the end of the line.
 fn put_refused(out: &mut [u8], at: usize, number: u32) -> usize
     requires { ⌜ at + 23 ≤ length (now out) ⌝ }
-    ensures { λ r. ⌜ Printed 23 (32 ∷ (field refused-word number ++ (41 ∷ (10 ∷ [])))) (now (out .entry)) at (now (out .exit)) r ⌝ }
+    ensures { λ r. ⌜ Printed 23 (32 ∷ (refusal number ++ (41 ∷ (10 ∷ [])))) (now (out .entry)) at (now (out .exit)) r ⌝ }
 {
     let next = put_field(out, at, b" (refused ", number);
     put_bytes(out, next, b")\n")

@@ -1,3 +1,4 @@
+pub mod Shown
 pub mod Words
 pub mod Value
 pub mod Args

@@ -10,19 +10,19 @@ use lib.Seq.{length-take-le, getD-take}
 use borrow.Author.Tests.{eqb-true, ne-eqb, leb-false, le-leb, lt-leb}
 use Rattle.prelude.proofs.Tests.{by-test, and-l, and-r, and-not-l}
 use Rattle.prelude.specs.Tests.{every}
-use Rattle.print.specs.Text.{open-word, write-word, read-word, step-word, flush-word, wear-word}
+use Rattle.print.specs.Text.{bytes}
 use Rattle.script.specs.Forms.{Form, writes, reads, steps, flushes, wears, bad, wordsOf, valueOf, isNumber, opening, same, sizesFrom, formWith, formOfWords, bracketed, formOf}
 use Rattle.script.specs.Parts.{NumbersOf}
 use Rattle.script.specs.declared.Numbers.{Numbers}
 
 unfoldable pub formFrom : List ℕ → ℕ → List ℕ → Form
 formFrom w count v =
-    cond (same w open-word && eqb count 6) (opening (sizesFrom v))
-    (cond (same w write-word && (eqb count 2 && leb (getD v 1 0) 255)) (writes (getD v 0 0) (getD v 1 0))
-    (cond (same w read-word && eqb count 1) (reads (getD v 0 0))
-    (cond (same w step-word && eqb count 0) steps
-    (cond (same w flush-word && eqb count 0) flushes
-    (cond (same w wear-word && eqb count 0) wears bad)))))
+    cond (same w (bytes "open") && eqb count 6) (opening (sizesFrom v))
+    (cond (same w (bytes "write") && (eqb count 2 && leb (getD v 1 0) 255)) (writes (getD v 0 0) (getD v 1 0))
+    (cond (same w (bytes "read") && eqb count 1) (reads (getD v 0 0))
+    (cond (same w (bytes "step") && eqb count 0) steps
+    (cond (same w (bytes "flush") && eqb count 0) flushes
+    (cond (same w (bytes "wear") && eqb count 0) wears bad)))))
 
 -- a choice by an equal test, of equal things
 choice : {s t : Bool} {a b c d : Form} → s ≡ t → (t ≡ true → a ≡ b) → c ≡ d → cond s a c ≡ cond t b d
@@ -45,44 +45,44 @@ module _ (w : List ℕ) (count : ℕ) (v : List ℕ) (h : count ≤ length v) wh
   six : count ≡ 6 → sizesFrom (take count v) ≡ sizesFrom v
   six e = rw (at 0 (omega arith), at 1 (omega arith), at 2 (omega arith), at 3 (omega arith), at 4 (omega arith), at 5 (omega arith))
 
-  pair : (same w write-word && (eqb (length (take count v)) 2 && leb (getD (take count v) 1 0) 255)) ≡ (same w write-word && (eqb count 2 && leb (getD v 1 0) 255))
+  pair : (same w (bytes "write") && (eqb (length (take count v)) 2 && leb (getD (take count v) 1 0) 255)) ≡ (same w (bytes "write") && (eqb count 2 && leb (getD v 1 0) 255))
   pair = rw long (by-test (eqb count 2)
-      (λ t. let e = eqb-true count 2 t in ap (λ (n : ℕ). same w write-word && (eqb count 2 && leb n 255)) (at 1 (omega arith)))
+      (λ t. let e = eqb-true count 2 t in ap (λ (n : ℕ). same w (bytes "write") && (eqb count 2 && leb n 255)) (at 1 (omega arith)))
       (λ t. rw t))
 
-  two : (same w write-word && (eqb count 2 && leb (getD v 1 0) 255)) ≡ true → count ≡ 2
-  two t = eqb-true count 2 (and-l (eqb count 2) (leb (getD v 1 0) 255) (and-r (same w write-word) (eqb count 2 && leb (getD v 1 0) 255) t))
+  two : (same w (bytes "write") && (eqb count 2 && leb (getD v 1 0) 255)) ≡ true → count ≡ 2
+  two t = eqb-true count 2 (and-l (eqb count 2) (leb (getD v 1 0) 255) (and-r (same w (bytes "write")) (eqb count 2 && leb (getD v 1 0) 255) t))
 
   pub form-from : formWith w (take count v) ≡ formFrom w count v
   unfolding formWith formFrom
   form-from =
-      choice (test open-word 6) (λ t. ap opening (six (counted open-word 6 t)))
+      choice (test (bytes "open") 6) (λ t. ap opening (six (counted (bytes "open") 6 t)))
       (choice pair (λ t. let e = two t in rw (at 0 (omega arith), at 1 (omega arith)))
-      (choice (test read-word 1) (λ t. ap reads (at 0 (let e = counted read-word 1 t in omega arith)))
-      (choice (test step-word 0) (λ t. refl)
-      (choice (test flush-word 0) (λ t. refl)
-      (choice (test wear-word 0) (λ t. refl) refl)))))
+      (choice (test (bytes "read") 1) (λ t. ap reads (at 0 (let e = counted (bytes "read") 1 t in omega arith)))
+      (choice (test (bytes "step") 0) (λ t. refl)
+      (choice (test (bytes "flush") 0) (λ t. refl)
+      (choice (test (bytes "wear") 0) (λ t. refl) refl)))))
 
 -- ---- which form it is, by the tests in their order
 
 module _ (w : List ℕ) (count : ℕ) (v : List ℕ) where
   abbrev pub isOpen : Bool
-  isOpen = same w open-word && eqb count 6
+  isOpen = same w (bytes "open") && eqb count 6
 
   abbrev pub isWrite : Bool
-  isWrite = same w write-word && (eqb count 2 && leb (getD v 1 0) 255)
+  isWrite = same w (bytes "write") && (eqb count 2 && leb (getD v 1 0) 255)
 
   abbrev pub isRead : Bool
-  isRead = same w read-word && eqb count 1
+  isRead = same w (bytes "read") && eqb count 1
 
   abbrev pub isStep : Bool
-  isStep = same w step-word && eqb count 0
+  isStep = same w (bytes "step") && eqb count 0
 
   abbrev pub isFlush : Bool
-  isFlush = same w flush-word && eqb count 0
+  isFlush = same w (bytes "flush") && eqb count 0
 
   abbrev pub isWear : Bool
-  isWear = same w wear-word && eqb count 0
+  isWear = same w (bytes "wear") && eqb count 0
 
   pub from-open : isOpen ≡ true → formFrom w count v ≡ opening (sizesFrom v)
   unfolding formFrom
@@ -117,8 +117,8 @@ pub form-more : (w ns : List ℕ) → 6 < length ns → formWith w ns ≡ bad
 unfolding formWith formFrom
 form-more w ns h =
     let no : (word : List ℕ) (k : ℕ) → k ≤ 6 → (same w word && eqb (length ns) k) ≡ false = λ word k l. rw (ne-eqb (length ns) k (λ e. omega arith)) (and-false (same w word)) in
-    let pair : isWrite w (length ns) ns ≡ false = rw (ne-eqb (length ns) 2 (λ e. omega arith)) (and-false (same w write-word)) in
-    from-bad w (length ns) ns (no open-word 6 (omega arith)) pair (no read-word 1 (omega arith)) (no step-word 0 (omega arith)) (no flush-word 0 (omega arith)) (no wear-word 0 (omega arith))
+    let pair : isWrite w (length ns) ns ≡ false = rw (ne-eqb (length ns) 2 (λ e. omega arith)) (and-false (same w (bytes "write"))) in
+    from-bad w (length ns) ns (no (bytes "open") 6 (omega arith)) pair (no (bytes "read") 1 (omega arith)) (no (bytes "step") 0 (omega arith)) (no (bytes "flush") 0 (omega arith)) (no (bytes "wear") 0 (omega arith))
 
 -- ---- a word and the words after it
 

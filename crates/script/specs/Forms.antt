@@ -7,7 +7,7 @@ use lib.ListN.{length, getD, take, drop}
 use Rattle.prelude.specs.Tests.{every}
 use Rattle.prelude.specs.Scan.{all}
 use Rattle.model.specs.Sizes.{Sizes, sizesOk}
-use Rattle.print.specs.Text.{open-word, write-word, read-word, step-word, flush-word, wear-word}
+use Rattle.print.specs.Text.{bytes}
 
 pub data Form : Type 0 where
   opens : Sizes → Form
@@ -88,12 +88,12 @@ sizesFrom ns = record { S = getD ns 0 0; K = getD ns 1 0; N = getD ns 2 0; P = g
 -- the word w with the numbers ns after it
 unfoldable pub formWith : List ℕ → List ℕ → Form
 formWith w ns =
-    cond (same w open-word && eqb (length ns) 6) (opening (sizesFrom ns))
-    (cond (same w write-word && (eqb (length ns) 2 && leb (getD ns 1 0) 255)) (writes (getD ns 0 0) (getD ns 1 0))
-    (cond (same w read-word && eqb (length ns) 1) (reads (getD ns 0 0))
-    (cond (same w step-word && eqb (length ns) 0) steps
-    (cond (same w flush-word && eqb (length ns) 0) flushes
-    (cond (same w wear-word && eqb (length ns) 0) wears bad)))))
+    cond (same w (bytes "open") && eqb (length ns) 6) (opening (sizesFrom ns))
+    (cond (same w (bytes "write") && (eqb (length ns) 2 && leb (getD ns 1 0) 255)) (writes (getD ns 0 0) (getD ns 1 0))
+    (cond (same w (bytes "read") && eqb (length ns) 1) (reads (getD ns 0 0))
+    (cond (same w (bytes "step") && eqb (length ns) 0) steps
+    (cond (same w (bytes "flush") && eqb (length ns) 0) flushes
+    (cond (same w (bytes "wear") && eqb (length ns) 0) wears bad)))))
 
 -- a word, and after it numbers alone
 unfoldable pub formOfWords : List (List ℕ) → Form

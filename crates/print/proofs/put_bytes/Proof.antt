@@ -49,7 +49,7 @@ returns : tie.Need-returns Inv-loop μ-loop
 returns c =
     let at = c .before in
     let a = at .before .args in
-    record { bytes = at .loop .inv .1 .1 ∙ ap (putAt (a .out .now) (a .at)) (take-all _ _ (c .loop-test .left)); place = refl; within = omega arith }
+    record { buffer = at .loop .inv .1 .1 ∙ ap (putAt (a .out .now) (a .at)) (take-all _ _ (c .loop-test .left)); place = refl; within = omega arith }
 
 pub put-bytes-spec : {M : Type 1} → statement M
 put-bytes-spec =

@@ -4,7 +4,7 @@ use mathlib.Core.Path.{sym, ap}
 use mathlib.Core.Bool.{Bool, cond}
 use mathlib.Core.List.{[], _∷_, _++_}
 use borrow.Author.Tests.{eq-eqb, ne-eqb}
-use Rattle.print.specs.Text.{form, items, decimal, erased-word, none-word}
+use Rattle.print.specs.Text.{bytes, form, items, decimal}
 use Rattle.print.proofs.Put.{printed-as}
 use Rattle.print.proofs.put_erased.Statement.{statement}
 use Rattle.print.proofs.put_erased.Tie as tie
@@ -20,7 +20,7 @@ same-length c = search needs
 
 returns : tie.Need-returns
 unfolding form items
-returns c = printed-as (omega arith) (ap (λ (x : Bool). 32 ∷ (40 ∷ (erased-word ++ (32 ∷ (cond x none-word (decimal (c .before .before .before .before .before .before .before .args .block)) ++ (41 ∷ [])))))) (sym (eq-eqb _ _ (c .before .before .before .before .before .if1 .taken)))) (c .before .before .put-bytes .ensures)
+returns c = printed-as (omega arith) (ap (λ (x : Bool). 32 ∷ (40 ∷ (bytes "erased" ++ (32 ∷ (cond x (bytes "none") (decimal (c .before .before .before .before .before .before .before .args .block)) ++ (41 ∷ [])))))) (sym (eq-eqb _ _ (c .before .before .before .before .before .if1 .taken)))) (c .before .before .put-bytes .ensures)
 
 slice-aggregate-put-field : tie.Need-slice-aggregate-put-field
 slice-aggregate-put-field c = search needs
@@ -33,7 +33,7 @@ same-length-2 c = search needs
 
 returns-2 : tie.Need-returns-2
 unfolding form items
-returns-2 c = printed-as (omega arith) (ap (λ (x : Bool). 32 ∷ (40 ∷ (erased-word ++ (32 ∷ (cond x none-word (decimal (c .before .before .before .before .before .before .before .args .block)) ++ (41 ∷ [])))))) (sym (ne-eqb _ _ (c .before .before .before .before .before .if1 .left)))) (c .before .before .put-field .ensures)
+returns-2 c = printed-as (omega arith) (ap (λ (x : Bool). 32 ∷ (40 ∷ (bytes "erased" ++ (32 ∷ (cond x (bytes "none") (decimal (c .before .before .before .before .before .before .before .args .block)) ++ (41 ∷ [])))))) (sym (ne-eqb _ _ (c .before .before .before .before .before .if1 .left)))) (c .before .before .put-field .ensures)
 
 pub put-erased-spec : {M : Type 1} → statement M
 put-erased-spec =

@@ -1,0 +1,104 @@
+/* The page store for C: the calls of the proved crate clash_c (target/staticlib/libclash_c.a, x86-64).
+ *
+ * A call takes the record by value and gives the next one with its answer; keep that one for the next call. The caller owns
+ * all memory and lends it for the time of a call: a pointer and the number of elements, in the order
+ * flash, wear, p-space, b-space. Buffers must not overlap. Nothing is kept of them between calls.
+ *
+ *   flash    blocks * pages_per_block * page_size bytes, the chip
+ *   wear     blocks numbers: how often each block was erased (aligned as uint32_t)
+ *   pspace   slots * page_size bytes
+ *   bspace   frames * pages_per_block * page_size bytes
+ *   page     page_size bytes, for read and write
+ *
+ * A buffer of another length is refused, and a refused call changes nothing: neither the record nor a byte lent. */
+#ifndef CLASH_H
+#define CLASH_H
+
+#include <stddef.h>
+#include <stdint.h>
+
+#ifdef __cplusplus
+extern "C" {
+#endif
+
+/* No page, no block. */
+#define CLASH_VACANT 4294967295u
+
+/* Why a call is turned down; 0 is an accepted call. */
+enum {
+    CLASH_ACCEPTED = 0,
+    CLASH_SIZE = 1,     /* open: a size or the wear limit is beyond its limits */
+    CLASH_BUFFER = 2,   /* a lent buffer has another length than the sizes ask for */
+    CLASH_OVERWORN = 3, /* open: a wear entry is above the wear limit */
+    CLASH_RECORD = 4,   /* the record is not sound; the blank one is not */
+    CLASH_PAGE = 5,     /* there is no such page */
+    CLASH_WORN = 6      /* a rewrite is due for block `block`, whose wear has reached the limit */
+};
+
+typedef struct {
+    uint32_t page_size;       /* 1 to 2,048 */
+    uint32_t pages_per_block; /* 2 to 64 */
+    uint32_t blocks;          /* 1 to 4,096 */
+    uint32_t slots;           /* 1 to 128 */
+    uint32_t frames;          /* 1 to 8 */
+    uint32_t wear_limit;      /* 1 to 1,000,000 */
+} clash_sizes;
+
+typedef struct {
+    uint32_t slots[128];
+    uint32_t frames[8];
+    uint64_t valid[8];
+    uint8_t recency[8];
+} clash_directory;
+
+/* The cache record: 640 bytes. */
+typedef struct {
+    clash_sizes sizes;
+    clash_directory directory;
+} clash_cache;
+
+typedef struct {
+    uint32_t refusal;
+    uint32_t way;      /* read: 1 slot, 2 frame, 3 flash; write: 1 to 7 */
+    uint32_t block;    /* write: the block erased, CLASH_VACANT for none; step: the block rewritten; refusal 6: the worn block */
+    uint32_t rewrites; /* flush: blocks rewritten; step: 1, or 0 where nothing was cached */
+    uint32_t merged;   /* merge reads */
+} clash_answer;
+
+typedef struct {
+    clash_cache cache;
+    clash_answer answer;
+} clash_reply;
+
+/* Changes no buffer. A refused opening gives the blank record. */
+clash_reply clash_open(clash_sizes sizes,
+    const uint8_t *flash, size_t flash_bytes, const uint32_t *wear, size_t wear_count,
+    const uint8_t *pspace, size_t pspace_bytes, const uint8_t *bspace, size_t bspace_bytes);
+
+/* Fills page with page n. */
+clash_reply clash_read(clash_cache cache,
+    const uint8_t *flash, size_t flash_bytes, const uint32_t *wear, size_t wear_count,
+    const uint8_t *pspace, size_t pspace_bytes, const uint8_t *bspace, size_t bspace_bytes,
+    uint32_t n, uint8_t *page, size_t page_bytes);
+
+/* Stores page as page n. */
+clash_reply clash_write(clash_cache cache,
+    uint8_t *flash, size_t flash_bytes, uint32_t *wear, size_t wear_count,
+    uint8_t *pspace, size_t pspace_bytes, uint8_t *bspace, size_t bspace_bytes,
+    uint32_t n, const uint8_t *page, size_t page_bytes);
+
+/* Rewrites one block that has pages cached. */
+clash_reply clash_step(clash_cache cache,
+    uint8_t *flash, size_t flash_bytes, uint32_t *wear, size_t wear_count,
+    const uint8_t *pspace, size_t pspace_bytes, uint8_t *bspace, size_t bspace_bytes);
+
+/* Rewrites every block that has pages cached, or none where one of them is worn. */
+clash_reply clash_flush(clash_cache cache,
+    uint8_t *flash, size_t flash_bytes, uint32_t *wear, size_t wear_count,
+    const uint8_t *pspace, size_t pspace_bytes, uint8_t *bspace, size_t bspace_bytes);
+
+#ifdef __cplusplus
+}
+#endif
+
+#endif

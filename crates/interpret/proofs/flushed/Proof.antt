@@ -1,0 +1,42 @@
+use borrow.Author.Needs.{needs}
+use native.Mathlib.Omega.{arith}
+use Rattle.interpret.proofs.Carrying.{flush-carries}
+use Rattle.interpret.proofs.flushed.Statement.{statement}
+use Rattle.interpret.proofs.flushed.Tie as tie
+use Rattle.interpret.proofs.flushed.Reads as reads
+use Rattle.interpret.proofs.flushed.Lts as lts
+use Rattle.interpret.proofs.say.flush.Reads as say-flush-reads
+use Rattle.store.proofs.Cache.flush.Reads as Cache-flush-reads
+
+flush-requires : tie.Need-flush-requires
+flush-requires c κs = search needs
+
+flush-requires-2 : tie.Need-flush-requires-2
+flush-requires-2 c κs = search needs
+
+same-length : tie.Need-same-length
+same-length c = search needs
+
+same-length-2 : tie.Need-same-length-2
+same-length-2 c = search needs
+
+same-length-3 : tie.Need-same-length-3
+same-length-3 c = search needs
+
+same-length-4 : tie.Need-same-length-4
+same-length-4 c = search needs
+
+returns : tie.Need-returns
+returns c = flush-carries _ _ _ _ _ (c .before .before .before .before .before .before .before .before .before .before .before .flush .result) (c .before .before .before .before .before .before .before .before .before .before .before .flush .ensures) (c .before .before .flush2 .ensures)
+
+pub flushed-spec : {M : Type 1} → statement M
+flushed-spec =
+    tie.close
+    (tie.spec
+    flush-requires
+    flush-requires-2
+    same-length
+    same-length-2
+    same-length-3
+    same-length-4
+    returns)

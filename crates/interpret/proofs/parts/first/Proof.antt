@@ -1,0 +1,20 @@
+use borrow.Author.Needs.{needs}
+use native.Mathlib.Omega.{arith}
+use mathlib.Core.Path.{_≡_, sym}
+use lib.ListN.{length, getD, List·getD-eq-default}
+use Rattle.interpret.proofs.parts.first.Statement.{statement}
+use Rattle.interpret.proofs.parts.first.Tie as tie
+use Rattle.interpret.proofs.parts.first.Reads as reads
+use Rattle.interpret.proofs.parts.first.Lts as lts
+
+returns : tie.Need-returns
+returns c = sym (List·getD-eq-default (c .before .args .bytes .now) 0 (omega arith))
+
+shared-slice-read-result : tie.Need-shared-slice-read-result
+shared-slice-read-result c = search needs
+
+returns-2 : tie.Need-returns-2
+returns-2 c = search needs
+
+pub first-spec : {M : Type 1} → statement M
+first-spec = tie.close (tie.spec returns shared-slice-read-result returns-2)

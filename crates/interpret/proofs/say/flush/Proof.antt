@@ -1,0 +1,57 @@
+use borrow.Author.Needs.{needs}
+use native.Mathlib.Omega.{arith}
+use mathlib.Core.Path.{_≡_, sym, ap, _∙_}
+use mathlib.Core.List.{List, _∷_}
+use Prim.Native.Nat.{ℕ}
+use Rattle.print.specs.Text.{decimal, open-word, flush-word, step-word, write-word, read-word}
+use Rattle.print.specs.Print.{line}
+use Rattle.print.proofs.Put.{printed-as}
+use Rattle.interpret.proofs.Said.{said-refused}
+use Rattle.interpret.proofs.say.flush.Statement.{statement}
+use Rattle.interpret.proofs.say.flush.Tie as tie
+use Rattle.interpret.proofs.say.flush.Reads as reads
+use Rattle.interpret.proofs.say.flush.Lts as lts
+use Rattle.interpret.proofs.say.number.Reads as number-reads
+use Rattle.print.proofs.put_flush.Reads as put-flush-reads
+use Rattle.print.proofs.put_flush_refused.Reads as put-flush-refused-reads
+
+enum-known-answer : tie.Need-enum-known-answer
+enum-known-answer c = search needs
+
+put-flush-requires : tie.Need-put-flush-requires
+put-flush-requires c κs = search needs
+
+enum-known-answer-2 : tie.Need-enum-known-answer-2
+enum-known-answer-2 c = search needs
+
+number-requires : tie.Need-number-requires
+number-requires c κs = search needs
+
+put-flush-refused-requires : tie.Need-put-flush-refused-requires
+put-flush-refused-requires c κs = search needs
+
+same-length : tie.Need-same-length
+same-length c = search needs
+
+returns : tie.Need-returns
+returns c = rw (c .before .before .before .before .before .answer .given .1) (c .before .before .put-flush .ensures)
+
+same-length-2 : tie.Need-same-length-2
+same-length-2 c = search needs
+
+returns-2 : tie.Need-returns-2
+returns-2 c = rw (c .before .before .before .before .before .before .answer2 .given .1) (printed-as (omega arith) (ap (line flush-word) (said-refused (c .before .before .before .before .before .before .answer2 .given .0 .0) _ 0 0 (c .before .before .before .number .ensures))) (c .before .before .put-flush-refused .ensures))
+
+pub flush-spec : {M : Type 1} → statement M
+flush-spec =
+    tie.close
+    (tie.spec
+    enum-known-answer
+    put-flush-requires
+    enum-known-answer-2
+    number-requires
+    put-flush-refused-requires
+    same-length
+    returns
+    same-length-2
+    returns-2)

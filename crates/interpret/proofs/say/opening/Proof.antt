@@ -1,0 +1,57 @@
+use borrow.Author.Needs.{needs}
+use native.Mathlib.Omega.{arith}
+use mathlib.Core.Path.{_≡_, sym, ap, _∙_}
+use mathlib.Core.List.{List, _∷_}
+use Prim.Native.Nat.{ℕ}
+use Rattle.print.specs.Text.{decimal, open-word, flush-word, step-word, write-word, read-word}
+use Rattle.print.specs.Print.{line}
+use Rattle.print.proofs.Put.{printed-as}
+use Rattle.interpret.proofs.Said.{said-refused}
+use Rattle.interpret.proofs.say.opening.Statement.{statement}
+use Rattle.interpret.proofs.say.opening.Tie as tie
+use Rattle.interpret.proofs.say.opening.Reads as reads
+use Rattle.interpret.proofs.say.opening.Lts as lts
+use Rattle.interpret.proofs.say.number.Reads as number-reads
+use Rattle.print.proofs.put_open.Reads as put-open-reads
+use Rattle.print.proofs.put_open_refused.Reads as put-open-refused-reads
+
+enum-told : tie.Need-enum-told
+enum-told c = search needs
+
+put-open-requires : tie.Need-put-open-requires
+put-open-requires c κs = search needs
+
+enum-known-answer : tie.Need-enum-known-answer
+enum-known-answer c = search needs
+
+number-requires : tie.Need-number-requires
+number-requires c κs = search needs
+
+put-open-refused-requires : tie.Need-put-open-refused-requires
+put-open-refused-requires c κs = search needs
+
+same-length : tie.Need-same-length
+same-length c = search needs
+
+returns : tie.Need-returns
+returns c = rw (c .before .before .before .before .enum-told .given .1) (c .before .before .put-open .ensures)
+
+same-length-2 : tie.Need-same-length-2
+same-length-2 c = search needs
+
+returns-2 : tie.Need-returns-2
+returns-2 c = rw (c .before .before .before .before .before .before .answer .given .1) (printed-as (omega arith) (ap (line open-word) (said-refused (c .before .before .before .before .before .before .answer .given .0 .0) _ 0 0 (c .before .before .before .number .ensures))) (c .before .before .put-open-refused .ensures))
+
+pub opening-spec : {M : Type 1} → statement M
+opening-spec =
+    tie.close
+    (tie.spec
+    enum-told
+    put-open-requires
+    enum-known-answer
+    number-requires
+    put-open-refused-requires
+    same-length
+    returns
+    same-length-2
+    returns-2)

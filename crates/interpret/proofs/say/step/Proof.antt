@@ -1,0 +1,74 @@
+use borrow.Author.Needs.{needs}
+use native.Mathlib.Omega.{arith}
+use mathlib.Core.Path.{_≡_, sym, ap, _∙_}
+use mathlib.Core.List.{List, _∷_}
+use Prim.Native.Nat.{ℕ}
+use Rattle.print.specs.Text.{decimal, open-word, flush-word, step-word, write-word, read-word}
+use Rattle.print.specs.Print.{line}
+use Rattle.print.proofs.Put.{printed-as}
+use Rattle.interpret.proofs.Said.{said-refused}
+use Rattle.interpret.proofs.say.step.Statement.{statement}
+use Rattle.interpret.proofs.say.step.Tie as tie
+use Rattle.interpret.proofs.say.step.Reads as reads
+use Rattle.interpret.proofs.say.step.Lts as lts
+use Rattle.interpret.proofs.say.number.Reads as number-reads
+use Rattle.print.proofs.put_clean.Reads as put-clean-reads
+use Rattle.print.proofs.put_step.Reads as put-step-reads
+use Rattle.print.proofs.put_step_refused.Reads as put-step-refused-reads
+
+enum-known-answer : tie.Need-enum-known-answer
+enum-known-answer c = search needs
+
+put-step-requires : tie.Need-put-step-requires
+put-step-requires c κs = search needs
+
+enum-told : tie.Need-enum-told
+enum-told c = search needs
+
+put-clean-requires : tie.Need-put-clean-requires
+put-clean-requires c κs = search needs
+
+enum-known-answer-2 : tie.Need-enum-known-answer-2
+enum-known-answer-2 c = search needs
+
+number-requires : tie.Need-number-requires
+number-requires c κs = search needs
+
+put-step-refused-requires : tie.Need-put-step-refused-requires
+put-step-refused-requires c κs = search needs
+
+same-length : tie.Need-same-length
+same-length c = search needs
+
+returns : tie.Need-returns
+returns c = rw (c .before .before .before .before .before .answer .given .1) (c .before .before .put-step .ensures)
+
+same-length-2 : tie.Need-same-length-2
+same-length-2 c = search needs
+
+returns-2 : tie.Need-returns-2
+returns-2 c = rw (c .before .before .before .before .enum-told .given .1) (c .before .before .put-clean .ensures)
+
+same-length-3 : tie.Need-same-length-3
+same-length-3 c = search needs
+
+returns-3 : tie.Need-returns-3
+returns-3 c = rw (c .before .before .before .before .before .before .answer2 .given .1) (printed-as (omega arith) (ap (line step-word) (said-refused (c .before .before .before .before .before .before .answer2 .given .0 .0) _ 0 0 (c .before .before .before .number .ensures))) (c .before .before .put-step-refused .ensures))
+
+pub step-spec : {M : Type 1} → statement M
+step-spec =
+    tie.close
+    (tie.spec
+    enum-known-answer
+    put-step-requires
+    enum-told
+    put-clean-requires
+    enum-known-answer-2
+    number-requires
+    put-step-refused-requires
+    same-length
+    returns
+    same-length-2
+    returns-2
+    same-length-3
+    returns-3)

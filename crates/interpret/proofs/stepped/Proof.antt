@@ -1,0 +1,42 @@
+use borrow.Author.Needs.{needs}
+use native.Mathlib.Omega.{arith}
+use Rattle.interpret.proofs.Carrying.{step-carries}
+use Rattle.interpret.proofs.stepped.Statement.{statement}
+use Rattle.interpret.proofs.stepped.Tie as tie
+use Rattle.interpret.proofs.stepped.Reads as reads
+use Rattle.interpret.proofs.stepped.Lts as lts
+use Rattle.interpret.proofs.say.step.Reads as step-reads
+use Rattle.store.proofs.Cache.flush_step.Reads as flush-step-reads
+
+flush-step-requires : tie.Need-flush-step-requires
+flush-step-requires c κs = search needs
+
+step-requires : tie.Need-step-requires
+step-requires c κs = search needs
+
+same-length : tie.Need-same-length
+same-length c = search needs
+
+same-length-2 : tie.Need-same-length-2
+same-length-2 c = search needs
+
+same-length-3 : tie.Need-same-length-3
+same-length-3 c = search needs
+
+same-length-4 : tie.Need-same-length-4
+same-length-4 c = search needs
+
+returns : tie.Need-returns
+returns c = step-carries _ _ _ _ _ (c .before .before .before .before .before .before .before .before .before .before .before .flush-step .result) (c .before .before .before .before .before .before .before .before .before .before .before .flush-step .ensures) (c .before .before .step .ensures)
+
+pub stepped-spec : {M : Type 1} → statement M
+stepped-spec =
+    tie.close
+    (tie.spec
+    flush-step-requires
+    step-requires
+    same-length
+    same-length-2
+    same-length-3
+    same-length-4
+    returns)

@@ -1,0 +1,95 @@
+-- The program's memory, and what the code hands back for a line.
+use mathlib.Core.Path.{_≡_}
+use mathlib.Core.Bool.{true}
+use mathlib.Core.List.{List}
+use Prim.Native.Nat.{ℕ, _*_, _≤_}
+use lib.ListN.{length, take}
+use Rattle.model.specs.Sizes.{Sizes, sizesOk}
+use Rattle.model.specs.Calls.{Answer, openDone, readDone, writeDone, stepDone, stepClean, flushDone, refused, Buffers, Fits}
+use Rattle.print.specs.Print.{wearRoom}
+use Rattle.script.specs.Forms.{Form, opens, writes, reads, steps, flushes, wears, bad, buffersFit}
+use Rattle.cache.specs.View.{sizesOf}
+use Rattle.answer.specs.Carried.{buffers}
+use Rattle.store.specs.declared.Cache.{Cache}
+use Rattle.store.specs.View.{storeOf}
+use Rattle.interpret.specs.Lines.{Effect, carried, sizesAfter}
+use Rattle.interpret.specs.declared.Lined.{Lined}
+use Rattle.interpret.specs.declared.parts.Parts.{Parts}
+
+-- the number of a refusal
+abbrev pub numberOf : Answer → ℕ
+numberOf openDone = 0
+numberOf (readDone way) = 0
+numberOf (writeDone way b m) = 0
+numberOf (stepDone b m) = 0
+numberOf stepClean = 0
+numberOf (flushDone r m) = 0
+numberOf (refused n b) = n
+
+-- the record with the buffers u, and the first bytes of out
+abbrev pub effectOf : Lined → Buffers → List ℕ → Effect
+effectOf r u out = record { store = storeOf (r .cache) u; printed = take (r .printed) out }
+
+-- the code did what e says
+pub record Carries (e : Effect) (r : Lined) (u : Buffers) (out : List ℕ) : Type 0 where
+  pub effect : effectOf r u out ≡ e
+  pub within : r .printed ≤ wearRoom 4096
+
+-- ---- the store's own buffers stand at the front of the program's memory
+
+-- the sizes are small enough for the memory; a blank record's are
+pub record Held (sz : Sizes) : Type 0 where
+  pub S-high : sz .S ≤ 2048
+  pub K-high : sz .K ≤ 64
+  pub N-high : sz .N ≤ 4096
+  pub B-high : sz .B ≤ 8
+  pub flash-high : sz .N * sz .K * sz .S ≤ 32768
+  pub pspace-high : sz .P * sz .S ≤ 32768
+  pub bspace-high : sz .B * sz .K * sz .S ≤ 32768
+
+-- the lengths of the buffers
+pub record PartsOf (sz : Sizes) (p : Parts) : Type 0 where
+  pub flash-is : p .flash ≡ sz .N * sz .K * sz .S
+  pub wear-is : p .wear ≡ sz .N
+  pub pspace-is : p .pspace ≡ sz .P * sz .S
+  pub bspace-is : p .bspace ≡ sz .B * sz .K * sz .S
+  pub page-is : p .page ≡ sz .S
+
+-- the buffers in the memory
+abbrev pub front : Sizes → List ℕ → List ℕ → List ℕ → List ℕ → Buffers
+front sz flash wear pspace bspace = buffers (take (sz .N * sz .K * sz .S) flash) (take (sz .N) wear) (take (sz .P * sz .S) pspace) (take (sz .B * sz .K * sz .S) bspace)
+
+-- ---- what is asked, and what a line leaves
+
+-- an opening with sizes within limits has buffers that fit: the form of every line is such
+abbrev pub Sized : Form → Type 0
+Sized (opens sz) = sizesOk sz ≡ true → buffersFit sz ≡ true
+Sized (writes n b) = Unit {0}
+Sized (reads n) = Unit {0}
+Sized steps = Unit {0}
+Sized flushes = Unit {0}
+Sized wears = Unit {0}
+Sized bad = Unit {0}
+
+-- buffers and a page buffer in their sizes, and room for the line
+pub record Lent (sz : Sizes) (u : Buffers) (page out : List ℕ) : Type 0 where
+  pub fits : Fits sz u
+  pub page-length : length page ≡ sz .S
+  pub wear-room : length (u .wear) ≤ 4096
+  pub room : wearRoom 4096 ≤ length out
+
+-- the memory's lengths, and sizes that fit it
+pub record Lendable (sz : Sizes) (f : Form) (flash wear pspace bspace page out : List ℕ) : Type 0 where
+  pub flash-length : length flash ≡ 32768
+  pub wear-length : length wear ≡ 4096
+  pub pspace-length : length pspace ≡ 32768
+  pub bspace-length : length bspace ≡ 32768
+  pub page-length : length page ≡ 2048
+  pub out-length : length out ≡ 49152
+  pub held : Held sz
+  pub sized : Sized f
+
+-- a line was carried out: e is what it does to the store at the front of the memory
+pub record CarriedOut (e : Effect) (r : Lined) (flash wear pspace bspace out : List ℕ) : Type 0 where
+  pub carries : Carries e r (front (sizesOf (r .cache .sizes)) flash wear pspace bspace) out
+  pub held : Held (sizesOf (r .cache .sizes))

@@ -1,2 +1,4 @@
 pub mod Said
 pub mod Carrying
+pub mod Opening
+pub mod Front

@@ -1,0 +1,182 @@
+-- The store's own buffers at the front of the program's memory.
+use mathlib.Core.Path.{_≡_, refl, sym, ap, _∙_, subst}
+use mathlib.Core.Bool.{true, false}
+use mathlib.Core.List.{List, _++_}
+use Prim.Native.Nat.{ℕ, _*_, _≤_}
+use native.Mathlib.Omega.{arith}
+use lib.ListN.{length, take, drop}
+use lib.Seq.{take-at, length-take-le}
+use borrow.Author.Tests.{leb-true}
+use Rattle.prelude.proofs.Tests.{by-test, each}
+use Rattle.model.specs.Sizes as model
+use Rattle.model.specs.Sizes.{sizesOk, InLimits}
+use Rattle.model.specs.Soundness.{sound}
+use Rattle.model.specs.Policy.{leastRecent}
+use Rattle.model.specs.Calls.{Call, Page, Buffers, Store, Result, Outcome, Fits, isRefused, lentOk, stateOf, told, decide, carriedOut, unaltered, call, read, write, step, flush}
+use Rattle.model.proofs.Soundness.{limits-of}
+use Rattle.print.specs.Print.{lineRoom, wearRoom}
+use Rattle.script.specs.Forms as form
+use Rattle.script.specs.Forms.{buffersFit}
+use Rattle.script.specs.declared.Form.{Form}
+use Rattle.script.specs.declared.Form.the-variants.{Open}
+use Rattle.script.specs.View.{meant}
+use Rattle.cache.specs.declared.Sizes.{Sizes}
+use Rattle.cache.specs.View.{sizesOf}
+use Rattle.answer.specs.Carried.{buffers}
+use Rattle.store.specs.declared.Cache.{Cache}
+use Rattle.store.specs.View.{storeOf}
+use Rattle.store.proofs.Carrying.{call-record, call-buffer, call-carried}
+use Rattle.interpret.specs.declared.Lined.{Lined}
+use Rattle.interpret.specs.declared.parts.Parts.{Parts}
+use Rattle.interpret.specs.Lines.{Effect, opened, written, wasRead, stepped, flushed, carried, sizesAfter}
+use Rattle.interpret.specs.View.{Carries, Held, PartsOf, front, Sized, Lent, Lendable, CarriedOut}
+use Rattle.interpret.proofs.Opening.{opened-done, opened-sizes, opened-refused}
+
+-- ---- what a form asks of the buffers lent
+
+module _ (old : model.Sizes) (u : Buffers) (page out : List ℕ) (f : Form) (l : Lent (sizesAfter old (meant f)) u page out) where
+  pub lent-open : (sizes : Sizes) → f ≡ Open sizes → (sizesOk (sizesOf sizes) ≡ true → Fits (sizesOf sizes) u) × (lineRoom ≤ length out)
+  lent-open sizes e =
+      let h : Lent (sizesAfter old (meant (Open sizes))) u page out = subst (λ (g : Form). Lent (sizesAfter old (meant g)) u page out) e l in
+      ((λ t. rw t at (h .fits)), let k = l .room in omega arith)
+
+  pub lent-page : (g : Form) → f ≡ g → sizesAfter old (meant g) ≡ old → (length page ≡ old .S) × (lineRoom ≤ length out)
+  lent-page g e s =
+      (l .page-length ∙ ap (λ (h : Form). sizesAfter old (meant h) .S) e ∙ ap (λ (z : model.Sizes). z .S) s, let k = l .room in omega arith)
+
+-- ---- the sizes after a line
+
+held-open : (sz : model.Sizes) → sizesOk sz ≡ true → buffersFit sz ≡ true → Held sz
+unfolding buffersFit
+held-open sz ok b =
+    let h = limits-of sz ok in let q = each _ b in
+    record {
+      S-high = h .S-high;
+      K-high = h .K-high;
+      N-high = h .N-high;
+      B-high = h .B-high;
+      flash-high = leb-true _ _ (q .0);
+      pspace-high = leb-true _ _ (q .1 .0);
+      bspace-high = leb-true _ _ (q .1 .1 .0);
+    }
+
+pub held-after : (old : model.Sizes) (f : form.Form) → Held old → Sized f → Held (sizesAfter old f)
+held-after old (form.opens sz) h k = by-test (sizesOk sz) (λ t. rw t (held-open sz t (k t))) (λ t. rw t h)
+held-after old (form.writes n b) h k = h
+held-after old (form.reads n) h k = h
+held-after old form.steps h k = h
+held-after old form.flushes h k = h
+held-after old form.wears h k = h
+held-after old form.bad h k = h
+
+pub held-as : (old sz : model.Sizes) (f : form.Form) → sz ≡ sizesAfter old f → Held old → Sized f → Held sz
+held-as old sz f e h k = subst Held (sym e) (held-after old f h k)
+
+-- a call keeps the sizes
+carried-keeps : (s : Store) (c : Call Page) (o : Outcome) → carriedOut leastRecent s c o .store .cache .sizes ≡ s .cache .sizes
+unfolding carriedOut
+carried-keeps s c o = by-test (isRefused (o .answer)) (λ t. rw (t, carriedOut)) (λ t. rw (t, carriedOut))
+
+call-keeps : (s : Store) (c : Call Page) → call leastRecent s c .store .cache .sizes ≡ s .cache .sizes
+call-keeps s c = by-test (sound (s .cache .sizes) (s .cache .directory))
+    (λ a. by-test (lentOk (s .cache .sizes) (s .lent))
+    (λ b. ap (λ (r : Result). r .store .cache .sizes) (call-carried leastRecent s c a b) ∙ carried-keeps s c (decide leastRecent (s .cache .sizes) (stateOf s) (told c)))
+    (λ b. ap (λ (r : Result). r .store .cache .sizes) (call-buffer leastRecent s c a b)))
+    (λ a. ap (λ (r : Result). r .store .cache .sizes) (call-record leastRecent s c a))
+
+opened-keeps : (s : Store) (sz : model.Sizes) → opened s sz .store .cache .sizes ≡ sizesAfter (s .cache .sizes) (form.opens sz)
+opened-keeps s sz = by-test (sizesOk sz) (λ t. ap (λ (e : Effect). e .store .cache .sizes) (opened-done sz s t) ∙ opened-sizes sz t ∙ rw t)
+    (λ t. ap (λ (e : Effect). e .store .cache .sizes) (opened-refused sz s t) ∙ rw t)
+
+carried-sizes : (s : Store) (f : form.Form) (n : ℕ) → carried s f n .store .cache .sizes ≡ sizesAfter (s .cache .sizes) f
+unfolding written wasRead stepped flushed
+carried-sizes s (form.opens sz) n = opened-keeps s sz
+carried-sizes s (form.writes m b) n = call-keeps s _
+carried-sizes s (form.reads m) n = call-keeps s _
+carried-sizes s form.steps n = call-keeps s _
+carried-sizes s form.flushes n = call-keeps s _
+carried-sizes s form.wears n = refl
+carried-sizes s form.bad n = refl
+
+-- ---- the buffers in the memory
+
+-- an accepted opening does not ask what was there
+carried-front : (c : Cache) (f : form.Form) (n : ℕ) (flash wear pspace bspace : List ℕ)
+    → carried (storeOf c (front (sizesAfter (sizesOf (c .sizes)) f) flash wear pspace bspace)) f n ≡ carried (storeOf c (front (sizesOf (c .sizes)) flash wear pspace bspace)) f n
+carried-front c (form.opens sz) n flash wear pspace bspace = by-test (sizesOk sz) (λ t. opened-done sz _ t ∙ sym (opened-done sz _ t)) (λ t. rw t)
+carried-front c (form.writes m b) n flash wear pspace bspace = refl
+carried-front c (form.reads m) n flash wear pspace bspace = refl
+carried-front c form.steps n flash wear pspace bspace = refl
+carried-front c form.flushes n flash wear pspace bspace = refl
+carried-front c form.wears n flash wear pspace bspace = refl
+carried-front c form.bad n flash wear pspace bspace = refl
+
+pub front-le : {A : Type 0} (k n : ℕ) (l : List A) → length l ≡ n → k ≤ n → k ≤ length l
+front-le k n l e h = omega arith
+
+pub front-long : {A : Type 0} (k n : ℕ) (l : List A) → length l ≡ n → k ≤ n → k ≡ length (take k l)
+front-long k n l e h = sym (length-take-le k l (front-le k n l e h))
+
+-- the parts are within the memory
+pub record Within (p : Parts) : Type 0 where
+  pub flash-within : p .flash ≤ 32768
+  pub wear-within : p .wear ≤ 4096
+  pub pspace-within : p .pspace ≤ 32768
+  pub bspace-within : p .bspace ≤ 32768
+  pub page-within : p .page ≤ 2048
+
+module _ (sz : model.Sizes) (p : Parts) (q : PartsOf sz p) where
+  pub parts-within : Held sz → Within p
+  parts-within h = record { flash-within = omega arith; wear-within = omega arith; pspace-within = omega arith; bspace-within = omega arith; page-within = omega arith }
+
+  module _ (flash wear pspace bspace : List ℕ) where
+    parts-front : buffers (take (p .flash) flash) (take (p .wear) wear) (take (p .pspace) pspace) (take (p .bspace) bspace) ≡ front sz flash wear pspace bspace
+    parts-front = λ i. record {
+      flash = take (q .flash-is i) flash;
+      wear = take (q .wear-is i) wear;
+      pspace = take (q .pspace-is i) pspace;
+      bspace = take (q .bspace-is i) bspace;
+    }
+
+    pub lent-parts : (sz′ : model.Sizes) → sz ≡ sz′ → (page out : List ℕ) → Within p → length flash ≡ 32768 → length wear ≡ 4096 → length pspace ≡ 32768 → length bspace ≡ 32768 → length page ≡ 2048 → length out ≡ 49152
+        → Lent sz′ (buffers (take (p .flash) flash) (take (p .wear) wear) (take (p .pspace) pspace) (take (p .bspace) bspace)) (take (p .page) page) out
+    lent-parts sz′ z page out w fl wl pl bl gl ol =
+        let e = length-take-le (p .wear) wear (omega arith) in
+        subst (λ (m : model.Sizes). Lent m (buffers (take (p .flash) flash) (take (p .wear) wear) (take (p .pspace) pspace) (take (p .bspace) bspace)) (take (p .page) page) out) z (record {
+          fits = record {
+            flash-length = length-take-le (p .flash) flash (omega arith) ∙ q .flash-is;
+            wear-length = e ∙ q .wear-is;
+            pspace-length = length-take-le (p .pspace) pspace (omega arith) ∙ q .pspace-is;
+            bspace-length = length-take-le (p .bspace) bspace (omega arith) ∙ q .bspace-is;
+          };
+          page-length = length-take-le (p .page) page (omega arith) ∙ q .page-is;
+          wear-room = omega arith;
+          room = omega arith;
+        })
+
+    -- parts put back at the front
+    module _ (x y v w : List ℕ) (xl : length x ≡ p .flash) (yl : length y ≡ p .wear) (vl : length v ≡ p .pspace) (wl : length w ≡ p .bspace) where
+      put-back : (a b d e : List ℕ) → front sz (x ++ a) (y ++ b) (v ++ d) (w ++ e) ≡ buffers x y v w
+      put-back a b d e =
+          let f : take (sz .N * sz .K * sz .S) (x ++ a) ≡ x = take-at x a _ (xl ∙ q .flash-is) in
+          let g : take (sz .N) (y ++ b) ≡ y = take-at y b _ (yl ∙ q .wear-is) in
+          let h : take (sz .P * sz .S) (v ++ d) ≡ v = take-at v d _ (vl ∙ q .pspace-is) in
+          let k : take (sz .B * sz .K * sz .S) (w ++ e) ≡ w = take-at w e _ (wl ∙ q .bspace-is) in
+          λ i. record { flash = f i; wear = g i; pspace = h i; bspace = k i }
+
+      -- what was done to the parts is done to the memory
+      pub line-carried : (c : Cache) (f : form.Form) (n : ℕ) → sz ≡ sizesAfter (sizesOf (c .sizes)) f → Held sz → (a b d e : List ℕ) (r : Lined) (out : List ℕ)
+          → Carries (carried (storeOf c (buffers (take (p .flash) flash) (take (p .wear) wear) (take (p .pspace) pspace) (take (p .bspace) bspace))) f n) r (buffers x y v w) out
+          → CarriedOut (carried (storeOf c (front (sizesOf (c .sizes)) flash wear pspace bspace)) f n) r (x ++ a) (y ++ b) (v ++ d) (w ++ e) out
+      line-carried c f n z held a b d e r out h =
+          let effect : carried (storeOf c (buffers (take (p .flash) flash) (take (p .wear) wear) (take (p .pspace) pspace) (take (p .bspace) bspace))) f n ≡ carried (storeOf c (front (sizesOf (c .sizes)) flash wear pspace bspace)) f n =
+          ap (λ (u : Buffers). carried (storeOf c u) f n) parts-front ∙ ap (λ (m : model.Sizes). carried (storeOf c (front m flash wear pspace bspace)) f n) z ∙ carried-front c f n flash wear pspace bspace in
+          let sizes : sizesOf (r .cache .sizes) ≡ sz =
+          ap (λ (m : Effect). m .store .cache .sizes) (h .effect) ∙ carried-sizes (storeOf c (buffers (take (p .flash) flash) (take (p .wear) wear) (take (p .pspace) pspace) (take (p .bspace) bspace))) f n ∙ sym z in
+          let back : front (sizesOf (r .cache .sizes)) (x ++ a) (y ++ b) (v ++ d) (w ++ e) ≡ buffers x y v w =
+          ap (λ (m : model.Sizes). front m (x ++ a) (y ++ b) (v ++ d) (w ++ e)) sizes ∙ put-back a b d e in
+          record {
+            carries = subst (λ (u : Buffers). Carries (carried (storeOf c (front (sizesOf (c .sizes)) flash wear pspace bspace)) f n) r u out) (sym back)
+                (subst (λ (m : Effect). Carries m r (buffers x y v w) out) effect h);
+            held = subst Held (sym sizes) held;
+          }

@@ -1,0 +1,77 @@
+use borrow.Author.Needs.{needs}
+use native.Mathlib.Omega.{arith}
+use mathlib.Core.Path.{_≡_, sym, _∙_}
+use Rattle.interpret.proofs.sizes_after.Statement.{statement}
+use Rattle.interpret.proofs.sizes_after.Tie as tie
+use Rattle.interpret.proofs.sizes_after.Reads as reads
+use Rattle.interpret.proofs.sizes_after.Lts as lts
+use Rattle.cache.proofs.Sizes.ok.Reads as ok-reads
+
+enum-known-form : tie.Need-enum-known-form
+enum-known-form c = search needs
+
+ok-requires : tie.Need-ok-requires
+ok-requires c κs = search needs
+
+returns : tie.Need-returns
+returns c = rw (c .before .before .before .form .given .1) (rw (sym (c .before .ok .ensures) ∙ c .if1 .taken))
+
+enum-told : tie.Need-enum-told
+enum-told c = search needs
+
+enum-told-2 : tie.Need-enum-told-2
+enum-told-2 c = search needs
+
+enum-told-3 : tie.Need-enum-told-3
+enum-told-3 c = search needs
+
+enum-told-4 : tie.Need-enum-told-4
+enum-told-4 c = search needs
+
+enum-told-5 : tie.Need-enum-told-5
+enum-told-5 c = search needs
+
+enum-told-6 : tie.Need-enum-told-6
+enum-told-6 c = search needs
+
+returns-2 : tie.Need-returns-2
+returns-2 c = rw (c .before .before .before .form .given .1) (rw (sym (c .before .ok .ensures) ∙ c .if1 .left))
+
+returns-3 : tie.Need-returns-3
+returns-3 c = rw (c .enum-told .given .1)
+
+returns-4 : tie.Need-returns-4
+returns-4 c = rw (c .enum-told2 .given .1)
+
+returns-5 : tie.Need-returns-5
+returns-5 c = rw (c .enum-told3 .given .1)
+
+returns-6 : tie.Need-returns-6
+returns-6 c = rw (c .enum-told4 .given .1)
+
+returns-7 : tie.Need-returns-7
+returns-7 c = rw (c .enum-told5 .given .1)
+
+returns-8 : tie.Need-returns-8
+returns-8 c = rw (c .enum-told6 .given .1)
+
+pub sizes-after-spec : {M : Type 1} → statement M
+sizes-after-spec =
+    tie.close
+    (tie.spec
+    enum-known-form
+    ok-requires
+    returns
+    enum-told
+    enum-told-2
+    enum-told-3
+    enum-told-4
+    enum-told-5
+    enum-told-6
+    returns-2
+    returns-3
+    returns-4
+    returns-5
+    returns-6
+    returns-7
+    returns-8)

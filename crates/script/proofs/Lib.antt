@@ -4,3 +4,5 @@ pub mod Value
 pub mod Args
 pub mod With
 pub mod Walk
+pub mod Numerals
+pub mod Written

@@ -56,11 +56,11 @@ piece-is b l at = let e : endOf b l at - at ≡ length (upTo b (drop at l)) = om
 -- ---- pieces one by one
 
 module _ (b : ℕ) (none : List (List ℕ)) where
-  pieces-hit : (x : ℕ) (l : List ℕ) → eqb x b ≡ true → pieces b none (x ∷ l) ≡ [] ∷ pieces b none l
+  pub pieces-hit : (x : ℕ) (l : List ℕ) → eqb x b ≡ true → pieces b none (x ∷ l) ≡ [] ∷ pieces b none l
   unfolding pieces
   pieces-hit x l e = rw (e, pieces)
 
-  pieces-miss : (x : ℕ) (l : List ℕ) → eqb x b ≡ false → pieces b none (x ∷ l) ≡ longer x (pieces b none l)
+  pub pieces-miss : (x : ℕ) (l : List ℕ) → eqb x b ≡ false → pieces b none (x ∷ l) ≡ longer x (pieces b none l)
   unfolding pieces
   pieces-miss x l e = rw (e, pieces)
 

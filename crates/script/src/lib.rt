@@ -159,7 +159,8 @@ fn read_numbers(s: &[u8], from: usize) -> Numbers
     Numbers { count, values }
 }
 
-// The number that a word says, without leading zeros: NONE for any other word.
+// The number that a word says, without leading zeros: NONE for any other word. It stops where the number passes 32 bits, so
+// that no sum wraps.
 fn number(w: &[u8]) -> u64
     ensures { λ r. ⌜ r ≡ numberOf (now (w .entry)) ⌝ }
 {
@@ -186,6 +187,7 @@ fn number(w: &[u8]) -> u64
     v
 }
 
+// x as a number of 64 bits.
 fn wide(x: u8) -> u64
     ensures { λ r. ⌜ r ≡ x ⌝ }
 {

@@ -1,9 +1,6 @@
 use borrow.Author.Needs.{needs}
 use native.Mathlib.Omega.{arith}
-use mathlib.Core.Path.{_≡_, sym, ap, _∙_}
-use mathlib.Core.List.{List, _∷_}
-use Prim.Native.Nat.{ℕ}
-use Rattle.print.specs.Text.{decimal, open-word, flush-word, step-word, write-word, read-word}
+use mathlib.Core.Path.{ap}
 use Rattle.print.specs.Print.{line}
 use Rattle.print.proofs.Put.{printed-as}
 use Rattle.interpret.proofs.Said.{said-refused}
@@ -53,7 +50,7 @@ same-length-3 : tie.Need-same-length-3
 same-length-3 c = search needs
 
 returns-3 : tie.Need-returns-3
-returns-3 c = rw (c .before .before .before .before .before .before .answer2 .given .1) (printed-as (omega arith) (ap (line step-word) (said-refused (c .before .before .before .before .before .before .answer2 .given .0 .0) _ 0 0 (c .before .before .before .number .ensures))) (c .before .before .put-step-refused .ensures))
+returns-3 c = rw (c .before .before .before .before .before .before .answer2 .given .1) (printed-as (omega arith) (ap (line "step") (said-refused (c .before .before .before .before .before .before .answer2 .given .0 .0) _ 0 0 (c .before .before .before .number .ensures))) (c .before .before .put-step-refused .ensures))
 
 pub step-spec : {M : Type 1} → statement M
 step-spec =

@@ -1,9 +1,9 @@
 use borrow.Author.Needs.{needs}
 use native.Mathlib.Omega.{arith}
-use mathlib.Core.Path.{_≡_, sym, ap, _∙_}
+use mathlib.Core.Path.{ap}
 use mathlib.Core.List.{List, _∷_}
 use Prim.Native.Nat.{ℕ}
-use Rattle.print.specs.Text.{decimal, open-word, flush-word, step-word, write-word, read-word}
+use Rattle.print.specs.Text.{decimal}
 use Rattle.print.specs.Print.{line}
 use Rattle.print.proofs.Put.{printed-as}
 use Rattle.interpret.proofs.Said.{said-refused}
@@ -44,7 +44,7 @@ same-length-2 : tie.Need-same-length-2
 same-length-2 c = search needs
 
 returns-2 : tie.Need-returns-2
-returns-2 c = rw (c .before .before .before .before .before .before .answer2 .given .1) (printed-as (omega arith) (ap (λ (l : List (List ℕ)). line write-word (decimal (c .before .before .before .before .before .before .before .before .before .args .n) ∷ l)) (said-refused (c .before .before .before .before .before .before .answer2 .given .0 .0) _ 0 0 (c .before .before .before .number .ensures))) (c .before .before .put-write-refused .ensures))
+returns-2 c = rw (c .before .before .before .before .before .before .answer2 .given .1) (printed-as (omega arith) (ap (λ (l : List (List ℕ)). line "write" (decimal (c .before .before .before .before .before .before .before .before .before .args .n) ∷ l)) (said-refused (c .before .before .before .before .before .before .answer2 .given .0 .0) _ 0 0 (c .before .before .before .number .ensures))) (c .before .before .put-write-refused .ensures))
 
 pub write-spec : {M : Type 1} → statement M
 write-spec =

@@ -2,3 +2,4 @@ pub mod Said
 pub mod Carrying
 pub mod Opening
 pub mod Front
+pub mod Walk

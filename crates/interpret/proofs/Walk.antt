@@ -1,0 +1,155 @@
+-- A script walked place by place prints what the program prints.
+use mathlib.Core.Path.{_≡_, refl, sym, ap, _∙_, subst}
+use mathlib.Core.Bool.{Bool, true, false, cond, _&&_, not}
+use mathlib.Core.List.{List, [], _∷_, _++_, map}
+use Prim.Native.Nat.{ℕ, zero, suc, _+_, _≤_, _<_}
+use native.Mathlib.Omega.{arith}
+use lib.Dec.{leb, ltb, eqb}
+use lib.ListN.{length, getD, drop}
+use borrow.Author.Tests.{ltb-true, ltb-false, lt-ltb, le-ltb}
+use Rattle.prelude.specs.Tests.{every}
+use Rattle.prelude.proofs.Tests.{by-test, and-not-l, not-f}
+use Rattle.model.specs.Sizes.{Sizes, sizesOk}
+use Rattle.model.specs.Directory as directory
+use Rattle.model.specs.Directory.{blankCache}
+use Rattle.model.specs.Calls.{Store}
+use Rattle.model.proofs.Soundness.{limits-of, limits-test}
+use Rattle.print.specs.Text.{open-word, write-word, read-word, step-word, flush-word, wear-word}
+use Rattle.print.specs.Print.{badLine}
+use Rattle.script.specs.Forms.{Form, writes, reads, steps, flushes, wears, bad, same, isNumber, five, buffersFit, opening, sizesFrom, formWith, formOfWords, valueOf, wordsOf, bracketed, inside, linesOf, formOf}
+use Rattle.script.specs.Parts.{upTo, endOf}
+use Rattle.script.specs.Walk.{Item, line, end, itemAt}
+use Rattle.script.proofs.Words.{lines-from, lines-none, end-le}
+use Rattle.script.proofs.Walk.{item-line, item-end}
+use Rattle.cache.specs.View.{sizesOf}
+use Rattle.store.specs.declared.Cache.{Cache}
+use Rattle.store.specs.View.{cacheOf, storeOf}
+use Rattle.interpret.specs.Lines.{carried, printedBy, outputOf, walked, blankStore}
+use Rattle.interpret.specs.View.{Held, Sized, front}
+
+-- ---- before an opening
+
+pub held-blank : Held (blankCache .sizes)
+unfolding blankCache
+held-blank = record { S-high = omega arith; K-high = omega arith; N-high = omega arith; B-high = omega arith; flash-high = omega arith; pspace-high = omega arith; bspace-high = omega arith }
+
+-- the blank record has no buffers in the memory
+pub blank-front : (c : Cache) → cacheOf c ≡ blankCache → (flash wear pspace bspace : List ℕ) → storeOf c (front (sizesOf (c .sizes)) flash wear pspace bspace) ≡ blankStore
+unfolding blankCache
+blank-front c e flash wear pspace bspace = ap (λ (m : directory.Cache). record { cache = m; lent = front (m .sizes) flash wear pspace bspace }) e
+
+-- ---- the form of every line is one whose buffers fit
+
+five-ok : (sz : Sizes) → sizesOk sz ≡ true → sizesOk (five sz) ≡ true
+five-ok sz ok =
+    let h = limits-of sz ok in
+    limits-test (five sz) (record {
+      S-low = h .S-low;
+      S-high = h .S-high;
+      K-low = h .K-low;
+      K-high = h .K-high;
+      N-low = h .N-low;
+      N-high = h .N-high;
+      P-low = h .P-low;
+      P-high = h .P-high;
+      B-low = h .B-low;
+      B-high = h .B-high;
+      W-low = omega arith;
+      W-high = omega arith;
+    })
+
+sized-cond : (b : Bool) (x y : Form) → Sized x → Sized y → Sized (cond b x y)
+sized-cond true x y h k = h
+sized-cond false x y h k = k
+
+sized-opening : (sz : Sizes) → Sized (opening sz)
+unfolding opening
+sized-opening sz = by-test (sizesOk (five sz) && not (buffersFit sz)) (λ t. rw t tt) (λ t. rw t (λ ok. not-f (and-not-l (five-ok sz ok) t)))
+
+module _ (w ns : List ℕ) where
+  abbrev from-wear : Form
+  from-wear = cond (same w wear-word && eqb (length ns) 0) wears bad
+
+  abbrev from-flush : Form
+  from-flush = cond (same w flush-word && eqb (length ns) 0) flushes from-wear
+
+  abbrev from-step : Form
+  from-step = cond (same w step-word && eqb (length ns) 0) steps from-flush
+
+  abbrev from-read : Form
+  from-read = cond (same w read-word && eqb (length ns) 1) (reads (getD ns 0 0)) from-step
+
+  abbrev from-write : Form
+  from-write = cond (same w write-word && (eqb (length ns) 2 && leb (getD ns 1 0) 255)) (writes (getD ns 0 0) (getD ns 1 0)) from-read
+
+  sized-read : Sized from-read
+  sized-read = sized-cond (same w read-word && eqb (length ns) 1) (reads (getD ns 0 0)) from-step tt
+      (sized-cond (same w step-word && eqb (length ns) 0) steps from-flush tt
+      (sized-cond (same w flush-word && eqb (length ns) 0) flushes from-wear tt (sized-cond (same w wear-word && eqb (length ns) 0) wears bad tt tt)))
+
+  sized-with : Sized (formWith w ns)
+  unfolding formWith
+  sized-with = sized-cond (same w open-word && eqb (length ns) 6) (opening (sizesFrom ns)) from-write (sized-opening (sizesFrom ns))
+      (sized-cond (same w write-word && (eqb (length ns) 2 && leb (getD ns 1 0) 255)) (writes (getD ns 0 0) (getD ns 1 0)) from-read tt sized-read)
+
+sized-words : (ws : List (List ℕ)) → Sized (formOfWords ws)
+unfolding formOfWords
+sized-words [] = tt
+sized-words (w ∷ ws) = sized-cond (every (map isNumber ws)) (formWith w (map valueOf ws)) bad (sized-with w (map valueOf ws)) tt
+
+pub sized-form : (l : List ℕ) → Sized (formOf l)
+unfolding formOf
+sized-form l = sized-cond (bracketed l) (formOfWords (wordsOf (inside l))) bad (sized-words (wordsOf (inside l))) tt
+
+-- ---- the walk
+
+-- what is left to print at a place of a script, of line number i
+abbrev pub rest : List ℕ → Store → ℕ → ℕ → List ℕ
+rest script s at i = printedBy s i (linesOf (drop at script))
+
+-- what stands at the place is carried out, and the walk goes on
+abbrev pub onward : List ℕ → Store → Item → List ℕ
+onward script s (line f n next) = carried s f n .printed ++ rest script (carried s f n .store) next (n + 1)
+onward script s end = []
+
+-- what a walker has to know of it
+abbrev pub Stands : List ℕ → ℕ → ℕ → Item → Type 0
+Stands script at i (line f n next) = Sized f × ((n ≡ i) × ((at < next) × (next ≤ length script + 1)))
+Stands script at i end = length script ≤ at
+
+module _ (script : List ℕ) (at i : ℕ) where
+  pub rest-item : (s : Store) → rest script s at i ≡ onward script s (itemAt script at i)
+  unfolding printedBy
+  rest-item s = by-test (ltb at (length script))
+      (λ t. let h = ltb-true at (length script) t in ap (printedBy s i) (lines-from script at h) ∙ ap (onward script s) (sym (item-line script at i h)))
+      (λ t. let h = ltb-false at (length script) t in ap (printedBy s i) (lines-none script at h) ∙ ap (onward script s) (sym (item-end script at i h)))
+
+  pub item-stands : Stands script at i (itemAt script at i)
+  item-stands = by-test (ltb at (length script))
+      (λ t. let h = ltb-true at (length script) t in let k = end-le 10 script at (omega arith) in
+      subst (Stands script at i) (sym (item-line script at i h)) (sized-form (upTo 10 (drop at script)), (refl, (omega arith, omega arith))))
+      (λ t. let h = ltb-false at (length script) t in subst (Stands script at i) (sym (item-end script at i h)) h)
+
+-- a walk of enough lines prints all that is left
+pub walk-rest : (script : List ℕ) (c : ℕ) (s : Store) (at i : ℕ) → length script ≤ at + c → walked script c s at i ≡ rest script s at i
+unfolding walked
+walk-rest script zero s at i h = sym (rest-item script at i s ∙ ap (onward script s) (item-end script at i (omega arith)))
+walk-rest script (suc c) s at i h = by-test (ltb at (length script))
+    (λ t. let l = ltb-true at (length script) t in
+    rw (item-line script at i l, walked) (ap (λ (x : List ℕ). carried s (formOf (upTo 10 (drop at script))) i .printed ++ x)
+    (walk-rest script c (carried s (formOf (upTo 10 (drop at script))) i .store) (endOf 10 script at + 1) (i + 1) (omega arith))
+    ∙ sym (rest-item script at i s ∙ ap (onward script s) (item-line script at i l))))
+    (λ t. let l = ltb-false at (length script) t in rw (item-end script at i l, walked) (sym (rest-item script at i s ∙ ap (onward script s) (item-end script at i l))))
+
+-- the walk over a whole script from the blank store prints the program's output
+pub walk-output : (script : List ℕ) → length script ≤ 32768 → walked script (length script) blankStore 0 1 ≡ outputOf script
+unfolding outputOf
+walk-output script h = walk-rest script (length script) blankStore 0 1 (omega arith) ∙ rw (le-ltb 32768 (length script) h)
+
+pub rest-output : (script : List ℕ) → length script ≤ 32768 → rest script blankStore 0 1 ≡ outputOf script
+unfolding outputOf
+rest-output script h = rw (le-ltb 32768 (length script) h)
+
+pub over-output : (script : List ℕ) → 32768 < length script → outputOf script ≡ badLine 0
+unfolding outputOf
+over-output script h = rw (lt-ltb 32768 (length script) h)

@@ -1,20 +1,20 @@
 -- The store's own buffers at the front of the program's memory.
 use mathlib.Core.Path.{_≡_, refl, sym, ap, _∙_, subst}
-use mathlib.Core.Bool.{true, false}
+use mathlib.Core.Bool.{true}
 use mathlib.Core.List.{List, _++_}
 use Prim.Native.Nat.{ℕ, _*_, _≤_}
 use native.Mathlib.Omega.{arith}
-use lib.ListN.{length, take, drop}
+use lib.ListN.{length, take}
 use lib.Seq.{take-at, length-take-le}
 use borrow.Author.Tests.{leb-true}
 use Rattle.prelude.proofs.Tests.{by-test, each}
 use Rattle.model.specs.Sizes as model
-use Rattle.model.specs.Sizes.{sizesOk, InLimits}
+use Rattle.model.specs.Sizes.{sizesOk}
 use Rattle.model.specs.Soundness.{sound}
 use Rattle.model.specs.Policy.{leastRecent}
-use Rattle.model.specs.Calls.{Call, Page, Buffers, Store, Result, Outcome, Fits, isRefused, lentOk, stateOf, told, decide, carriedOut, unaltered, call, read, write, step, flush}
+use Rattle.model.specs.Calls.{Call, Page, Buffers, Store, Result, Outcome, Fits, isRefused, lentOk, stateOf, told, decide, carriedOut, call}
 use Rattle.model.proofs.Soundness.{limits-of}
-use Rattle.print.specs.Print.{lineRoom, wearRoom}
+use Rattle.print.specs.Print.{lineRoom}
 use Rattle.script.specs.Forms as form
 use Rattle.script.specs.Forms.{buffersFit}
 use Rattle.script.specs.declared.Form.{Form}
@@ -29,7 +29,7 @@ use Rattle.store.proofs.Carrying.{call-record, call-buffer, call-carried}
 use Rattle.interpret.specs.declared.Lined.{Lined}
 use Rattle.interpret.specs.declared.parts.Parts.{Parts}
 use Rattle.interpret.specs.Lines.{Effect, opened, written, wasRead, stepped, flushed, carried, sizesAfter}
-use Rattle.interpret.specs.View.{Carries, Held, PartsOf, front, Sized, Lent, Lendable, CarriedOut}
+use Rattle.interpret.specs.View.{Carries, Held, PartsOf, front, Sized, Lent, CarriedOut}
 use Rattle.interpret.proofs.Opening.{opened-done, opened-sizes, opened-refused}
 
 -- ---- what a form asks of the buffers lent

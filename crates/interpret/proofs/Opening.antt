@@ -1,5 +1,5 @@
 -- An opening on fresh buffers is refused for its sizes alone.
-use mathlib.Core.Path.{_≡_, refl, sym, ap, _∙_}
+use mathlib.Core.Path.{_≡_, refl, ap, _∙_}
 use mathlib.Core.Bool.{true, false}
 use mathlib.Core.List.{List}
 use Prim.Native.Nat.{ℕ, _*_, _≤_, _<_}
@@ -23,7 +23,7 @@ use Rattle.store.specs.declared.Cache.{Cache}
 use Rattle.store.specs.declared.Opened.{Opened}
 use Rattle.store.specs.View.{openedOf, storeOf}
 use Rattle.store.proofs.ByTests.{open-size, open-done}
-use Rattle.interpret.specs.Lines.{fresh, opened, only, Effect}
+use Rattle.interpret.specs.Lines.{fresh, opened, only}
 use Rattle.interpret.specs.View.{Carries}
 use Rattle.interpret.proofs.Said.{carries}
 

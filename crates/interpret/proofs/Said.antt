@@ -3,9 +3,9 @@ use mathlib.Core.Path.{_≡_, refl, ap, _∙_}
 use mathlib.Core.List.{List}
 use Prim.Native.Nat.{ℕ, _≤_}
 use native.Mathlib.Omega.{arith}
-use lib.ListN.{length, take}
+use lib.ListN.{take}
 use Rattle.model.specs.Sizes.{vacant}
-use Rattle.model.specs.Calls.{Buffers, Store, refused}
+use Rattle.model.specs.Calls.{Buffers, refused}
 use Rattle.answer.specs.declared.Refusal.{Refusal}
 use Rattle.answer.specs.declared.Refusal.the-variants.{Size, Buffer, Overworn, Record, Page, Worn}
 use Rattle.answer.specs.Numbers.{refusalOf}

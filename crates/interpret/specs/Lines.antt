@@ -7,7 +7,7 @@ use lib.ListN.{length, getD, replicate}
 use Rattle.model.specs.Sizes.{Sizes, sizesOk}
 use Rattle.model.specs.Directory.{blankCache}
 use Rattle.model.specs.Policy.{leastRecent}
-use Rattle.model.specs.Calls.{Answer, isRefused, Buffers, Store, Result, openStore, call, read, write, step, flush}
+use Rattle.model.specs.Calls.{isRefused, Buffers, Store, openStore, call, read, write, step, flush}
 use Rattle.print.specs.Print.{openLine, writeLine, readLine, stepLine, flushLine, wearLine, badLine}
 use Rattle.script.specs.Forms.{Form, opens, writes, reads, steps, flushes, wears, bad, linesOf, formOf}
 use Rattle.script.specs.Walk.{itemAt, line, end}

@@ -10,9 +10,8 @@ use Rattle.print.specs.Print.{wearRoom}
 use Rattle.script.specs.Forms.{Form, opens, writes, reads, steps, flushes, wears, bad, buffersFit}
 use Rattle.cache.specs.View.{sizesOf}
 use Rattle.answer.specs.Carried.{buffers}
-use Rattle.store.specs.declared.Cache.{Cache}
 use Rattle.store.specs.View.{storeOf}
-use Rattle.interpret.specs.Lines.{Effect, carried, sizesAfter}
+use Rattle.interpret.specs.Lines.{Effect, carried}
 use Rattle.interpret.specs.declared.Lined.{Lined}
 use Rattle.interpret.specs.declared.parts.Parts.{Parts}
 

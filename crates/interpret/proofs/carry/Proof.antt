@@ -1,22 +1,12 @@
 use borrow.Author.Needs.{needs}
 use native.Mathlib.Omega.{arith}
-use mathlib.Core.Path.{_≡_, refl}
+use mathlib.Core.Path.{refl}
 use lib.ListN.{length}
 use Rattle.print.specs.Print.{lineRoom, wearRoom}
 use Rattle.interpret.proofs.Said.{carries}
 use Rattle.interpret.proofs.Front.{lent-open, lent-page}
 use Rattle.interpret.proofs.carry.Statement.{statement}
 use Rattle.interpret.proofs.carry.Tie as tie
-use Rattle.interpret.proofs.carry.Reads as reads
-use Rattle.interpret.proofs.carry.Lts as lts
-use Rattle.interpret.proofs.flushed.Reads as flushed-reads
-use Rattle.interpret.proofs.opened.Reads as opened-reads
-use Rattle.interpret.proofs.printed.Reads as printed-reads
-use Rattle.interpret.proofs.stepped.Reads as stepped-reads
-use Rattle.interpret.proofs.was_read.Reads as was-read-reads
-use Rattle.interpret.proofs.written.Reads as written-reads
-use Rattle.print.proofs.put_bad.Reads as put-bad-reads
-use Rattle.print.proofs.put_wear.Reads as put-wear-reads
 
 enum-known-form : tie.Need-enum-known-form
 enum-known-form c = search needs

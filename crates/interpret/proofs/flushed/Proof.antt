@@ -1,12 +1,7 @@
 use borrow.Author.Needs.{needs}
-use native.Mathlib.Omega.{arith}
 use Rattle.interpret.proofs.Carrying.{flush-carries}
 use Rattle.interpret.proofs.flushed.Statement.{statement}
 use Rattle.interpret.proofs.flushed.Tie as tie
-use Rattle.interpret.proofs.flushed.Reads as reads
-use Rattle.interpret.proofs.flushed.Lts as lts
-use Rattle.interpret.proofs.say.flush.Reads as say-flush-reads
-use Rattle.store.proofs.Cache.flush.Reads as Cache-flush-reads
 
 flush-requires : tie.Need-flush-requires
 flush-requires c κs = search needs

@@ -1,15 +1,9 @@
 use borrow.Author.Needs.{needs}
-use native.Mathlib.Omega.{arith}
-use mathlib.Core.Path.{_≡_, sym, _∙_}
+use mathlib.Core.Path.{sym, _∙_}
 use Rattle.script.specs.View.{meant}
 use Rattle.interpret.proofs.Front.{held-as, front-le, front-long, parts-within, lent-parts, line-carried}
 use Rattle.interpret.proofs.line.Statement.{statement}
 use Rattle.interpret.proofs.line.Tie as tie
-use Rattle.interpret.proofs.line.Reads as reads
-use Rattle.interpret.proofs.line.Lts as lts
-use Rattle.interpret.proofs.carry.Reads as carry-reads
-use Rattle.interpret.proofs.parts.lengths.Reads as lengths-reads
-use Rattle.interpret.proofs.sizes_after.Reads as sizes-after-reads
 
 sizes-after-requires : tie.Need-sizes-after-requires
 sizes-after-requires c κs = search needs

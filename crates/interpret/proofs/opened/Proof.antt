@@ -1,22 +1,11 @@
 use borrow.Author.Needs.{needs}
-use native.Mathlib.Omega.{arith}
-use mathlib.Core.Path.{_≡_, sym, ap, _∙_}
-use Prim.Native.Nat.{ℕ}
+use mathlib.Core.Path.{sym, ap, _∙_}
 use lib.ListN.{length, length-replicate}
 use borrow.Author.Tests.{not-true, not-false}
 use Rattle.answer.specs.Carried.{buffers}
 use Rattle.interpret.proofs.Opening.{fresh-is, refused-carries, open-carries}
 use Rattle.interpret.proofs.opened.Statement.{statement}
 use Rattle.interpret.proofs.opened.Tie as tie
-use Rattle.interpret.proofs.opened.Reads as reads
-use Rattle.interpret.proofs.opened.Lts as lts
-use Rattle.cache.proofs.Sizes.ok.Reads as ok-reads
-use Rattle.interpret.proofs.parts.clear.Reads as clear-reads
-use Rattle.interpret.proofs.parts.fill.Reads as fill-reads
-use Rattle.interpret.proofs.printed.Reads as printed-reads
-use Rattle.interpret.proofs.say.opening.Reads as opening-reads
-use Rattle.print.proofs.put_open_refused.Reads as put-open-refused-reads
-use Rattle.store.proofs.Cache.open.Reads as open-reads
 
 ok-requires : tie.Need-ok-requires
 ok-requires c κs = search needs

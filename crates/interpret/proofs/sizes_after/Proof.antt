@@ -1,11 +1,7 @@
 use borrow.Author.Needs.{needs}
-use native.Mathlib.Omega.{arith}
-use mathlib.Core.Path.{_≡_, sym, _∙_}
+use mathlib.Core.Path.{sym, _∙_}
 use Rattle.interpret.proofs.sizes_after.Statement.{statement}
 use Rattle.interpret.proofs.sizes_after.Tie as tie
-use Rattle.interpret.proofs.sizes_after.Reads as reads
-use Rattle.interpret.proofs.sizes_after.Lts as lts
-use Rattle.cache.proofs.Sizes.ok.Reads as ok-reads
 
 enum-known-form : tie.Need-enum-known-form
 enum-known-form c = search needs

@@ -1,12 +1,7 @@
 use borrow.Author.Needs.{needs}
-use native.Mathlib.Omega.{arith}
 use Rattle.interpret.proofs.Carrying.{step-carries}
 use Rattle.interpret.proofs.stepped.Statement.{statement}
 use Rattle.interpret.proofs.stepped.Tie as tie
-use Rattle.interpret.proofs.stepped.Reads as reads
-use Rattle.interpret.proofs.stepped.Lts as lts
-use Rattle.interpret.proofs.say.step.Reads as step-reads
-use Rattle.store.proofs.Cache.flush_step.Reads as flush-step-reads
 
 flush-step-requires : tie.Need-flush-step-requires
 flush-step-requires c κs = search needs

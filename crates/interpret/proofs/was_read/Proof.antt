@@ -1,17 +1,10 @@
 use borrow.Author.Needs.{needs}
-use native.Mathlib.Omega.{arith}
-use mathlib.Core.Path.{_≡_, ap, _∙_}
+use mathlib.Core.Path.{ap, _∙_}
 use Prim.Native.Nat.{ℕ}
 use lib.ListN.{replicate}
 use Rattle.interpret.proofs.Carrying.{read-carries}
 use Rattle.interpret.proofs.was_read.Statement.{statement}
 use Rattle.interpret.proofs.was_read.Tie as tie
-use Rattle.interpret.proofs.was_read.Reads as reads
-use Rattle.interpret.proofs.was_read.Lts as lts
-use Rattle.interpret.proofs.parts.fill.Reads as fill-reads
-use Rattle.interpret.proofs.parts.first.Reads as first-reads
-use Rattle.interpret.proofs.say.read.Reads as say-read-reads
-use Rattle.store.proofs.Cache.read.Reads as Cache-read-reads
 
 fill-requires : tie.Need-fill-requires
 fill-requires c κs = search needs

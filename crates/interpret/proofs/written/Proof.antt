@@ -1,16 +1,10 @@
 use borrow.Author.Needs.{needs}
-use native.Mathlib.Omega.{arith}
-use mathlib.Core.Path.{_≡_, ap, _∙_}
+use mathlib.Core.Path.{ap, _∙_}
 use Prim.Native.Nat.{ℕ}
 use lib.ListN.{replicate}
 use Rattle.interpret.proofs.Carrying.{write-carries}
 use Rattle.interpret.proofs.written.Statement.{statement}
 use Rattle.interpret.proofs.written.Tie as tie
-use Rattle.interpret.proofs.written.Reads as reads
-use Rattle.interpret.proofs.written.Lts as lts
-use Rattle.interpret.proofs.parts.fill.Reads as fill-reads
-use Rattle.interpret.proofs.say.write.Reads as say-write-reads
-use Rattle.store.proofs.Cache.write.Reads as Cache-write-reads
 
 fill-requires : tie.Need-fill-requires
 fill-requires c κs = search needs

@@ -6,8 +6,6 @@ use lib.ListN.{length, length-set, replicate, getD-replicate, length-replicate}
 use Rattle.page.proofs.Overlay.{overlay, overlay-zero, overlay-step, overlay-all}
 use Rattle.interpret.proofs.parts.clear.Statement.{statement}
 use Rattle.interpret.proofs.parts.clear.Tie as tie
-use Rattle.interpret.proofs.parts.clear.Reads as reads
-use Rattle.interpret.proofs.parts.clear.Lts as lts
 
 abbrev Inv-loop : tie.InvT-loop
 Inv-loop numbers₀ n i₀ numbers i = (i ≤ length numbers₀) × ((length numbers ≡ length numbers₀) × (numbers ≡ overlay i (replicate (length numbers₀) 0) numbers₀))

@@ -1,4 +1,3 @@
-use borrow.Author.Needs.{needs}
 use native.Mathlib.Omega.{arith}
 use mathlib.Core.Path.{_≡_, refl, _∙_}
 use Prim.Native.Nat.{_≤_, _<_, _-_}
@@ -6,8 +5,6 @@ use lib.ListN.{length, length-set, replicate, getD-replicate, length-replicate}
 use Rattle.page.proofs.Overlay.{overlay, overlay-zero, overlay-step, overlay-all}
 use Rattle.interpret.proofs.parts.fill.Statement.{statement}
 use Rattle.interpret.proofs.parts.fill.Tie as tie
-use Rattle.interpret.proofs.parts.fill.Reads as reads
-use Rattle.interpret.proofs.parts.fill.Lts as lts
 
 abbrev Inv-loop : tie.InvT-loop
 Inv-loop bytes₀ b n i₀ bytes i = (i ≤ length bytes₀) × ((length bytes ≡ length bytes₀) × (bytes ≡ overlay i (replicate (length bytes₀) b) bytes₀))

@@ -1,11 +1,9 @@
 use borrow.Author.Needs.{needs}
 use native.Mathlib.Omega.{arith}
-use mathlib.Core.Path.{_≡_, sym}
-use lib.ListN.{length, getD, List·getD-eq-default}
+use mathlib.Core.Path.{sym}
+use lib.ListN.{List·getD-eq-default}
 use Rattle.interpret.proofs.parts.first.Statement.{statement}
 use Rattle.interpret.proofs.parts.first.Tie as tie
-use Rattle.interpret.proofs.parts.first.Reads as reads
-use Rattle.interpret.proofs.parts.first.Lts as lts
 
 returns : tie.Need-returns
 returns c = sym (List·getD-eq-default (c .before .args .bytes .now) 0 (omega arith))

@@ -1,12 +1,9 @@
 use borrow.Author.Needs.{needs}
 use native.Mathlib.Omega.{arith}
 use Prim.Native.Nat.{_*_, _≤_}
-use Rattle.cache.specs.View.{sizesOf}
 use native.Mathlib.Nat.{mul-le-mul}
 use Rattle.interpret.proofs.parts.lengths.Statement.{statement}
 use Rattle.interpret.proofs.parts.lengths.Tie as tie
-use Rattle.interpret.proofs.parts.lengths.Reads as reads
-use Rattle.interpret.proofs.parts.lengths.Lts as lts
 
 cast-s : tie.Need-cast-s
 cast-s c = search needs

@@ -1,16 +1,12 @@
 use borrow.Author.Needs.{needs}
 use native.Mathlib.Omega.{arith}
 use mathlib.Core.Path.{ap}
+use Rattle.print.specs.Text.{flush-word}
 use Rattle.print.specs.Print.{line}
 use Rattle.print.proofs.Put.{printed-as}
 use Rattle.interpret.proofs.Said.{said-refused}
 use Rattle.interpret.proofs.say.flush.Statement.{statement}
 use Rattle.interpret.proofs.say.flush.Tie as tie
-use Rattle.interpret.proofs.say.flush.Reads as reads
-use Rattle.interpret.proofs.say.flush.Lts as lts
-use Rattle.interpret.proofs.say.number.Reads as number-reads
-use Rattle.print.proofs.put_flush.Reads as put-flush-reads
-use Rattle.print.proofs.put_flush_refused.Reads as put-flush-refused-reads
 
 enum-known-answer : tie.Need-enum-known-answer
 enum-known-answer c = search needs

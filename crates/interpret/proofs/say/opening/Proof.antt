@@ -1,16 +1,12 @@
 use borrow.Author.Needs.{needs}
 use native.Mathlib.Omega.{arith}
 use mathlib.Core.Path.{ap}
+use Rattle.print.specs.Text.{open-word}
 use Rattle.print.specs.Print.{line}
 use Rattle.print.proofs.Put.{printed-as}
 use Rattle.interpret.proofs.Said.{said-refused}
 use Rattle.interpret.proofs.say.opening.Statement.{statement}
 use Rattle.interpret.proofs.say.opening.Tie as tie
-use Rattle.interpret.proofs.say.opening.Reads as reads
-use Rattle.interpret.proofs.say.opening.Lts as lts
-use Rattle.interpret.proofs.say.number.Reads as number-reads
-use Rattle.print.proofs.put_open.Reads as put-open-reads
-use Rattle.print.proofs.put_open_refused.Reads as put-open-refused-reads
 
 enum-told : tie.Need-enum-told
 enum-told c = search needs

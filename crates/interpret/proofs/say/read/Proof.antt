@@ -3,17 +3,12 @@ use native.Mathlib.Omega.{arith}
 use mathlib.Core.Path.{ap}
 use mathlib.Core.List.{List, _∷_}
 use Prim.Native.Nat.{ℕ}
-use Rattle.print.specs.Text.{decimal}
+use Rattle.print.specs.Text.{decimal, read-word}
 use Rattle.print.specs.Print.{line}
 use Rattle.print.proofs.Put.{printed-as}
 use Rattle.interpret.proofs.Said.{said-refused}
 use Rattle.interpret.proofs.say.read.Statement.{statement}
 use Rattle.interpret.proofs.say.read.Tie as tie
-use Rattle.interpret.proofs.say.read.Reads as reads
-use Rattle.interpret.proofs.say.read.Lts as lts
-use Rattle.interpret.proofs.say.number.Reads as number-reads
-use Rattle.print.proofs.put_read.Reads as put-read-reads
-use Rattle.print.proofs.put_read_refused.Reads as put-read-refused-reads
 
 enum-known-answer : tie.Need-enum-known-answer
 enum-known-answer c = search needs

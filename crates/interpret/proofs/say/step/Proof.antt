@@ -1,17 +1,12 @@
 use borrow.Author.Needs.{needs}
 use native.Mathlib.Omega.{arith}
 use mathlib.Core.Path.{ap}
+use Rattle.print.specs.Text.{step-word}
 use Rattle.print.specs.Print.{line}
 use Rattle.print.proofs.Put.{printed-as}
 use Rattle.interpret.proofs.Said.{said-refused}
 use Rattle.interpret.proofs.say.step.Statement.{statement}
 use Rattle.interpret.proofs.say.step.Tie as tie
-use Rattle.interpret.proofs.say.step.Reads as reads
-use Rattle.interpret.proofs.say.step.Lts as lts
-use Rattle.interpret.proofs.say.number.Reads as number-reads
-use Rattle.print.proofs.put_clean.Reads as put-clean-reads
-use Rattle.print.proofs.put_step.Reads as put-step-reads
-use Rattle.print.proofs.put_step_refused.Reads as put-step-refused-reads
 
 enum-known-answer : tie.Need-enum-known-answer
 enum-known-answer c = search needs

@@ -3,18 +3,12 @@ use native.Mathlib.Omega.{arith}
 use mathlib.Core.Path.{ap}
 use mathlib.Core.List.{List, _∷_}
 use Prim.Native.Nat.{ℕ}
-use Rattle.print.specs.Text.{decimal}
+use Rattle.print.specs.Text.{decimal, write-word}
 use Rattle.print.specs.Print.{line}
 use Rattle.print.proofs.Put.{printed-as}
 use Rattle.interpret.proofs.Said.{said-refused}
 use Rattle.interpret.proofs.say.write.Statement.{statement}
 use Rattle.interpret.proofs.say.write.Tie as tie
-use Rattle.interpret.proofs.say.write.Reads as reads
-use Rattle.interpret.proofs.say.write.Lts as lts
-use Rattle.interpret.proofs.say.block.Reads as block-reads
-use Rattle.interpret.proofs.say.number.Reads as number-reads
-use Rattle.print.proofs.put_write.Reads as put-write-reads
-use Rattle.print.proofs.put_write_refused.Reads as put-write-refused-reads
 
 enum-known-answer : tie.Need-enum-known-answer
 enum-known-answer c = search needs

@@ -14,7 +14,7 @@ use Rattle.model.specs.Directory as directory
 use Rattle.model.specs.Directory.{blankCache}
 use Rattle.model.specs.Calls.{Store}
 use Rattle.model.proofs.Soundness.{limits-of, limits-test}
-use Rattle.print.specs.Text.{open-word, write-word, read-word, step-word, flush-word, wear-word}
+use Rattle.print.specs.Text.{bytes}
 use Rattle.print.specs.Print.{badLine}
 use Rattle.script.specs.Forms.{Form, writes, reads, steps, flushes, wears, bad, same, isNumber, five, buffersFit, opening, sizesFrom, formWith, formOfWords, valueOf, wordsOf, bracketed, inside, linesOf, formOf}
 use Rattle.script.specs.Parts.{upTo, endOf}
@@ -68,29 +68,29 @@ sized-opening sz = by-test (sizesOk (five sz) && not (buffersFit sz)) (λ t. rw 
 
 module _ (w ns : List ℕ) where
   abbrev from-wear : Form
-  from-wear = cond (same w wear-word && eqb (length ns) 0) wears bad
+  from-wear = cond (same w (bytes "wear") && eqb (length ns) 0) wears bad
 
   abbrev from-flush : Form
-  from-flush = cond (same w flush-word && eqb (length ns) 0) flushes from-wear
+  from-flush = cond (same w (bytes "flush") && eqb (length ns) 0) flushes from-wear
 
   abbrev from-step : Form
-  from-step = cond (same w step-word && eqb (length ns) 0) steps from-flush
+  from-step = cond (same w (bytes "step") && eqb (length ns) 0) steps from-flush
 
   abbrev from-read : Form
-  from-read = cond (same w read-word && eqb (length ns) 1) (reads (getD ns 0 0)) from-step
+  from-read = cond (same w (bytes "read") && eqb (length ns) 1) (reads (getD ns 0 0)) from-step
 
   abbrev from-write : Form
-  from-write = cond (same w write-word && (eqb (length ns) 2 && leb (getD ns 1 0) 255)) (writes (getD ns 0 0) (getD ns 1 0)) from-read
+  from-write = cond (same w (bytes "write") && (eqb (length ns) 2 && leb (getD ns 1 0) 255)) (writes (getD ns 0 0) (getD ns 1 0)) from-read
 
   sized-read : Sized from-read
-  sized-read = sized-cond (same w read-word && eqb (length ns) 1) (reads (getD ns 0 0)) from-step tt
-      (sized-cond (same w step-word && eqb (length ns) 0) steps from-flush tt
-      (sized-cond (same w flush-word && eqb (length ns) 0) flushes from-wear tt (sized-cond (same w wear-word && eqb (length ns) 0) wears bad tt tt)))
+  sized-read = sized-cond (same w (bytes "read") && eqb (length ns) 1) (reads (getD ns 0 0)) from-step tt
+      (sized-cond (same w (bytes "step") && eqb (length ns) 0) steps from-flush tt
+      (sized-cond (same w (bytes "flush") && eqb (length ns) 0) flushes from-wear tt (sized-cond (same w (bytes "wear") && eqb (length ns) 0) wears bad tt tt)))
 
   sized-with : Sized (formWith w ns)
   unfolding formWith
-  sized-with = sized-cond (same w open-word && eqb (length ns) 6) (opening (sizesFrom ns)) from-write (sized-opening (sizesFrom ns))
-      (sized-cond (same w write-word && (eqb (length ns) 2 && leb (getD ns 1 0) 255)) (writes (getD ns 0 0) (getD ns 1 0)) from-read tt sized-read)
+  sized-with = sized-cond (same w (bytes "open") && eqb (length ns) 6) (opening (sizesFrom ns)) from-write (sized-opening (sizesFrom ns))
+      (sized-cond (same w (bytes "write") && (eqb (length ns) 2 && leb (getD ns 1 0) 255)) (writes (getD ns 0 0) (getD ns 1 0)) from-read tt sized-read)
 
 sized-words : (ws : List (List ℕ)) → Sized (formOfWords ws)
 unfolding formOfWords

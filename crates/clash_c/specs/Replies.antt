@@ -1,7 +1,6 @@
 -- What the numbers of an answer say, one definition for each call.
 use mathlib.Core.Path.{_≡_}
 use mathlib.Core.Bool.{Bool, false, cond}
-use Prim.Native.Nat.{ℕ}
 use lib.Dec.{eqb}
 use Rattle.model.specs.Calls as calls
 use Rattle.model.specs.Calls.{openDone, readDone, writeDone, stepDone, stepClean, flushDone, refused, Buffers, Page}

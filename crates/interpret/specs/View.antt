@@ -11,7 +11,7 @@ use Rattle.script.specs.Forms.{Form, opens, writes, reads, steps, flushes, wear
 use Rattle.cache.specs.View.{sizesOf}
 use Rattle.answer.specs.Carried.{buffers}
 use Rattle.store.specs.View.{storeOf}
-use Rattle.interpret.specs.Lines.{Effect, carried}
+use Rattle.interpret.specs.Lines.{Effect}
 use Rattle.interpret.specs.declared.Lined.{Lined}
 use Rattle.interpret.specs.declared.parts.Parts.{Parts}
 

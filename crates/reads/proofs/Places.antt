@@ -1,18 +1,18 @@
 -- A page read from a slot, from a frame and from flash.
-use mathlib.Core.Path.{_≡_, refl, sym, ap, _∙_}
+use mathlib.Core.Path.{_≡_, sym, ap, _∙_}
 use mathlib.Core.Bool.{true, false}
-use mathlib.Core.List.{List, _++_, append-nil}
+use mathlib.Core.List.{List, append-nil}
 use Prim.Native.Nat.{ℕ, _+_, _*_, _%_, _≤_, _<_}
 use native.Mathlib.Nat.{zero-mul, zero-add}
 use native.Mathlib.Omega.{arith}
 use lib.Arith.{digits-lt}
-use lib.Dec.{ltb, eqb}
-use lib.ListN.{length, getD, drop, take}
+use lib.Dec.{ltb}
+use lib.ListN.{length, getD}
 use lib.Seq.{drop-length}
 use borrow.Author.Tests.{ltb-true, lt-ltb, le-ltb}
 use Rattle.prelude.specs.Pages.{pageAt, putPage, pagesOf}
 use Rattle.prelude.proofs.Tests.{by-test}
-use Rattle.prelude.proofs.Pages.{length-pageAt, in-run, page-at}
+use Rattle.prelude.proofs.Pages.{in-run, page-at}
 use Rattle.page.specs.Page.{HasPage}
 use Rattle.model.specs.Sizes.{Sizes}
 use Rattle.model.specs.Directory.{Directory}
@@ -24,7 +24,7 @@ use Rattle.cache.specs.View.{directoryOf}
 use Rattle.reads.specs.declared.Found.{Found}
 use Rattle.reads.specs.declared.Done.{Done}
 use Rattle.reads.specs.declared.Found.the-variants.{Slot, Frame, Flash}
-use Rattle.reads.specs.Reads.{Readable, Peeked, ReadOut, pages, foundAt}
+use Rattle.reads.specs.Reads.{Readable, Peeked, ReadOut, foundAt}
 
 -- a page put over a whole page buffer
 put-whole : (s : ℕ) (l pg : List ℕ) → length l ≡ s → putPage s l 0 pg ≡ pg

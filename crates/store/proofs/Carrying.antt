@@ -1,9 +1,8 @@
 -- A call of the model by its tests, and from what an inner call leaves to what the model's call gives.
 use mathlib.Core.Path.{_≡_, refl, sym, ap, _∙_}
 use mathlib.Core.Bool.{Bool, true, false, cond}
-use mathlib.Core.List.{List, []}
+use mathlib.Core.List.{[]}
 use Prim.Native.Nat.{ℕ, _*_, _≤_, _<_}
-use lib.Dec.{ltb, eqb}
 use lib.ListN.{length}
 use borrow.Author.Tests.{eq-eqb, ne-eqb, lt-ltb, le-ltb}
 use Rattle.prelude.proofs.Tests.{by-test}
@@ -12,7 +11,7 @@ use Rattle.model.specs.Directory.{Directory}
 use Rattle.model.specs.Soundness.{sound}
 use Rattle.model.specs.Policy.{Choice, leastRecent, plan, dueOf}
 use Rattle.model.specs.Moves.{Memory}
-use Rattle.model.specs.Calls.{Answer, readDone, refused, isRefused, Call, read, write, step, flush, State, Outcome, turnedDown, checked, readOutcome, writeOutcome, stepOutcome, flushOutcome, decide, callPages, Page, Buffers, lentOk, Fits, Store, Result, zeroPage, memoryOf, buffersOf, stateOf, told, lentBuffer, filledBuffer, unaltered, carriedOut, call}
+use Rattle.model.specs.Calls.{Answer, readDone, refused, isRefused, Call, read, write, step, flush, State, Outcome, turnedDown, checked, readOutcome, writeOutcome, stepOutcome, flushOutcome, decide, callPages, Page, Buffers, lentOk, Fits, Store, zeroPage, memoryOf, buffersOf, stateOf, told, lentBuffer, filledBuffer, unaltered, carriedOut, call}
 use Rattle.model.proofs.Demand3.{decide-keeps}
 use Rattle.model.proofs.Buffers.{buffers-of-memory, fits-of}
 use Rattle.model.proofs.Soundness.{sound-facts}

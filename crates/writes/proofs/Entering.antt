@@ -1,24 +1,21 @@
 -- The page enters the slot that a join or an exchange left vacant.
-use mathlib.Core.Path.{_≡_, refl, sym, ap, _∙_}
-use mathlib.Core.Bool.{true}
+use mathlib.Core.Path.{_≡_, ap, _∙_}
 use mathlib.Core.List.{List, []}
 use Prim.Native.Nat.{ℕ, _*_, _<_}
-use lib.Dec.{ltb}
 use lib.ListN.{length, set}
 use borrow.Author.Tests.{lt-ltb}
 use Rattle.model.specs.Sizes.{Sizes, vacant}
 use Rattle.model.specs.Directory.{Directory}
-use Rattle.model.specs.Soundness.{Sound}
 use Rattle.model.specs.Policy.{inSlots, slotOf}
-use Rattle.model.specs.Moves.{Memory, touched, putSlot, entered, joined, joinedPages, filled, exchanged, exchangedPages, putSlotPage}
-use Rattle.model.specs.Calls.{Page, zeroPage, slotPages, framePages}
+use Rattle.model.specs.Moves.{Memory, touched, putSlot, entered, joined, joinedPages, exchanged, putSlotPage}
+use Rattle.model.specs.Calls.{Page, slotPages, framePages}
 use Rattle.model.proofs.Lookup.{found-slot}
 use Rattle.model.proofs.Kept.{joined-sound, exchanged-sound, exchanged-vacant}
 use Rattle.model.proofs.Plan.{some-bit, joined-vacant}
 use Rattle.moves.specs.Spaces.{spaces, Joined}
 use Rattle.moves.specs.Exchange.{Exchanged}
 use Rattle.writes.specs.Writes.{OverSlot}
-use Rattle.writes.specs.Enter.{Joining, Changing, Spaced, Enters, Entered, JoinEnters, JoinEntered, ExchangeEnters, ExchangeEntered}
+use Rattle.writes.specs.Enter.{Enters, Entered, JoinEnters, JoinEntered, ExchangeEnters, ExchangeEntered}
 
 module _ (sz : Sizes) (d : Directory) (f : ℕ) (pspace page : List ℕ) (q : Enters sz d f pspace page) where
   pub slot-lt : (i : ℕ) → i ≡ slotOf sz d vacant → i < sz .P

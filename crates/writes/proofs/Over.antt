@@ -1,14 +1,14 @@
 -- The page buffer put over one page of p-space or of b-space.
-use mathlib.Core.Path.{_≡_, refl, sym, ap, _∙_}
+use mathlib.Core.Path.{_≡_, ap, _∙_}
 use mathlib.Core.List.{List}
-use Prim.Native.Nat.{ℕ, _+_, _*_, _%_, _≤_, _<_}
-use native.Mathlib.Nat.{zero-mul, mul-assoc}
+use Prim.Native.Nat.{ℕ, _+_, _*_, _%_}
+use native.Mathlib.Nat.{zero-mul}
 use native.Mathlib.Omega.{arith}
 use lib.Arith.{digits-lt}
-use lib.ListN.{length, set, take, drop}
+use lib.ListN.{length, set}
 use lib.Seq.{take-length}
-use Rattle.prelude.specs.Pages.{pageAt, putPage, pagesOf}
-use Rattle.prelude.proofs.Pages.{length-pageAt, in-run, pages-put, block-fits}
+use Rattle.prelude.specs.Pages.{pageAt, putPage}
+use Rattle.prelude.proofs.Pages.{in-run, pages-put, block-fits}
 use Rattle.page.specs.Page.{HasPage}
 use Rattle.model.specs.Sizes.{Sizes}
 use Rattle.model.specs.Calls.{slotPages, framePages}

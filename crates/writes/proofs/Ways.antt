@@ -1,18 +1,17 @@
 -- What each way of a write leaves, and what holds of the plan that asks for it.
 use mathlib.Core.Path.{_≡_, refl, sym, ap, _∙_, subst}
 use mathlib.Core.Bool.{true, false}
-use mathlib.Core.List.{List, []}
+use mathlib.Core.List.{List}
 use Prim.Native.Nat.{ℕ, _+_, _*_, _%_, _≤_, _<_}
-use native.Mathlib.Omega.{arith}
-use lib.Dec.{leb, ltb}
+use lib.Dec.{ltb}
 use lib.ListN.{length, getD, set}
 use borrow.Author.Tests.{lt-ltb, lt-leb, le-leb}
 use Rattle.prelude.proofs.Tests.{by-test}
 use Rattle.model.specs.Sizes.{Sizes, vacant}
 use Rattle.model.specs.Directory.{Directory, frameAt}
 use Rattle.model.specs.Soundness.{Sound}
-use Rattle.model.specs.Policy.{Choice, slotOf, frameOf, validCount, slotCount, mergeReads, isWorn, Plan, slotHit, frameHit, freeSlot, join, fill, exchange, evict, plan, victim, leastRecent}
-use Rattle.model.specs.Moves.{Memory, worn, wornBy, touched, putSlot, entered, vacated, written, writtenPages, putSlotPage, putFramePage, joined, joinedPages, filled, exchangedPages, rewrittenPages, merged, programmed}
+use Rattle.model.specs.Policy.{Choice, slotOf, frameOf, validCount, slotCount, isWorn, Plan, slotHit, frameHit, freeSlot, join, fill, exchange, evict, plan, victim, leastRecent}
+use Rattle.model.specs.Moves.{Memory, worn, wornBy, touched, putSlot, entered, vacated, written, writtenPages, putSlotPage, putFramePage, joined, joinedPages, filled, exchangedPages, rewrittenPages}
 use Rattle.model.specs.Calls.{Answer, writeDone, refused, writeOutcome, Page, Buffers, zeroPage, flashPages, slotPages, framePages, memoryOf}
 use Rattle.model.specs.Lists.{Picks}
 use Rattle.model.proofs.Lookup.{block-vacant, found-slot, frame-is, no-frame}
@@ -26,9 +25,9 @@ use Rattle.policy.specs.declared.decision.Plan as code
 use Rattle.policy.specs.Views.{planOf}
 use Rattle.cache.specs.declared.Directory as cache
 use Rattle.cache.specs.View.{directoryOf}
-use Rattle.chip.specs.Chip.{Rewritable, Rewritten, chipMemory}
+use Rattle.chip.specs.Chip.{Rewritable, Rewritten}
 use Rattle.chip.proofs.Rewriting.{rewritten-memory}
-use Rattle.answer.specs.Carried.{Ready, Carried, buffers}
+use Rattle.answer.specs.Carried.{Carried, buffers}
 use Rattle.writes.specs.Writes.{Writable, state, Wrote, Evicts}
 use Rattle.writes.specs.Enter.{Joining, Changing, Spaced, JoinEnters, JoinEntered, ExchangeEntered}
 

@@ -1,13 +1,10 @@
 use borrow.Author.Needs.{needs}
 use native.Mathlib.Omega.{arith}
-use mathlib.Core.Path.{_≡_, refl, sym, ap, _∙_, subst}
-use mathlib.Core.List.{List}
-use Prim.Native.Nat.{ℕ, _+_, _-_, _≤_}
+use mathlib.Core.Path.{sym, ap, _∙_, subst}
+use Prim.Native.Nat.{ℕ, _+_, _-_}
 use lib.ListN.{length, length-replicate}
-use Rattle.model.specs.Sizes.{Sizes}
 use Rattle.model.specs.Directory.{Cache}
-use Rattle.cache.specs.View.{sizesOf}
-use Rattle.script.specs.Walk.{itemOf, itemAt}
+use Rattle.script.specs.Walk.{itemOf}
 use Rattle.interpret.specs.View.{Held}
 use Rattle.interpret.proofs.Front.{front-long}
 use Rattle.interpret.proofs.Walk.{held-blank, Stands, item-stands}

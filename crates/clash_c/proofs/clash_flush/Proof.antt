@@ -1,5 +1,4 @@
 use borrow.Author.Needs.{needs}
-use native.Mathlib.Omega.{arith}
 use Rattle.clash_c.proofs.clash_flush.Statement.{statement}
 use Rattle.clash_c.proofs.clash_flush.Tie as tie
 use Rattle.clash_c.proofs.clash_flush.Reads as reads

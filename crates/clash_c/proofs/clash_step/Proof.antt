@@ -1,5 +1,4 @@
 use borrow.Author.Needs.{needs}
-use native.Mathlib.Omega.{arith}
 use Rattle.clash_c.proofs.clash_step.Statement.{statement}
 use Rattle.clash_c.proofs.clash_step.Tie as tie
 use Rattle.clash_c.proofs.clash_step.Reads as reads

@@ -1,5 +1,4 @@
 use borrow.Author.Needs.{needs}
-use native.Mathlib.Omega.{arith}
 use Rattle.clash_c.proofs.clash_write.Statement.{statement}
 use Rattle.clash_c.proofs.clash_write.Tie as tie
 use Rattle.clash_c.proofs.clash_write.Reads as reads

@@ -1,6 +1,5 @@
 use borrow.Author.Needs.{needs}
-use native.Mathlib.Omega.{arith}
-use mathlib.Core.Path.{_≡_, refl, sym, ap, _∙_}
+use mathlib.Core.Path.{refl}
 use Rattle.clash_c.proofs.refused.Statement.{statement}
 use Rattle.clash_c.proofs.refused.Tie as tie
 use Rattle.clash_c.proofs.refused.Reads as reads

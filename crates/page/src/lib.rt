@@ -87,9 +87,22 @@ fn move_bytes(dst: &mut [u8], src: &[u8])
     ensures { λ _. ⌜ now (dst .exit) ≡ now (src .entry) ⌝ }
 {
     let n = dst.len();
+    if n == 16 {
+        return move_sixteen(dst, src);
+    }
     let mut t = [0u8; 2048];
     copy_bytes(&mut t[..n], src);
     copy_bytes(dst, &t[..n]);
+}
+
+// The same for 16 bytes, where a call of memmove takes longer than the move.
+fn move_sixteen(dst: &mut [u8], src: &[u8])
+    requires { ⌜ (length (now dst) ≡ 16) × (length (now src) ≡ 16) ⌝ }
+    ensures { λ _. ⌜ now (dst .exit) ≡ now (src .entry) ⌝ }
+{
+    let mut t = [0u8; 16];
+    copy_bytes(&mut t, src);
+    copy_bytes(dst, &t);
 }
 
 // Copies all of src over all of dst, which is as long.

@@ -6,6 +6,15 @@ use borrow.Author.Needs.{needs}
 use Rattle.page.proofs.move_bytes.Statement.{statement}
 use Rattle.page.proofs.move_bytes.Tie as tie
 
+move-sixteen-requires : tie.Need-move-sixteen-requires
+move-sixteen-requires c κs = search needs
+
+same-length : tie.Need-same-length
+same-length c = search needs
+
+returns : tie.Need-returns
+returns c = search needs
+
 array-borrow-prefix-t : tie.Need-array-borrow-prefix-t
 array-borrow-prefix-t c = search needs
 
@@ -24,24 +33,27 @@ slice-aggregate-copy-bytes-2 c = let e = ap length (c .before .before .before .c
 copy-bytes-requires-2 : tie.Need-copy-bytes-requires-2
 copy-bytes-requires-2 c κs = let e = ap length (c .before .before .before .copy-bytes .ensures) in simp (length-take, length-append) (omega arith)
 
-same-length : tie.Need-same-length
-same-length c = search needs
+same-length-2 : tie.Need-same-length-2
+same-length-2 c = search needs
 
-returns : tie.Need-returns
-returns c =
+returns-2 : tie.Need-returns-2
+returns-2 c =
     let one = c .before .before .before .before .before .before in
     let e = one .copy-bytes .ensures in
-    c .before .before .copy-bytes2 .ensures ∙ take-at (one .copy-bytes .last .0) _ _ (ap length e ∙ sym (one .before .before .before .before .pre .0)) ∙ e
+    c .before .before .copy-bytes2 .ensures ∙ take-at (one .copy-bytes .last .0) _ _ (ap length e ∙ sym (one .before .before .before .before .before .pre .0)) ∙ e
 
 pub move-bytes-spec : {M : Type 1} → statement M
 move-bytes-spec =
     tie.close
     (tie.spec
+    move-sixteen-requires
+    same-length
+    returns
     array-borrow-prefix-t
     slice-aggregate-copy-bytes
     copy-bytes-requires
     array-share-prefix-t
     slice-aggregate-copy-bytes-2
     copy-bytes-requires-2
-    same-length
-    returns)
+    same-length-2
+    returns-2)

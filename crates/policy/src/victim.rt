@@ -19,6 +19,7 @@ pub fn victim(z: Sizes, d: Directory) -> Victim
     ensures { λ r. ⌜ r ≡ victimOf (sizesOf z) (directoryOf d) ⌝ }
 {
     let end = z.slots as usize;
+    let m = address::reciprocal(z.pages_per_block);
     let mut counts = [0u8; 4096];
     let mut best = BlockNo(0);
     let mut most = 0u8;
@@ -26,7 +27,7 @@ pub fn victim(z: Sizes, d: Directory) -> Victim
     while i < end {
         let x = d.slots[i];
         if x.0 < VACANT {
-            let b = address::block_of(x, z.pages_per_block);
+            let b = address::block_by(x, z.pages_per_block, m);
             let at = b.0 as usize;
             let pages = counts[at] + 1;
             counts[at] = pages;

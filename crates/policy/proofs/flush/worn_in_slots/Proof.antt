@@ -13,7 +13,7 @@ use Rattle.cache.specs.declared.Sizes.{Sizes}
 use Rattle.cache.specs.declared.Directory.{Directory}
 use Rattle.cache.specs.View.{sizesOf, directoryOf}
 use Rattle.cache.proofs.View.{slot-of}
-use Rattle.policy.proofs.Held.{Held, held}
+use Rattle.policy.proofs.Held.{Held, held, page-lt}
 use Rattle.policy.proofs.Lowest.{worn-block, worn-hit, worn-miss, worn-skip, slots-lowest}
 use Rattle.policy.proofs.flush.worn_in_slots.Statement.{statement}
 use Rattle.policy.proofs.flush.worn_in_slots.Tie as tie
@@ -25,16 +25,19 @@ abbrev block : Sizes → Directory → ℕ → ℕ
 block z d i = slotAt (directoryOf d) i / z .«pages_per_block»
 
 abbrev Inv-loop : tie.InvT-loop
-Inv-loop z wear d low₀ i₀ low i = (i ≤ z .slots) × (low ≡ least i (worn-block (sizesOf z) wear (taken d) (block z d)) (z .blocks))
+Inv-loop z wear d m low₀ i₀ low i = (i ≤ z .slots) × (low ≡ least i (worn-block (sizesOf z) wear (taken d) (block z d)) (z .blocks))
 
 abbrev μ-loop : tie.MeasureT-loop
-μ-loop z wear d low₀ i₀ low i = z .slots - i
+μ-loop z wear d m low₀ i₀ low i = z .slots - i
 
 -- the page in the slot, and its block
-found : (c : tie.After-block-of Inv-loop μ-loop) → Held (sizesOf (c .before .before .before .before .before .before .before .before .args .z)) (directoryOf (c .before .before .before .before .before .before .before .before .args .t2)) (c .before .before .before .before .before .before .loop .i) (c .block-of .result .0)
+found : (c : tie.After-block-by Inv-loop μ-loop) → Held (sizesOf (c .before .before .before .before .before .before .before .before .before .args .z)) (directoryOf (c .before .before .before .before .before .before .before .before .before .args .t2)) (c .before .before .before .before .before .before .loop .i) (c .block-by .result .0)
 found c =
-    let start = c .before .before .before .before .before .before .before .before in
-    held (start .args .z) (start .args .t2) (start .pre .sound) (c .before .before .before .before .before .before .loop .i) _ (omega arith) (c .before .if2 .taken) (c .block-of .ensures)
+    let start = c .before .before .before .before .before .before .before .before .before in
+    held (start .args .z) (start .args .t2) (start .pre .sound) (c .before .before .before .before .before .before .loop .i) _ (omega arith) (c .before .if2 .taken) (c .block-by .ensures)
+
+reciprocal-requires : tie.Need-reciprocal-requires Inv-loop μ-loop
+reciprocal-requires c κs = search needs
 
 loop-holds : tie.Need-loop-holds Inv-loop μ-loop
 unfolding least
@@ -49,11 +52,13 @@ mul-x c = search needs
 element-copy-out-x : tie.Need-element-copy-out-x Inv-loop μ-loop
 element-copy-out-x c = search needs
 
-block-of-requires : tie.Need-block-of-requires Inv-loop μ-loop
-block-of-requires c κs = search needs
+block-by-requires : tie.Need-block-by-requires Inv-loop μ-loop
+block-by-requires c κs =
+    let start = c .before .before .before .before .before .before .before .before in
+    (page-lt (start .args .z) (start .args .t2) (start .pre .sound) (c .before .before .before .before .before .loop .i) (omega arith) (c .if2 .taken), c .before .before .before .before .before .before .reciprocal .ensures)
 
 is-worn-requires : tie.Need-is-worn-requires Inv-loop μ-loop
-is-worn-requires c κs = let k = found (c .before) .low in let e = c .before .before .before .before .before .before .before .before .before .pre .wear-length in omega arith
+is-worn-requires c κs = let k = found (c .before) .low in let e = c .before .before .before .before .before .before .before .before .before .before .pre .wear-length in omega arith
 
 add-i : tie.Need-add-i Inv-loop μ-loop
 add-i c = search needs
@@ -63,12 +68,12 @@ loop-less c = search needs
 
 loop-again : tie.Need-loop-again Inv-loop μ-loop
 loop-again c =
-    let l = c .before .before .before .before .before .loop in let a = c .before .before .before .before .before .before .before .args in let sz = sizesOf (a .z) in let x : ℕ = slotAt (directoryOf (a .t2)) (l .i) in
+    let l = c .before .before .before .before .before .loop in let a = c .before .before .before .before .before .before .before .before .args in let sz = sizesOf (a .z) in let x : ℕ = slotAt (directoryOf (a .t2)) (l .i) in
     elim (c .if2 .came) [
-      | inl w ↦ let p = found (record { before = record { before = c .before; if2 = w .0 }; block-of = w .1 }) in
+      | inl w ↦ let p = found (record { before = record { before = c .before; if2 = w .0 }; block-by = w .1 }) in
           (omega arith, w .5 ∙ worn-hit sz (a .wear .now) (taken (a .t2)) (block (a .z) (a .t2)) (l .i) (l .low) (l .inv .1) _ (lt-ltb x vacant (p .page)) (p .own) (rw (← (w .3 .ensures)) (w .4 .taken)))
       | inr v ↦ elim v [
-        | inl w ↦ let p = found (record { before = record { before = c .before; if2 = w .0 }; block-of = w .1 }) in
+        | inl w ↦ let p = found (record { before = record { before = c .before; if2 = w .0 }; block-by = w .1 }) in
             (omega arith, w .5 ∙ worn-miss sz (a .wear .now) (taken (a .t2)) (block (a .z) (a .t2)) (l .i) (l .low) (l .inv .1) _ (lt-ltb x vacant (p .page)) (p .own) (rw (← (w .3 .ensures)) (w .4 .left)))
         | inr w ↦ (omega arith, w .1 ∙ worn-skip sz (a .wear .now) (taken (a .t2)) (block (a .z) (a .t2)) (l .i) (l .low) (l .inv .1) (le-ltb x vacant (rw (slot-of (a .t2) (l .i)) (w .0 .left))))
       ]
@@ -76,9 +81,9 @@ loop-again c =
 
 returns : tie.Need-returns Inv-loop μ-loop
 returns c =
-    let l = c .before .before .loop in let a = c .before .before .before .before .args in let e : l .i ≡ a .z .slots = omega arith in
+    let l = c .before .before .loop in let a = c .before .before .before .before .before .args in let e : l .i ≡ a .z .slots = omega arith in
     l .inv .1 ∙ ap (λ (n : ℕ). least n (worn-block (sizesOf (a .z)) (a .wear .now) (taken (a .t2)) (block (a .z) (a .t2))) (a .z .blocks)) e
-    ∙ slots-lowest (sizesOf (a .z)) (directoryOf (a .t2)) (c .before .before .before .before .pre .sound) (a .wear .now)
+    ∙ slots-lowest (sizesOf (a .z)) (directoryOf (a .t2)) (c .before .before .before .before .before .pre .sound) (a .wear .now)
 
 pub worn-in-slots-spec : {M : Type 1} → statement M
 worn-in-slots-spec =
@@ -86,11 +91,12 @@ worn-in-slots-spec =
     (tie.spec
     Inv-loop
     μ-loop
+    reciprocal-requires
     loop-holds
     cast-if1
     mul-x
     element-copy-out-x
-    block-of-requires
+    block-by-requires
     is-worn-requires
     add-i
     loop-less

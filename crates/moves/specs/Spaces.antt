@@ -4,6 +4,7 @@ use mathlib.Core.Bool.{cond}
 use mathlib.Core.List.{List, []}
 use Prim.Native.Nat.{ℕ, _+_, _*_, _<_}
 use lib.ListN.{length, getD}
+use Rattle.prelude.specs.Scan.{tab}
 use Rattle.prelude.specs.Pages.{pagesOf}
 use Rattle.model.specs.Sizes.{Sizes}
 use Rattle.model.specs.Directory.{Directory}
@@ -30,6 +31,11 @@ pub record Fills (sz : Sizes) (d : Directory) (b : ℕ) (ps fr : List ℕ) : Typ
   pub block-lt : b < sz .N
   pub pspace-long : length ps ≡ sz .P * sz .S
   pub stretch-long : length fr ≡ sz .K * sz .S
+
+-- what a frame f that took block b's pages leaves: the directory d′ and the stretch fr′
+pub record Took (sz : Sizes) (d : Directory) (b f : ℕ) (ps fr : List ℕ) (d′ : Directory) (fr′ : List ℕ) : Type 0 where
+  pub directory : d′ ≡ joined sz d b f
+  pub stretch : stretchPages sz fr′ ≡ tab (sz .K) (filledPage sz d (slotPages sz ps) (stretchPages sz fr) b)
 
 -- what a join asks: block b, frame f, p-space ps and b-space bs
 pub record Joins (sz : Sizes) (d : Directory) (b f : ℕ) (ps bs : List ℕ) : Type 0 where

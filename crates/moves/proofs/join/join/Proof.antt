@@ -1,56 +1,74 @@
-use mathlib.Core.Path.{sym, ap, _∙_}
+use mathlib.Core.Path.{ap, _∙_}
+use mathlib.Core.List.{List}
+use Prim.Native.Nat.{ℕ, _*_, _+_, _≤_}
+use native.Mathlib.Omega.{arith}
+use lib.ListN.{length}
 use borrow.Author.Needs.{needs}
-use Rattle.model.specs.Directory.{Directory}
-use Rattle.model.specs.Sizes.{vacant}
-use Rattle.model.specs.Moves.{joined}
-use Rattle.model.proofs.Plan.{valid-low}
+use Rattle.page.proofs.Part.{got, put}
+use Rattle.prelude.specs.Scan.{tab}
+use Rattle.model.specs.Calls.{slotPages, framePages}
 use Rattle.cache.specs.View.{sizesOf, directoryOf}
-use Rattle.cache.proofs.View.{valid-of}
-use Rattle.moves.specs.Numbers.{withFrame, regiven, offsetsOf}
+use Rattle.moves.specs.Spaces.{stretchPages, filledPage}
+use Rattle.moves.proofs.Stretch.{stretch-size, stretch-fits, stretch-fills, filled-stretch}
 use Rattle.moves.proofs.join.join.Statement.{statement}
 use Rattle.moves.proofs.join.join.Tie as tie
 
-fill-frame-requires : tie.Need-fill-frame-requires
-fill-frame-requires c κs = search needs
+fits : (c : tie.Start) → c .args .f * (c .args .z .«pages_per_block» * c .args .z .«page_size») + c .args .z .«pages_per_block» * c .args .z .«page_size» ≤ length (c .args .bspace .now)
+fits c = stretch-fits _ _ _ _ _ _ (c .pre)
 
-mul-old : tie.Need-mul-old
-mul-old c = search needs
+cast-size : tie.Need-cast-size
+cast-size c = search needs
 
-element-copy-out-old : tie.Need-element-copy-out-old
-element-copy-out-old c = search needs
+cast-size-2 : tie.Need-cast-size-2
+cast-size-2 c = search needs
 
-offsets-requires : tie.Need-offsets-requires
-offsets-requires c κs = let s = c .before .before .before .before .before .before .before in
-    (record { sound = s .pre .sound; block-lt = s .pre .block-lt }, rw (← valid-of (s .args .t2) (s .args .f)) (valid-low (sizesOf (s .args .z)) (directoryOf (s .args .t2)) (s .pre .sound) (s .args .f) (s .pre .frame-lt)))
+mul-size : tie.Need-mul-size
+mul-size c = omega (arith, stretch-size (sizesOf (c .before .before .before .before .args .z)) (c .before .before .before .before .pre .sound .limits))
 
-without-requires : tie.Need-without-requires
-without-requires c κs = search needs
+mul-a : tie.Need-mul-a
+mul-a c = omega (arith, fits (c .before .before .before .before))
 
-with-frame-requires : tie.Need-with-frame-requires
-with-frame-requires c κs = search needs
+add-e : tie.Need-add-e
+add-e c = omega (arith, fits (c .before .before .before .before))
+
+sub-take : tie.Need-sub-take
+sub-take c = search needs
+
+part-take-start : tie.Need-part-take-start
+part-take-start c = search needs
+
+part-take-end : tie.Need-part-take-end
+part-take-end c = omega (arith, fits (c .before .before .before .before))
+
+take-requires : tie.Need-take-requires
+take-requires c κs = let s = c .before .before .before .before .before in (stretch-fills _ _ _ _ _ _ (s .pre), s .pre .frame-lt)
 
 same-length : tie.Need-same-length
 same-length c = search needs
 
 returns : tie.Need-returns
-unfolding joined withFrame regiven offsetsOf
 returns c =
-    let s = c .before .before .before .before .before .before .before .before .before .before in let sz = sizesOf (s .args .z) in let d = directoryOf (s .args .t2) in let b = s .args .b .0 in let f = s .args .f in
+    let s = c .before .before .before .before .before .before .before .before in let sz = sizesOf (s .args .z) in let d = directoryOf (s .args .d) in let bs = s .args .bspace .now in let ps = s .args .pspace .now in let b = s .args .b .0 in let f = s .args .f in let w = c .before .before .take in
+    let fills = stretch-fills sz d b f ps bs (s .pre) in
     record {
-      directory = c .with-frame .ensures ∙ ap (λ (x : Directory). withFrame x f b (c .before .before .offsets .result)) (c .before .without .ensures)
-          ∙ ap (withFrame (regiven sz d b (λ i. vacant)) f b) (c .before .before .offsets .ensures ∙ ap (offsetsOf sz d b) (sym (valid-of (s .args .t2) f)));
-      pages = c .before .before .before .before .before .before .fill-frame .ensures;
+      directory = w .ensures .directory;
+      pages = ap (framePages sz) (put _ _ _ _)
+          ∙ filled-stretch sz d b f ps bs (s .pre) (w .last .1 .1 .1 .0) (w .kept .1 .1 .1 .0 ∙ fills .stretch-long)
+          (w .ensures .stretch ∙ ap (λ (x : List ℕ). tab (sz .K) (filledPage sz d (slotPages sz ps) (stretchPages sz x) b)) (got (sz .K * sz .S) bs f));
     }
 
 pub join-spec : {M : Type 1} → statement M
 join-spec =
     tie.close
     (tie.spec
-    fill-frame-requires
-    mul-old
-    element-copy-out-old
-    offsets-requires
-    without-requires
-    with-frame-requires
+    cast-size
+    cast-size-2
+    mul-size
+    mul-a
+    add-e
+    sub-take
+    part-take-start
+    part-take-end
+    take-requires
     same-length
     returns)

@@ -1,4 +1,4 @@
--- The table of what the vacated slots take, and the search that makes it: each goes on where the last one ended.
+-- What the vacated slots take, and the search for it: each goes on where the last one ended.
 use mathlib.Core.Path.{_≡_, sym, ap, _∙_}
 use mathlib.Core.Logic.{_⊎_, inl, inr}
 use mathlib.Core.Bool.{true, false, cond}
@@ -20,7 +20,7 @@ use Rattle.model.specs.Directory.{Directory, slotAt, frameAt, validAt}
 use Rattle.model.specs.Policy.{inBlock, inSlots}
 use Rattle.model.specs.Moves.{unmet, spare, taken, givenSlot}
 use Rattle.moves.specs.Numbers.{regiven, offsetsOf}
-use Rattle.moves.specs.Exchange.{leaves, takenTable, tableGives}
+use Rattle.moves.specs.Exchange.{leaves}
 use Rattle.moves.proofs.Offset.{offsets-alone}
 
 module _ (sz : Sizes) (d : Directory) (b f : ℕ) where
@@ -44,7 +44,7 @@ module _ (sz : Sizes) (d : Directory) (b f : ℕ) where
     taken-spare h = rw (spare-not h)
 
     -- what it takes is at its own offset, or at one that no page of the block goes to
-    taken-cases : taken sz d b f i < sz .K → (taken sz d b f i ≡ slotAt d i % sz .K) ⊎ (inSlots sz d (b * sz .K + taken sz d b f i) ≡ false)
+    pub taken-cases : taken sz d b f i < sz .K → (taken sz d b f i ≡ slotAt d i % sz .K) ⊎ (inSlots sz d (b * sz .K + taken sz d b f i) ≡ false)
     unfolding unmet
     taken-cases l = by-test (bit (validAt d f) (slotAt d i % sz .K))
         (λ h. inl (taken-met h))
@@ -85,22 +85,3 @@ module _ (sz : Sizes) (d : Directory) (b f : ℕ) where
 
     pub cursor-taken : inBlock sz d b i ≡ true → bit (validAt d f) (slotAt d i % sz .K) ≡ false → n ≡ taken sz d b f i
     cursor-taken e h = is ∙ sym (c .is) ∙ sym (taken-spare i e h)
-
-  -- ---- the table
-
-  pub table-at : (i : ℕ) → i < 128 → inBlock sz d b i ≡ true → getD (takenTable sz d b f) i 0 ≡ taken sz d b f i
-  unfolding takenTable
-  table-at i l e = getD-tab 128 (λ i. cond (inBlock sz d b i) (taken sz d b f i) (sz .K)) 0 i l ∙ rw e
-
-  pub table-free : (t : List ℕ) → t ≡ takenTable sz d b f → (i : ℕ) → i < 128 → inBlock sz d b i ≡ true → getD t i 0 < sz .K
-      → (getD t i 0 ≡ slotAt d i % sz .K) ⊎ (inSlots sz d (b * sz .K + getD t i 0) ≡ false)
-  table-free t q i l e = let w : getD t i 0 ≡ taken sz d b f i = ap (λ (x : List ℕ). getD x i 0) q ∙ table-at i l e in rw w (λ h. taken-cases i e h)
-
-  -- the numbers that follow it
-  pub table-gives : (t : List ℕ) → t ≡ takenTable sz d b f → regiven sz d b (tableGives (sz .K) (frameAt d f) t) ≡ regiven sz d b (givenSlot sz d b f)
-  unfolding regiven givenSlot
-  table-gives t q = let p = tab-ext 0 128 (λ i. cond (inBlock sz d b i) (tableGives (sz .K) (frameAt d f) t i) (slotAt d i)) (λ i. cond (inBlock sz d b i) (givenSlot sz d b f i) (slotAt d i))
-      (λ i l. by-test (inBlock sz d b i)
-      (λ e. rw e (rw (ap (λ (x : List ℕ). getD x i 0) q ∙ table-at i l e)))
-      (λ e. rw e)) in
-      λ j. record { slots = p j; frames = d .frames; valid = d .valid; recency = d .recency }

@@ -1,4 +1,4 @@
--- The exchange of way 6 in parts: the table of what each slot takes, and what follows it.
+-- The exchange of way 6 in parts.
 use mathlib.Core.Path.{_≡_}
 use mathlib.Core.Logic.{_⊎_}
 use mathlib.Core.Bool.{Bool, true, false, not, cond, _&&_}
@@ -22,53 +22,27 @@ use Rattle.moves.specs.Spaces.{spaces, stretchPages, filledPage, Fills, 
 abbrev pub leaves : ℕ → ℕ → ℕ → Bool
 leaves old new o = bit old o && not (bit new o)
 
--- ---- the table
-
--- for each slot of block b the offset of the old page of frame f that it takes: K where it takes none
-unfoldable pub takenTable : Sizes → Directory → ℕ → ℕ → List ℕ
-takenTable sz d b f = tab 128 (λ i. cond (inBlock sz d b i) (taken sz d b f i) (sz .K))
-
--- what the table asks: the offsets of block b's pages in slots
-pub record Sources (sz : Sizes) (d : Directory) (b f new : ℕ) : Type 0 where
-  pub sound : Sound sz d
-  pub block-lt : b < sz .N
-  pub frame-lt : f < sz .B
-  pub new-is : new ≡ offsetsOf sz d b 0
-
--- ---- what follows a table t: the numbers
-
--- the page of block q at the offset that slot i takes, vacant where it takes none
-abbrev pub tableGives : ℕ → ℕ → List ℕ → ℕ → ℕ
-tableGives k q t i = cond (ltb (getD t i 0) k) (q * k + getD t i 0) vacant
-
--- ---- and the pages
-
 -- one slot: page i of p-space ps and page o of the stretch fr, and page t of it
 pub record OneSwapped (k s o i t : ℕ) (fr ps fr′ ps′ : List ℕ) : Type 0 where
   pub stretch : fr′ ≡ putPage s fr o (pageAt s ps i)
   pub pspace : ps′ ≡ cond (ltb t k) (putPage s ps i (pageAt s fr t)) ps
 
 -- page i of p-space, once slot i has taken its page of the stretch fr
-unfoldable pub swappedPage : Sizes → Directory → List ℕ → List Page → List Page → ℕ → ℕ → Page
-swappedPage sz d t ps fr b i = cond (inBlock sz d b i && ltb (getD t i 0) (sz .K)) (getD fr (getD t i 0) (zeroPage sz)) (getD ps i (zeroPage sz))
+unfoldable pub swappedPage : Sizes → Directory → List Page → List Page → ℕ → ℕ → ℕ → Page
+swappedPage sz d ps fr b f i = cond (inBlock sz d b i && ltb (taken sz d b f i) (sz .K)) (getD fr (taken sz d b f i) (zeroPage sz)) (getD ps i (zeroPage sz))
 
--- what the pass over the slots asks: what a fill asks, and that each slot of block b takes the page at its own offset or at one that no page
--- of b goes to
-pub record Swaps (sz : Sizes) (d : Directory) (b : ℕ) (t ps fr : List ℕ) : Type 0 where
+-- what the pass over the slots asks: what a fill asks, that frame f has the old pages of a block, and the offsets of block b's pages in slots
+pub record Swaps (sz : Sizes) (d : Directory) (b f new : ℕ) (ps fr : List ℕ) : Type 0 where
   pub fills : Fills sz d b ps fr
-  pub own-or-free : (i : ℕ) → i < sz .P → inBlock sz d b i ≡ true → getD t i 0 < sz .K → (getD t i 0 ≡ slotAt d i % sz .K) ⊎ (inSlots sz d (b * sz .K + getD t i 0) ≡ false)
+  pub frame-lt : f < sz .B
+  pub old-lt : frameAt d f < sz .N
+  pub new-is : new ≡ offsetsOf sz d b 0
 
--- what it leaves in the two
-pub record Swapped (sz : Sizes) (d : Directory) (b : ℕ) (t ps fr ps′ fr′ : List ℕ) : Type 0 where
-  pub pspace : slotPages sz ps′ ≡ tab (sz .P) (swappedPage sz d t (slotPages sz ps) (stretchPages sz fr) b)
+-- what it leaves: the directory d′, p-space ps′ and the stretch fr′
+pub record Swapped (sz : Sizes) (d : Directory) (b f : ℕ) (ps fr : List ℕ) (d′ : Directory) (ps′ fr′ : List ℕ) : Type 0 where
+  pub directory : d′ ≡ exchanged sz d b f
+  pub pspace : slotPages sz ps′ ≡ tab (sz .P) (swappedPage sz d (slotPages sz ps) (stretchPages sz fr) b f)
   pub stretch : stretchPages sz fr′ ≡ tab (sz .K) (filledPage sz d (slotPages sz ps) (stretchPages sz fr) b)
-
--- ---- the whole
-
--- the pass in b-space bs, with the table of what each slot takes
-pub record SwapsFrame (sz : Sizes) (d : Directory) (b f : ℕ) (t ps bs : List ℕ) : Type 0 where
-  pub joins : Joins sz d b f ps bs
-  pub table : t ≡ takenTable sz d b f
 
 -- what an exchange asks: what a join asks, and that frame f has the old pages of a block
 pub record Exchanges (sz : Sizes) (d : Directory) (b f : ℕ) (ps bs : List ℕ) : Type 0 where

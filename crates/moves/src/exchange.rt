@@ -14,14 +14,11 @@ ghost use lib.ListN.{length};
 ghost use Rattle.page.specs.Page.{HasPage};
 ghost use Rattle.prelude.specs.Scan.{firstFrom};
 ghost use Rattle.model.specs.Sizes.{vacant};
-ghost use Rattle.model.specs.Moves.{exchangedPages};
-ghost use Rattle.model.specs.Calls.{zeroPage};
 ghost use Rattle.cache.specs.View.{sizesOf, directoryOf};
-ghost use Rattle.moves.specs.Numbers.{BlockOf, regiven};
-ghost use Rattle.moves.specs.Spaces.{spaces};
-ghost use Rattle.moves.specs.Exchange.{leaves, takenTable, tableGives, Sources, OneSwapped, Swaps, Swapped, SwapsFrame, Exchanges, Exchanged};
+ghost use Rattle.moves.specs.Exchange.{leaves, OneSwapped, Swaps, Swapped, Exchanges, Exchanged};
 
-// The pages of block b in slots go into frame f, whose old pages go to the slots, and the frame is b's then.
+// The pages of block b in slots go into frame f, whose old pages go to the slots, and the frame is b's then. Only the frame's
+// own stretch of b-space is lent to the exchange.
 pub fn exchange(
     z: Sizes,
     d: Directory,
@@ -34,39 +31,49 @@ pub fn exchange(
     ensures { λ r. ⌜ Exchanged (sizesOf z) (directoryOf d) (b .0) f (now (pspace .entry)) (now (bspace .entry)) (directoryOf r) (now (pspace .exit)) (now (bspace .exit)) ⌝ }
 {
     let new = join::offsets(z, d, b, 0);
-    let t = sources(z, d, b, f, new);
-    swap_frame(z, d, pspace, bspace, b, f, t);
-    let q = d.frames[f];
-    let r = given(z, d, b, q, t);
-    numbers::with_frame(r, f, b, new)
+    let size = z.pages_per_block as usize * z.page_size as usize;
+    let a = f * size;
+    let e = a + size;
+    swap(z, d, pspace, &mut bspace[a..e], b, f, new)
 }
 
-// For each slot of block b the offset of the old page of frame f that it takes, K where it takes none: its own offset where
-// an old page meets its page there; else the old pages left over, offsets upward, go to these slots, numbers upward.
-fn sources(z: Sizes, d: Directory, b: BlockNo, f: usize, new: u64) -> [u32; 128]
-    requires { ⌜ Sources (sizesOf z) (directoryOf d) (b .0) f new ⌝ }
-    ensures { λ r. ⌜ r ≡ takenTable (sizesOf z) (directoryOf d) (b .0) f ⌝ }
+// Each slot of block b in turn: its page goes to its offset in frame f's stretch, and the slot takes an old page: the one at
+// that offset where there is one, else the next of those left over, offsets upward, or none. New has the offsets of block b.
+fn swap(
+    z: Sizes,
+    mut d: Directory,
+    pspace: &mut [u8],
+    frame: &mut [u8],
+    b: BlockNo,
+    f: usize,
+    new: u64,
+) -> Directory
+    requires { ⌜ Swaps (sizesOf z) (directoryOf d) (b .0) f new (now pspace) (now frame) ⌝ }
+    ensures { λ r. ⌜ Swapped (sizesOf z) (directoryOf d) (b .0) f (now (pspace .entry)) (now (frame .entry)) (directoryOf r) (now (pspace .exit)) (now (frame .exit)) ⌝ }
 {
+    let s = z.page_size as usize;
     let p = z.slots as usize;
     let old = d.valid[f];
-    let mut t = [z.pages_per_block; 128];
+    let q = d.frames[f];
     let mut at: u32 = 0;
     let mut i = 0;
     while i < p {
         let x = d.slots[i];
         let o = numbers::offset_in(x, b, z.pages_per_block);
         if o < z.pages_per_block {
-            if bitmap::has(old, o) {
-                t[i] = o;
-            } else {
-                let n = next_left(old, new, at, z.pages_per_block);
-                t[i] = n;
+            let mut n = o;
+            if !bitmap::has(old, o) {
+                n = next_left(old, new, at, z.pages_per_block);
                 at = after(n, z.pages_per_block);
             }
+            swap_one(frame, o, pspace, i, n, z.pages_per_block, s);
+            d.slots[i] = page_or_vacant(q, n, z.pages_per_block);
         }
         i += 1;
     }
-    t
+    d.frames[f] = b;
+    d.valid[f] = new;
+    d
 }
 
 // The first offset from at on that is in old and not in new, k where there is none.
@@ -92,44 +99,6 @@ fn after(n: u32, k: u32) -> u32
     if n < k { n + 1 } else { n }
 }
 
-// Exchanges the bytes in frame f's own stretch of b-space; nothing beside it is lent to the exchange.
-fn swap_frame(
-    z: Sizes,
-    d: Directory,
-    pspace: &mut [u8],
-    bspace: &mut [u8],
-    b: BlockNo,
-    f: usize,
-    t: [u32; 128],
-)
-    requires { ⌜ SwapsFrame (sizesOf z) (directoryOf d) (b .0) f t (now pspace) (now bspace) ⌝ }
-    ensures { λ _. ⌜ spaces (sizesOf z) (now (pspace .exit)) (now (bspace .exit)) ≡ exchangedPages (zeroPage (sizesOf z)) (sizesOf z) (directoryOf d) (spaces (sizesOf z) (now (pspace .entry)) (now (bspace .entry))) (b .0) f ⌝ }
-{
-    let size = z.pages_per_block as usize * z.page_size as usize;
-    let a = f * size;
-    let e = a + size;
-    swap(z, d, pspace, &mut bspace[a..e], b, t);
-}
-
-// For each slot of block b, its page goes to its offset in a frame's stretch, and the stretch's page t[i] to slot i.
-fn swap(z: Sizes, d: Directory, pspace: &mut [u8], frame: &mut [u8], b: BlockNo, t: [u32; 128])
-    requires { ⌜ Swaps (sizesOf z) (directoryOf d) (b .0) t (now pspace) (now frame) ⌝ }
-    ensures { λ _. ⌜ Swapped (sizesOf z) (directoryOf d) (b .0) t (now (pspace .entry)) (now (frame .entry)) (now (pspace .exit)) (now (frame .exit)) ⌝ }
-{
-    let s = z.page_size as usize;
-    let p = z.slots as usize;
-    let mut i = 0;
-    while i < p {
-        let x = d.slots[i];
-        let o = numbers::offset_in(x, b, z.pages_per_block);
-        if o < z.pages_per_block {
-            let n = t[i];
-            swap_one(frame, o, pspace, i, n, z.pages_per_block, s);
-        }
-        i += 1;
-    }
-}
-
 // Page i of p-space goes to offset o of a frame's stretch, and the stretch's page t, where t is below k, to slot i. Where
 // the two meet they exchange bytes; else page i is copied in, to an offset with no old page, and page t is copied out.
 fn swap_one(frame: &mut [u8], o: u32, pspace: &mut [u8], i: usize, t: u32, k: u32, s: usize)
@@ -144,25 +113,6 @@ fn swap_one(frame: &mut [u8], o: u32, pspace: &mut [u8], i: usize, t: u32, k: u3
     if t < k {
         page::copy_page(pspace, i, frame, t as usize, s);
     }
-}
-
-// Each slot of block b takes the number of page t[i] of block q, or is vacant where t[i] is K.
-fn given(z: Sizes, mut d: Directory, b: BlockNo, q: BlockNo, t: [u32; 128]) -> Directory
-    requires { ⌜ BlockOf (sizesOf z) (directoryOf d) (b .0) × (q .0 < z .blocks) ⌝ }
-    ensures { λ r. ⌜ directoryOf r ≡ regiven (sizesOf z) (directoryOf d) (b .0) (tableGives (z .«pages_per_block») (q .0) t) ⌝ }
-{
-    let p = z.slots as usize;
-    let mut i = 0;
-    while i < p {
-        let x = d.slots[i];
-        let o = numbers::offset_in(x, b, z.pages_per_block);
-        if o < z.pages_per_block {
-            let n = t[i];
-            d.slots[i] = page_or_vacant(q, n, z.pages_per_block);
-        }
-        i += 1;
-    }
-    d
 }
 
 // The page at offset n of block q, or VACANT where n is k.

@@ -1,39 +1,54 @@
-use mathlib.Core.Path.{sym, ap, _∙_}
-use Prim.Native.Nat.{ℕ}
+use mathlib.Core.Path.{ap, _∙_}
+use Prim.Native.Nat.{_*_, _+_, _≤_}
 use native.Mathlib.Omega.{arith}
+use lib.ListN.{length}
 use lib.Pow.{pow-pos}
 use borrow.Author.Needs.{needs}
-use Rattle.model.specs.Directory.{Directory}
-use Rattle.model.specs.Moves.{exchanged, givenSlot}
+use Rattle.page.proofs.Part.{got, put}
 use Rattle.cache.specs.View.{sizesOf, directoryOf}
-use Rattle.cache.proofs.View.{frame-of}
-use Rattle.moves.specs.Numbers.{withFrame, regiven}
-use Rattle.moves.specs.Exchange.{tableGives}
-use Rattle.moves.proofs.Offset.{offsets-alone}
-use Rattle.moves.proofs.Taken.{table-gives}
+use Rattle.moves.specs.Spaces.{spaces}
+use Rattle.moves.proofs.Stretch.{stretch-size, stretch-fits, stretch-fills}
+use Rattle.moves.proofs.Swap.{exchanged-stretch}
 use Rattle.moves.proofs.exchange.exchange.Statement.{statement}
 use Rattle.moves.proofs.exchange.exchange.Tie as tie
+
+fits : (c : tie.Start) → c .args .f * (c .args .z .«pages_per_block» * c .args .z .«page_size») + c .args .z .«pages_per_block» * c .args .z .«page_size» ≤ length (c .args .bspace .now)
+fits c = stretch-fits _ _ _ _ _ _ (c .pre .joins)
 
 offsets-requires : tie.Need-offsets-requires
 offsets-requires c κs = let s = c .before .before in (record { sound = s .pre .joins .sound; block-lt = s .pre .joins .block-lt }, pow-pos (s .args .z .«pages_per_block»))
 
-sources-requires : tie.Need-sources-requires
-sources-requires c κs = let p = c .before .before .before .pre .joins in record { sound = p .sound; block-lt = p .block-lt; frame-lt = p .frame-lt; new-is = c .offsets .ensures }
+cast-size : tie.Need-cast-size
+cast-size c = search needs
 
-swap-frame-requires : tie.Need-swap-frame-requires
-swap-frame-requires c κs = record { joins = c .before .before .before .before .before .before .pre .joins; table = c .before .before .sources .ensures }
+cast-size-2 : tie.Need-cast-size-2
+cast-size-2 c = search needs
 
-mul-q : tie.Need-mul-q
-mul-q c = search needs
+mul-size : tie.Need-mul-size
+mul-size c = omega (arith, stretch-size (sizesOf (c .before .before .before .before .before .args .z)) (c .before .before .before .before .before .pre .joins .sound .limits))
 
-element-copy-out-q : tie.Need-element-copy-out-q
-element-copy-out-q c = search needs
+mul-a : tie.Need-mul-a
+mul-a c = omega (arith, fits (c .before .before .before .before .before))
 
-given-requires : tie.Need-given-requires
-given-requires c κs = let s = c .before .before .before .before .before .before .before .before .before .before .before .before in (record { sound = s .pre .joins .sound; block-lt = s .pre .joins .block-lt }, rw (frame-of (s .args .t2) (s .args .f)) at (s .pre .old-lt))
+add-e : tie.Need-add-e
+add-e c = omega (arith, fits (c .before .before .before .before .before))
 
-with-frame-requires : tie.Need-with-frame-requires
-with-frame-requires c κs = let p = c .before .before .before .before .before .before .before .before .before .before .before .before .before .pre .joins in let l = p .frame-lt in let k = p .sound .limits .B-high in omega arith
+sub-swap : tie.Need-sub-swap
+sub-swap c = search needs
+
+part-swap-start : tie.Need-part-swap-start
+part-swap-start c = search needs
+
+part-swap-end : tie.Need-part-swap-end
+part-swap-end c = omega (arith, fits (c .before .before .before .before .before .before))
+
+swap-requires : tie.Need-swap-requires
+swap-requires c κs = let s = c .before .before .before .before .before .before .before in record {
+  fills = stretch-fills _ _ _ _ _ _ (s .pre .joins);
+  frame-lt = s .pre .joins .frame-lt;
+  old-lt = s .pre .old-lt;
+  new-is = c .before .before .before .before .offsets .ensures;
+}
 
 same-length : tie.Need-same-length
 same-length c = search needs
@@ -42,14 +57,13 @@ same-length-2 : tie.Need-same-length-2
 same-length-2 c = search needs
 
 returns : tie.Need-returns
-unfolding exchanged withFrame regiven
 returns c =
-    let s = c .before .before .before .before .before .before .before .before .before .before .before .before .before .before in let sz = sizesOf (s .args .z) in let d = directoryOf (s .args .t2) in let b = s .args .b .0 in let f = s .args .f in let new = c .before .before .before .before .before .before .before .before .before .before .before .offsets .result in let t = c .before .before .before .before .before .before .before .before .before .before .sources .result in
+    let s = c .before .before .before .before .before .before .before .before .before .before .before .before in let sz = sizesOf (s .args .z) in let d = directoryOf (s .args .d) in let ps = s .args .pspace .now in let bs = s .args .bspace .now in let b = s .args .b .0 in let f = s .args .f in let w = c .before .before .before .before .swap in
+    let fills = stretch-fills sz d b f ps bs (s .pre .joins) in
     record {
-      directory = c .with-frame .ensures ∙ ap (λ (x : Directory). withFrame x f b new)
-          (c .before .given .ensures ∙ ap (λ (q : ℕ). regiven sz d b (tableGives (sz .K) q t)) (sym (frame-of (s .args .t2) f)) ∙ table-gives sz d b f t (c .before .before .before .before .before .before .before .before .before .before .sources .ensures))
-          ∙ ap (withFrame (regiven sz d b (givenSlot sz d b f)) f b) (c .before .before .before .before .before .before .before .before .before .before .before .offsets .ensures ∙ offsets-alone sz d b);
-      pages = c .before .before .before .before .before .before .before .swap-frame .ensures;
+      directory = w .ensures .directory;
+      pages = ap (spaces sz (w .last .1 .1 .0)) (put _ _ _ _)
+          ∙ exchanged-stretch sz d b f ps bs (s .pre .joins) (directoryOf (w .result)) (w .last .1 .1 .0) (w .last .1 .1 .1 .0) (w .kept .1 .1 .1 .0 ∙ fills .stretch-long) (rw (got (sz .K * sz .S) bs f) at (w .ensures));
     }
 
 pub exchange-spec : {M : Type 1} → statement M
@@ -57,12 +71,15 @@ exchange-spec =
     tie.close
     (tie.spec
     offsets-requires
-    sources-requires
-    swap-frame-requires
-    mul-q
-    element-copy-out-q
-    given-requires
-    with-frame-requires
+    cast-size
+    cast-size-2
+    mul-size
+    mul-a
+    add-e
+    sub-swap
+    part-swap-start
+    part-swap-end
+    swap-requires
     same-length
     same-length-2
     returns)

@@ -1,31 +1,59 @@
 use mathlib.Core.Path.{_≡_, refl, sym, ap, _∙_}
 use mathlib.Core.Logic.{inl, inr}
-use Prim.Native.Nat.{ℕ, _≤_, _-_, _*_}
+use mathlib.Core.Bool.{Bool, cond}
+use Prim.Native.Nat.{ℕ, _≤_, _<_, _+_, _-_, _*_, _%_}
 use native.Mathlib.Omega.{arith}
-use lib.ListN.{length}
+use lib.Dec.{ltb}
+use lib.ListN.{length, getD, set}
 use borrow.Author.Needs.{needs}
+use Rattle.prelude.specs.Scan.{firstFrom}
+use Rattle.prelude.specs.Bits.{bit}
 use Rattle.prelude.specs.Pages.{pageAt, putPage}
+use Rattle.prelude.proofs.Tests.{not-t, not-f}
 use Rattle.prelude.proofs.Tab.{done-none, done-all}
 use Rattle.prelude.proofs.Pages.{in-run, pages-length}
-use Rattle.model.specs.Directory.{slotAt}
+use Rattle.model.specs.Sizes.{vacant}
+use Rattle.model.specs.Directory as model
+use Rattle.model.specs.Directory.{slotAt, frameAt, validAt}
+use Rattle.model.specs.Moves.{unmet, taken, givenSlot, exchanged}
 use Rattle.model.specs.Calls.{zeroPage, slotPages}
+use Rattle.model.proofs.Lookup.{page-vacant}
+use Rattle.cache.specs.declared.Directory.{Directory}
+use Rattle.cache.specs.declared.Sizes.{Sizes}
 use Rattle.cache.specs.View.{sizesOf, directoryOf}
-use Rattle.cache.proofs.View.{slot-of}
-use Rattle.moves.specs.Numbers.{offsetIn}
+use Rattle.cache.proofs.View.{valid-of, frame-of, frame-set}
+use Rattle.moves.specs.Numbers.{offsetIn, offsetsOf, withFrame, regiven}
 use Rattle.moves.specs.Spaces.{stretchPages}
-use Rattle.moves.proofs.Offset.{offset-asks, offset-own, offset-out}
+use Rattle.moves.specs.Exchange.{leaves}
+use Rattle.moves.proofs.Offset.{offset-asks, offset-own, offset-out, offsets-alone}
 use Rattle.moves.proofs.Passed.{Filling, passed-none, passed-skip, passed-all}
+use Rattle.moves.proofs.Regiven.{Regiven, regiven-none, regiven-read, regiven-put, regiven-skip, regiven-all}
 use Rattle.moves.proofs.Swap.{Taking, taking-skip, turn-stretch, turn-pspace}
+use Rattle.moves.proofs.Taken.{Cursor, cursor-none, cursor-skip, cursor-le, cursor-next, cursor-taken, left-is, taken-met, spare-met, spare-not, spare-out}
 use Rattle.moves.proofs.exchange.swap.Statement.{statement}
 use Rattle.moves.proofs.exchange.swap.Tie as tie
 
 abbrev Inv-loop : tie.InvT-loop
-Inv-loop z pspace₀ frame₀ b d t s p i₀ pspace frame i =
+Inv-loop z pspace₀ frame₀ b f new d₀ s p old q at₀ i₀ pspace frame d at i =
     (i ≤ p) × (length pspace ≡ length pspace₀) × (length frame ≡ length frame₀)
-    × Taking (sizesOf z) (directoryOf d) t pspace₀ frame₀ (b .0) i pspace × Filling (sizesOf z) (directoryOf d) pspace₀ frame₀ (b .0) i frame
+    × Taking (sizesOf z) (directoryOf d₀) pspace₀ frame₀ (b .0) f i pspace × Filling (sizesOf z) (directoryOf d₀) pspace₀ frame₀ (b .0) i frame
+    × Cursor (sizesOf z) (directoryOf d₀) (b .0) f at i × Regiven (sizesOf z) d₀ (b .0) (givenSlot (sizesOf z) (directoryOf d₀) (b .0) f) i d
 
 abbrev μ-loop : tie.MeasureT-loop
-μ-loop z pspace₀ frame₀ b d t s p i₀ pspace frame i = p - i
+μ-loop z pspace₀ frame₀ b f new d₀ s p old q at₀ i₀ pspace frame d at i = p - i
+
+met : (d : Directory) (f o n : ℕ) (u t : Bool) → u ≡ bit (getD (d .valid) f 0) o → o ≡ n → u ≡ t → bit (validAt (directoryOf d) f) n ≡ t
+met d f o n u t e q h = ap (λ (x : ℕ). bit x n) (valid-of d f) ∙ ap (bit (getD (d .valid) f 0)) (sym q) ∙ sym e ∙ h
+
+found : (z : Sizes) (d : Directory) (b f new at : ℕ) → new ≡ offsetsOf (sizesOf z) (directoryOf d) b 0 → at ≤ z .«pages_per_block»
+    → firstFrom at (z .«pages_per_block» - at) (leaves (getD (d .valid) f 0) new) ≡ firstFrom at (z .«pages_per_block» - at) (unmet (sizesOf z) (directoryOf d) b f)
+found z d b f new at e l = ap (λ (x : ℕ). firstFrom at (z .«pages_per_block» - at) (leaves x new)) (sym (valid-of d f)) ∙ left-is (sizesOf z) (directoryOf d) b f new at e l
+
+-- the number that a slot takes
+gives : (z : Sizes) (d : Directory) (b f i q n x : ℕ) → q ≡ frameAt (directoryOf d) f → n ≡ taken (sizesOf z) (directoryOf d) b f i → x ≡ cond (ltb n (z .«pages_per_block»)) (q * z .«pages_per_block» + n) vacant
+    → x ≡ givenSlot (sizesOf z) (directoryOf d) b f i
+unfolding givenSlot
+gives z d b f i q n x eq en ex = ex ∙ rw (eq, en)
 
 cast-s : tie.Need-cast-s Inv-loop μ-loop
 cast-s c = search needs
@@ -33,13 +61,27 @@ cast-s c = search needs
 cast-p : tie.Need-cast-p Inv-loop μ-loop
 cast-p c = search needs
 
+mul-old : tie.Need-mul-old Inv-loop μ-loop
+mul-old c = search needs
+
+element-copy-out-old : tie.Need-element-copy-out-old Inv-loop μ-loop
+element-copy-out-old c = search needs
+
+mul-q : tie.Need-mul-q Inv-loop μ-loop
+mul-q c = search needs
+
+element-copy-out-q : tie.Need-element-copy-out-q Inv-loop μ-loop
+element-copy-out-q c = search needs
+
 loop-holds : tie.Need-loop-holds Inv-loop μ-loop
-loop-holds c = let s = c .before .before .before .before in let sz = sizesOf (s .args .z) in let ps = s .args .pspace .now in let fr = s .args .frame .now in (
+loop-holds c = let s = c .before .before .before .before .before .before in let sz = sizesOf (s .args .z) in let d = directoryOf (s .args .t2) in let so = s .pre .fills .sound in let b = s .args .b .0 in let f = s .args .f in let ps = s .args .pspace .now in let fr = s .args .frame .now in (
   omega arith,
   refl,
   refl,
   done-none (zeroPage sz) (sz .P) _ (slotPages sz ps) (pages-length (sz .S) (sz .P) ps),
-  passed-none sz (directoryOf (s .args .t2)) (s .pre .fills .sound) (slotPages sz ps) (stretchPages sz fr) (s .args .b .0) (pages-length (sz .S) (sz .K) fr),
+  passed-none sz d so (slotPages sz ps) (stretchPages sz fr) b (pages-length (sz .S) (sz .K) fr),
+  cursor-none sz d b f,
+  regiven-none sz (s .args .t2) so b (givenSlot sz d b f),
 )
 
 mul-x : tie.Need-mul-x Inv-loop μ-loop
@@ -49,17 +91,34 @@ element-copy-out-x : tie.Need-element-copy-out-x Inv-loop μ-loop
 element-copy-out-x c = search needs
 
 offset-in-requires : tie.Need-offset-in-requires Inv-loop μ-loop
-offset-in-requires c κs = let s = c .before .before .before .before .before .before .before in offset-asks (sizesOf (s .args .z)) (directoryOf (s .args .t2)) (s .args .b .0) (s .pre .fills .sound) (s .pre .fills .block-lt)
+offset-in-requires c κs = let s = c .before .before .before .before .before .before .before .before .before in offset-asks (sizesOf (s .args .z)) (directoryOf (s .args .t2)) (s .args .b .0) (s .pre .fills .sound) (s .pre .fills .block-lt)
 
-mul-n : tie.Need-mul-n Inv-loop μ-loop
-mul-n c = search needs
+has-requires : tie.Need-has-requires Inv-loop μ-loop
+has-requires c κs = let k = c .before .before .before .before .before .before .before .before .before .before .before .before .pre .fills .sound .limits .K-high in omega arith
 
-array-read-n : tie.Need-array-read-n Inv-loop μ-loop
-array-read-n c = search needs
+next-left-requires : tie.Need-next-left-requires Inv-loop μ-loop
+next-left-requires c κs = (c .before .before .before .before .before .before .before .loop .inv .5 .low, c .before .before .before .before .before .before .before .before .before .before .before .before .before .before .pre .fills .sound .limits .K-high)
+
+after-requires : tie.Need-after-requires Inv-loop μ-loop
+after-requires c κs = let s = c .before .before .before .before .before .before .before .before .before .before .before .before .before .before .before in let l = c .before .before .before .before .before .before .before .before .loop in (
+  cursor-le (sizesOf (s .args .z)) (directoryOf (s .args .t2)) (s .args .b .0) (s .args .f) (l .at) (l .i) (c .next-left .result) (l .inv .5)
+      (c .next-left .ensures ∙ found (s .args .z) (s .args .t2) (s .args .b .0) (s .args .f) (s .args .new) (l .at) (s .pre .new-is) (l .inv .5 .low)),
+  s .pre .fills .sound .limits .K-high,
+)
 
 swap-one-requires : tie.Need-swap-one-requires Inv-loop μ-loop
-swap-one-requires c κs = let s = c .before .before .before .before .before .before .before .before .before .before .before .before in let sz = sizesOf (s .args .z) in let l = c .before .before .before .before .before .before .before .loop in let n = l .inv .2 ∙ s .pre .fills .stretch-long in
-    (s .pre .fills .sound .limits .S-high, c .before .before .if1 .taken, omega arith, in-run (sz .S) (sz .P) (l .pspace) (l .inv .1 ∙ s .pre .fills .pspace-long) (c .before .before .before .before .before .before .loop-test .taken))
+swap-one-requires c κs = let s = c .before .before .before .before .before .before .before .before .before .before .before .before .before .before .before .before in let sz = sizesOf (s .args .z) in let l = c .before .before .before .before .before .before .before .before .before .loop in let n = l .inv .2 ∙ s .pre .fills .stretch-long in
+    (s .pre .fills .sound .limits .S-high, c .before .before .before .before .if1 .taken, omega arith, in-run (sz .S) (sz .P) (l .pspace) (l .inv .1 ∙ s .pre .fills .pspace-long) (c .before .before .before .before .before .before .before .before .loop-test .taken))
+
+page-or-vacant-requires : tie.Need-page-or-vacant-requires Inv-loop μ-loop
+page-or-vacant-requires c κs = let s = c .before .before .before .before .before .before .before .before .before .before .before .before .before .before .before .before .before .before .before .before .before in
+    λ l. let h = page-vacant (sizesOf (s .args .z)) (s .pre .fills .sound .limits) _ _ (rw (frame-of (s .args .t2) (s .args .f)) at (s .pre .old-lt)) l in omega arith
+
+mul-t38 : tie.Need-mul-t38 Inv-loop μ-loop
+mul-t38 c = search needs
+
+element-set-from-d : tie.Need-element-set-from-d Inv-loop μ-loop
+element-set-from-d c = let k = c .before .before .before .before .before .before .before .before .before .before .before .before .before .before .before .before .before .before .before .before .before .before .pre .fills .sound .limits .P-high in omega arith
 
 add-i : tie.Need-add-i Inv-loop μ-loop
 add-i c = omega arith
@@ -69,27 +128,52 @@ loop-less c = omega arith
 
 loop-again : tie.Need-loop-again Inv-loop μ-loop
 loop-again c =
-    let s = c .before .before .before .before .before .before .before .before .before .before in let l = c .before .before .before .before .before .loop in let sz = sizesOf (s .args .z) in let d = directoryOf (s .args .t2) in let b = s .args .b .0 in let i = l .i in let o = c .before .before .offset-in .result in
-    let t = s .args .t6 in let ps = s .args .pspace .now in let fr = s .args .frame .now in let so = s .pre .fills .sound in let il = c .before .before .before .before .loop-test .taken in
+    let s = c .before .before .before .before .before .before .before .before .before .before .before .before in let l = c .before .before .before .before .before .loop in let sz = sizesOf (s .args .z) in let d₀ = s .args .t2 in let d = directoryOf d₀ in let b = s .args .b .0 in let f = s .args .f in let i = l .i in let o = c .before .before .offset-in .result in
+    let ps = s .args .pspace .now in let fr = s .args .frame .now in let so = s .pre .fills .sound in let bl = s .pre .fills .block-lt in let il = c .before .before .before .before .loop-test .taken in
+    let pl = so .limits .P-high in let ih : i < 128 = omega arith in let rule = givenSlot sz d b f in
     let psl : length (l .pspace) ≡ sz .P * sz .S = l .inv .1 ∙ s .pre .fills .pspace-long in
     let frl : length (l .frame) ≡ sz .K * sz .S = l .inv .2 ∙ s .pre .fills .stretch-long in
-    let e : o ≡ offsetIn (sz .K) b (slotAt d i) = c .before .before .offset-in .ensures ∙ ap (offsetIn (sz .K) b) (sym (slot-of (s .args .t2) i)) in
+    let e : o ≡ offsetIn (sz .K) b (slotAt d i) = c .before .before .offset-in .ensures ∙ ap (offsetIn (sz .K) b) (regiven-read sz d₀ so b rule i (l .d) ih (l .inv .6)) in
     elim (c .if1 .came) [
-      | inl w ↦ let h = offset-own sz d so b i o e (w .0 .taken) in let x = w .3 in let free = s .pre .own-or-free i il (h .0) in (
-        omega arith,
-        ap length (w .8) ∙ x .kept .1 .1 .0 ∙ l .inv .1,
-        ap length (w .9) ∙ x .kept .0 ∙ l .inv .2,
-        rw (w .8 ∙ x .ensures .pspace) (turn-pspace sz d so t ps fr b i il (h .0) free (l .pspace) (l .frame) psl frl (l .inv .3) (l .inv .4)),
-        rw (w .9 ∙ x .ensures .stretch ∙ ap (λ (y : ℕ). putPage (sz .S) (l .frame) y (pageAt (sz .S) (l .pspace) i)) (h .1)) (turn-stretch sz d so t ps fr b i il (h .0) free (l .pspace) (l .frame) psl frl (l .inv .3) (l .inv .4)),
-      )
+      | inl w ↦ let h = offset-own sz d so b i o e (w .0 .taken) in let x = w .5 in
+          let pick : (w .2 .n ≡ taken sz d b f i) × Cursor sz d b f (w .2 .at) (i + 1) = elim (w .2 .came) [
+            | inl v ↦ let m = met d₀ f o (slotAt d i % sz .K) _ _ (w .1 .ensures) (h .1) (not-t (v .0 .taken)) in let n = v .1 .ensures ∙ found (s .args .z) d₀ b f (s .args .new) (l .at) (s .pre .new-is) (l .inv .5 .low) in
+                (v .4 ∙ cursor-taken sz d b f (l .at) i _ (l .inv .5) n (h .0) m, rw (v .3) (cursor-next sz d b f (l .at) i _ (l .inv .5) n _ (spare-not sz d b f i (h .0) m) (v .2 .ensures)))
+            | inr v ↦ let m = met d₀ f o (slotAt d i % sz .K) _ _ (w .1 .ensures) (h .1) (not-f (v .0 .left)) in
+                (v .2 ∙ h .1 ∙ sym (taken-met sz d b f i (h .0) m), rw (v .1) (cursor-skip sz d b f (l .at) i (spare-met sz d b f i (h .0) m) (l .inv .5)))
+          ] in (
+            omega arith,
+            ap length (w .11) ∙ x .kept .1 .1 .0 ∙ l .inv .1,
+            ap length (w .12) ∙ x .kept .0 ∙ l .inv .2,
+            rw (w .11 ∙ x .ensures .pspace ∙ ap (λ (y : ℕ). cond (ltb y (sz .K)) (putPage (sz .S) (l .pspace) i (pageAt (sz .S) (l .frame) y)) (l .pspace)) (pick .0))
+                (turn-pspace sz d so ps fr b f i il (h .0) (l .pspace) (l .frame) psl frl (l .inv .3) (l .inv .4)),
+            rw (w .12 ∙ x .ensures .stretch ∙ ap (λ (y : ℕ). putPage (sz .S) (l .frame) y (pageAt (sz .S) (l .pspace) i)) (h .1))
+                (turn-stretch sz d so ps fr b f i il (h .0) (l .pspace) (l .frame) psl frl (l .inv .3) (l .inv .4)),
+            rw (w .14) (pick .1),
+            rw (w .13) (regiven-put sz d₀ so b rule i (l .d) (w .10 .result) ih (h .0) (gives (s .args .z) d₀ b f i _ _ _ (sym (frame-of d₀ f)) (pick .0) (w .10 .ensures)) (l .inv .6)),
+          )
       | inr w ↦ let h = offset-out sz d so b i o e (w .0 .left) in (
         omega arith,
         ap length (w .1) ∙ l .inv .1,
         ap length (w .2) ∙ l .inv .2,
-        rw (w .1) (taking-skip sz d so t ps fr b i (l .pspace) h (l .inv .3)),
-        rw (w .2) (passed-skip sz d so (slotPages sz ps) (stretchPages sz fr) b (s .pre .fills .block-lt) i (stretchPages sz (l .frame)) il h (l .inv .4)),
+        rw (w .1) (taking-skip sz d so ps fr b f i (l .pspace) h (l .inv .3)),
+        rw (w .2) (passed-skip sz d so (slotPages sz ps) (stretchPages sz fr) b bl i (stretchPages sz (l .frame)) il h (l .inv .4)),
+        rw (w .4) (cursor-skip sz d b f (l .at) i (spare-out sz d b f i h) (l .inv .5)),
+        rw (w .3) (regiven-skip sz d₀ so b rule i (l .d) h (l .inv .6)),
       )
     ]
+
+mul-b : tie.Need-mul-b Inv-loop μ-loop
+mul-b c = search needs
+
+element-set-from-b : tie.Need-element-set-from-b Inv-loop μ-loop
+element-set-from-b c = search needs
+
+mul-d : tie.Need-mul-d Inv-loop μ-loop
+mul-d c = search needs
+
+element-write-d : tie.Need-element-write-d Inv-loop μ-loop
+element-write-d c = search needs
 
 same-length : tie.Need-same-length Inv-loop μ-loop
 same-length c = c .before .loop .inv .1
@@ -98,10 +182,16 @@ same-length-2 : tie.Need-same-length-2 Inv-loop μ-loop
 same-length-2 c = c .before .loop .inv .2
 
 returns : tie.Need-returns Inv-loop μ-loop
-returns c = let s = c .before .before .before .before .before .before in let l = c .before .loop in let sz = sizesOf (s .args .z) in let ps = s .args .pspace .now in let fr = s .args .frame .now in
+unfolding exchanged withFrame regiven directoryOf
+returns c =
+    let s = c .before .before .before .before .before .before .before .before in let l = c .before .loop in let sz = sizesOf (s .args .z) in let d₀ = s .args .t2 in let d = directoryOf d₀ in let so = s .pre .fills .sound in let b = s .args .b .0 in let f = s .args .f in let ps = s .args .pspace .now in let fr = s .args .frame .now in
+    let e : l .i ≡ sz .P = omega arith in
     record {
+      directory = frame-set (record { slots = l .d .slots; frames = l .d .frames; valid = set (l .d .valid) f (s .args .new); recency = l .d .recency }) f (s .args .b)
+          ∙ ap (λ (x : model.Directory). withFrame x f b (s .args .new)) (regiven-all sz d₀ so b (givenSlot sz d b f) (l .i) (l .d) e (l .inv .6))
+          ∙ ap (withFrame (regiven sz d b (givenSlot sz d b f)) f b) (s .pre .new-is ∙ offsets-alone sz d b);
       pspace = done-all (zeroPage sz) (sz .P) _ (slotPages sz ps) (l .i) (slotPages sz (l .pspace)) (l .inv .3) (c .loop-test .left);
-      stretch = passed-all sz (directoryOf (s .args .t2)) (s .pre .fills .sound) (slotPages sz ps) (stretchPages sz fr) (s .args .b .0) (l .i) (stretchPages sz (l .frame)) (omega arith) (l .inv .4);
+      stretch = passed-all sz d so (slotPages sz ps) (stretchPages sz fr) b (l .i) (stretchPages sz (l .frame)) e (l .inv .4);
     }
 
 pub swap-spec : {M : Type 1} → statement M
@@ -112,16 +202,28 @@ swap-spec =
     μ-loop
     cast-s
     cast-p
+    mul-old
+    element-copy-out-old
+    mul-q
+    element-copy-out-q
     loop-holds
     mul-x
     element-copy-out-x
     offset-in-requires
-    mul-n
-    array-read-n
+    has-requires
+    next-left-requires
+    after-requires
     swap-one-requires
+    page-or-vacant-requires
+    mul-t38
+    element-set-from-d
     add-i
     loop-less
     loop-again
+    mul-b
+    element-set-from-b
+    mul-d
+    element-write-d
     same-length
     same-length-2
     returns)

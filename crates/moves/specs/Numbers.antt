@@ -1,11 +1,13 @@
 -- Changes of the directory's numbers that the moves are made of, and what they ask.
+use mathlib.Core.Path.{_≡_}
 use mathlib.Core.Bool.{cond, _&&_, _||_}
+use mathlib.Core.List.{List, []}
 use Prim.Native.Nat.{ℕ, _+_, _*_, _/_, _%_, _<_}
 use lib.Dec.{ltb, eqb}
-use lib.ListN.{set}
-use Rattle.prelude.specs.Scan.{tab}
+use lib.ListN.{length, getD, set}
+use Rattle.prelude.specs.Scan.{first, tab}
 use Rattle.prelude.specs.Bits.{bit, mask}
-use Rattle.model.specs.Sizes.{Sizes, vacant}
+use Rattle.model.specs.Sizes.{Sizes, InLimits, vacant}
 use Rattle.model.specs.Directory.{Directory, slotAt}
 use Rattle.model.specs.Soundness.{Sound}
 use Rattle.model.specs.Policy.{inBlock, inSlots}
@@ -14,6 +16,16 @@ use Rattle.model.specs.Policy.{inBlock, inSlots}
 pub record FrameOf (sz : Sizes) (d : Directory) (f : ℕ) : Type 0 where
   pub sound : Sound sz d
   pub frame-lt : f < sz .B
+
+-- a directory of which only the order of use is known
+unfoldable pub orderAlone : List ℕ → Directory
+orderAlone l = record { slots = []; frames = []; valid = []; recency = l }
+
+-- frame f stands in the order
+pub record Listed (sz : Sizes) (l : List ℕ) (f : ℕ) : Type 0 where
+  pub limits : InLimits sz
+  pub long : length l ≡ 8
+  pub found : first (sz .B) (λ i. eqb (getD l i 0) f) < sz .B
 
 -- a sound directory and one of the chip's blocks
 pub record BlockOf (sz : Sizes) (d : Directory) (b : ℕ) : Type 0 where

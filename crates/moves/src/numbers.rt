@@ -7,40 +7,51 @@ use cache::VACANT;
 ghost use mathlib.Core.Path.{_≡_};
 ghost use Prim.Native.Nat.{_<_, _≤_, _+_, _*_};
 ghost use lib.Dec.{eqb};
+ghost use lib.ListN.{getD};
 ghost use Rattle.prelude.specs.Scan.{first};
 ghost use Rattle.model.specs.Sizes.{vacant, InLimits};
-ghost use Rattle.model.specs.Directory.{recencyAt};
-ghost use Rattle.model.specs.Moves.{touched, putSlot, vacated};
+ghost use Rattle.model.specs.Moves.{recencyAfter, touched, putSlot, vacated};
 ghost use Rattle.cache.specs.View.{sizesOf, directoryOf};
-ghost use Rattle.moves.specs.Numbers.{FrameOf, withFrame, offsetIn};
+ghost use Rattle.moves.specs.Numbers.{FrameOf, Listed, orderAlone, withFrame, offsetIn};
 
 // Frame f becomes most recent; those after it in the order move down by one.
 pub fn touched(z: Sizes, mut d: Directory, f: usize) -> Directory
     requires { ⌜ FrameOf (sizesOf z) (directoryOf d) f ⌝ }
     ensures { λ r. ⌜ directoryOf r ≡ touched (sizesOf z) (directoryOf d) f ⌝ }
 {
-    let last = z.frames as usize - 1;
-    let at = position(z, d, f);
-    let x = d.recency[at];
-    let mut j = at;
-    while j < last {
-        let y = d.recency[j + 1];
-        d.recency[j] = y;
-        j += 1;
-    }
-    d.recency[last] = x;
+    let before = d.recency;
+    let after = made_last(z, before, f);
+    d.recency = after;
     d
 }
 
+// The order of use with frame f last. The order alone, since a function that looks into the directory has it copied.
+fn made_last(z: Sizes, mut recency: [u8; 8], f: usize) -> [u8; 8]
+    requires { ⌜ Listed (sizesOf z) recency f ⌝ }
+    ensures { λ r. ⌜ r ≡ recencyAfter (sizesOf z) (orderAlone recency) f ⌝ }
+{
+    let last = z.frames as usize - 1;
+    let at = position(z, recency, f);
+    let x = recency[at];
+    let mut j = at;
+    while j < last {
+        let y = recency[j + 1];
+        recency[j] = y;
+        j += 1;
+    }
+    recency[last] = x;
+    recency
+}
+
 // Where frame f stands in the order, B where it does not.
-fn position(z: Sizes, d: Directory, f: usize) -> usize
+fn position(z: Sizes, recency: [u8; 8], f: usize) -> usize
     requires { ⌜ InLimits (sizesOf z) ⌝ }
-    ensures { λ r. ⌜ r ≡ first (z .frames) (λ i. eqb (recencyAt (directoryOf d) i) f) ⌝ }
+    ensures { λ r. ⌜ r ≡ first (z .frames) (λ i. eqb (getD recency i 0) f) ⌝ }
 {
     let end = z.frames as usize;
     let mut i = 0;
     while i < end {
-        if d.recency[i] as usize == f {
+        if recency[i] as usize == f {
             return i;
         }
         i += 1;

@@ -20,7 +20,8 @@ pub fn due(z: Sizes, d: Directory) -> Due
 {
     let f = oldest_occupied(z, d);
     if f < z.frames as usize {
-        let b = d.frames[f];
+        let frames = d.frames;
+        let b = frames[f];
         return Due::Block(b, f);
     }
     let b = lowest_in_slots(z, d);
@@ -36,10 +37,12 @@ pub fn oldest_occupied(z: Sizes, d: Directory) -> usize
     ensures { λ r. ⌜ r ≡ oldestOccupied (sizesOf z) (directoryOf d) ⌝ }
 {
     let end = z.frames as usize;
+    let recency = d.recency;
+    let frames = d.frames;
     let mut i = 0;
     while i < end {
-        let f = d.recency[i] as usize;
-        let b = d.frames[f];
+        let f = recency[i] as usize;
+        let b = frames[f];
         if b.0 < VACANT {
             return f;
         }
@@ -109,10 +112,11 @@ fn worn_in_frames(z: Sizes, d: Directory, wear: &[u32]) -> u32
     requires { ⌜ WithWear (sizesOf z) (directoryOf d) (now wear) ⌝ }
     ensures { λ r. ⌜ r ≡ wornInFrames (sizesOf z) (directoryOf d) (now (wear .entry)) ⌝ }
 {
+    let frames = d.frames;
     let mut low = z.blocks;
     let mut f = 0;
     while f < z.frames as usize {
-        let b = d.frames[f];
+        let b = frames[f];
         if b.0 < VACANT {
             if (b.0 < low) & is_worn(z, wear, b) {
                 low = b.0;

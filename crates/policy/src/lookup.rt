@@ -31,9 +31,10 @@ pub fn frame_of(z: Sizes, d: Directory, b: BlockNo) -> usize
     ensures { λ r. ⌜ r ≡ frameOf (sizesOf z) (directoryOf d) (b .0) ⌝ }
 {
     let end = z.frames as usize;
+    let frames = d.frames;
     let mut f = 0;
     while f < end {
-        let x = d.frames[f];
+        let x = frames[f];
         if x.0 == b.0 {
             return f;
         }
@@ -50,10 +51,12 @@ pub fn frame_with(z: Sizes, d: Directory, n: PageNo) -> usize
     let end = z.frames as usize;
     let b = address::block_of(n, z.pages_per_block);
     let o = address::offset_of(n, z.pages_per_block);
+    let frames = d.frames;
+    let valid = d.valid;
     let mut f = 0;
     while f < end {
-        let x = d.frames[f];
-        let v = d.valid[f];
+        let x = frames[f];
+        let v = valid[f];
         if (x.0 == b.0) & bitmap::has(v, o) {
             return f;
         }

@@ -47,10 +47,11 @@ pub fn fewest_valid(z: Sizes, d: Directory) -> u32
     requires { ⌜ Sound (sizesOf z) (directoryOf d) ⌝ }
     ensures { λ r. ⌜ r ≡ fewestValid (sizesOf z) (directoryOf d) ⌝ }
 {
+    let valid = d.valid;
     let mut fewest = z.pages_per_block + 1;
     let mut f = 0;
     while f < z.frames as usize {
-        let v = d.valid[f];
+        let v = valid[f];
         let n = bitmap::count(v);
         if n < fewest {
             fewest = n;
@@ -65,10 +66,12 @@ pub fn least_recent_with(z: Sizes, d: Directory, v: u32) -> usize
     requires { ⌜ SomeValid (sizesOf z) (directoryOf d) v ⌝ }
     ensures { λ r. ⌜ r ≡ leastRecent (sizesOf z) (directoryOf d) (λ f. eqb (validCount (sizesOf z) (directoryOf d) f) v) ⌝ }
 {
+    let recency = d.recency;
+    let valid = d.valid;
     let mut i = 0;
     while i < z.frames as usize {
-        let f = d.recency[i] as usize;
-        let x = d.valid[f];
+        let f = recency[i] as usize;
+        let x = valid[f];
         if bitmap::count(x) == v {
             return f;
         }

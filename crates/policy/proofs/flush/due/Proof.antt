@@ -19,25 +19,25 @@ cast-if1 c = search needs
 mul-b : tie.Need-mul-b
 mul-b c = search needs
 
-element-copy-out-b : tie.Need-element-copy-out-b
-element-copy-out-b c = search needs
+array-copy-out-b : tie.Need-array-copy-out-b
+array-copy-out-b c = search needs
 
 returns : tie.Need-returns
 returns c =
-    let a = c .before .before .before .before .args in let sz = sizesOf (a .z) in let d = directoryOf (a .t2) in let f = c .before .before .before .oldest-occupied .result in let e = c .before .before .before .oldest-occupied .ensures in
-    ap (λ (b : ℕ). due b f) (sym (frame-of (a .t2) f)) ∙ ap (λ (g : ℕ). due (frameAt d g) g) e ∙ sym (due-frame sz d (c .before .before .before .before .pre) (omega arith))
+    let a = c .before .before .before .before .before .args in let sz = sizesOf (a .z) in let d = directoryOf (a .d) in let f = c .before .before .before .before .oldest-occupied .result in let e = c .before .before .before .before .oldest-occupied .ensures in
+    ap (λ (b : ℕ). due b f) (sym (frame-of (a .d) f)) ∙ ap (λ (g : ℕ). due (frameAt d g) g) e ∙ sym (due-frame sz d (c .before .before .before .before .before .pre) (omega arith))
 
 lowest-in-slots-requires : tie.Need-lowest-in-slots-requires
 lowest-in-slots-requires c κs = search needs
 
 returns-2 : tie.Need-returns-2
 returns-2 c =
-    let a = c .before .before .before .before .before .before .args in let sz = sizesOf (a .z) in let d = directoryOf (a .t2) in let e = c .before .before .before .before .before .oldest-occupied .ensures in let b = c .before .before .lowest-in-slots .ensures in
+    let a = c .before .before .before .before .before .before .args in let sz = sizesOf (a .z) in let d = directoryOf (a .d) in let e = c .before .before .before .before .before .oldest-occupied .ensures in let b = c .before .before .lowest-in-slots .ensures in
     ap (λ (x : ℕ). due x 0) b ∙ sym (due-slots sz d (c .before .before .before .before .before .before .pre) (omega arith) (omega arith))
 
 returns-3 : tie.Need-returns-3
 returns-3 c =
-    let a = c .before .before .before .before .before .before .args in let sz = sizesOf (a .z) in let d = directoryOf (a .t2) in let e = c .before .before .before .before .before .oldest-occupied .ensures in let b = c .before .before .lowest-in-slots .ensures in
+    let a = c .before .before .before .before .before .before .args in let sz = sizesOf (a .z) in let d = directoryOf (a .d) in let e = c .before .before .before .before .before .oldest-occupied .ensures in let b = c .before .before .lowest-in-slots .ensures in
     sym (due-clean sz d (c .before .before .before .before .before .before .pre) (omega arith) (omega arith))
 
 pub due-spec : {M : Type 1} → statement M
@@ -47,7 +47,7 @@ due-spec =
     oldest-occupied-requires
     cast-if1
     mul-b
-    element-copy-out-b
+    array-copy-out-b
     returns
     lowest-in-slots-requires
     returns-2

@@ -1,5 +1,6 @@
 use borrow.Author.Needs.{needs}
 use native.Mathlib.Omega.{arith}
+use mathlib.Core.List.{[]}
 use mathlib.Core.Path.{_≡_, sym, _∙_}
 use Prim.Native.Nat.{ℕ, _-_, _≤_, _<_}
 use lib.ListN.{getD}
@@ -13,18 +14,19 @@ use Rattle.cache.specs.declared.Directory.{Directory}
 use Rattle.cache.specs.View.{blockNo, sizesOf, directoryOf}
 use Rattle.cache.proofs.View.{frame-of, recency-of}
 use Rattle.policy.proofs.Oldest.{oldest-at, oldest-none}
+use Rattle.policy.proofs.Alone.{alone}
 use Rattle.policy.proofs.flush.oldest_occupied.Statement.{statement}
 use Rattle.policy.proofs.flush.oldest_occupied.Tie as tie
 
 abbrev Inv-loop : tie.InvT-loop
-Inv-loop d end i₀ i = (i ≤ end) × Missed (λ j. occupied (directoryOf d) (recencyAt (directoryOf d) j)) i
+Inv-loop end recency frames i₀ i = (i ≤ end) × Missed (λ j. occupied (directoryOf (alone frames [] recency)) (recencyAt (directoryOf (alone frames [] recency)) j)) i
 
 abbrev μ-loop : tie.MeasureT-loop
-μ-loop d end i₀ i = end - i
+μ-loop end recency frames i₀ i = end - i
 
 -- the frame at hand
-frame-lt : (c : tie.After-f Inv-loop μ-loop) → recencyAt (directoryOf (c .before .before .before .before .args .t2)) (c .before .before .loop .i) < c .before .before .before .before .args .z .frames
-frame-lt c = c .before .before .before .before .pre .listed .recency-lt (c .before .before .loop .i) (omega arith)
+frame-lt : (c : tie.In-loop Inv-loop μ-loop) → recencyAt (directoryOf (c .before .before .before .before .before .args .d)) (c .before .loop .i) < c .before .before .before .before .before .args .z .frames
+frame-lt c = c .before .before .before .before .before .pre .listed .recency-lt (c .before .loop .i) (omega arith)
 
 -- its block, as code reads it
 block-read : (d : Directory) (i : ℕ) → frameAt (directoryOf d) (recencyAt (directoryOf d) i) ≡ getD (d .frames) (getD (d .recency) i 0) (blockNo 0) .0
@@ -36,24 +38,24 @@ cast-end c = search needs
 loop-holds : tie.Need-loop-holds Inv-loop μ-loop
 loop-holds c = (omega arith, below-none _)
 
-element-copy-out-f : tie.Need-element-copy-out-f Inv-loop μ-loop
-element-copy-out-f c = search needs
+array-read-f : tie.Need-array-read-f Inv-loop μ-loop
+array-read-f c = search needs
 
 cast-f : tie.Need-cast-f Inv-loop μ-loop
 cast-f c = search needs
 
 mul-b : tie.Need-mul-b Inv-loop μ-loop
-mul-b c = let k = frame-lt c in let e = recency-of (c .before .before .before .before .args .t2) (c .before .before .loop .i) in omega arith
+mul-b c = let k = frame-lt c in let e = recency-of (c .before .before .before .before .before .args .d) (c .before .loop .i) in omega arith
 
-element-copy-out-b : tie.Need-element-copy-out-b Inv-loop μ-loop
-element-copy-out-b c = let k = frame-lt c in let e = recency-of (c .before .before .before .before .args .t2) (c .before .before .loop .i) in omega arith
+array-copy-out-b : tie.Need-array-copy-out-b Inv-loop μ-loop
+array-copy-out-b c = let k = frame-lt c in let e = recency-of (c .before .before .before .before .before .args .d) (c .before .loop .i) in omega arith
 
 returns : tie.Need-returns Inv-loop μ-loop
-unfolding occupied
+unfolding occupied directoryOf
 returns c =
-    let l = c .before .before .before .before .before .loop in let a = c .before .before .before .before .before .before .before .args in let d = directoryOf (a .t2) in let x : ℕ = frameAt d (recencyAt d (l .i)) in
-    let e = block-read (a .t2) (l .i) in let t = c .if1 .taken in
-    sym (recency-of (a .t2) (l .i)) ∙ oldest-at (sizesOf (a .z)) d (c .before .before .before .before .before .before .before .pre) (l .i) (omega arith) (l .inv .1) (lt-ltb x vacant (omega arith))
+    let l = c .before .before .before .before .loop in let a = c .before .before .before .before .before .before .before .before .args in let d = directoryOf (a .d) in let x : ℕ = frameAt d (recencyAt d (l .i)) in
+    let e = block-read (a .d) (l .i) in let t = c .if1 .taken in
+    oldest-at (sizesOf (a .z)) d (c .before .before .before .before .before .before .before .before .pre) (l .i) (omega arith) (l .inv .1) (lt-ltb x vacant (omega arith))
 
 add-i : tie.Need-add-i Inv-loop μ-loop
 add-i c = search needs
@@ -62,16 +64,17 @@ loop-less : tie.Need-loop-less Inv-loop μ-loop
 loop-less c = search needs
 
 loop-again : tie.Need-loop-again Inv-loop μ-loop
-unfolding occupied
+unfolding occupied directoryOf
 loop-again c =
-    let l = c .before .before .before .before .before .loop in let a = c .before .before .before .before .before .before .before .args in let d = directoryOf (a .t2) in let x : ℕ = frameAt d (recencyAt d (l .i)) in
-    let e = block-read (a .t2) (l .i) in let t = c .if1 .left in
+    let l = c .before .before .before .before .loop in let a = c .before .before .before .before .before .before .before .before .args in let d = directoryOf (a .d) in let x : ℕ = frameAt d (recencyAt d (l .i)) in
+    let e = block-read (a .d) (l .i) in let t = c .if1 .left in
     (omega arith, below-more _ (l .i) (l .inv .1) (le-ltb x vacant (omega arith)))
 
 returns-2 : tie.Need-returns-2 Inv-loop μ-loop
+unfolding occupied directoryOf
 returns-2 c =
-    let l = c .before .loop in let a = c .before .before .before .args in let e : l .i ≡ a .z .frames = omega arith in
-    e ∙ oldest-none (sizesOf (a .z)) (directoryOf (a .t2)) (c .before .before .before .pre) (rw e at (l .inv .1))
+    let l = c .before .loop in let a = c .before .before .before .before .before .args in let e : l .i ≡ a .z .frames = omega arith in
+    e ∙ oldest-none (sizesOf (a .z)) (directoryOf (a .d)) (c .before .before .before .before .before .pre) (rw e at (l .inv .1))
 
 pub oldest-occupied-spec : {M : Type 1} → statement M
 oldest-occupied-spec =
@@ -81,10 +84,10 @@ oldest-occupied-spec =
     μ-loop
     cast-end
     loop-holds
-    element-copy-out-f
+    array-read-f
     cast-f
     mul-b
-    element-copy-out-b
+    array-copy-out-b
     returns
     add-i
     loop-less

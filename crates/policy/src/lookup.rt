@@ -3,7 +3,10 @@ use address::BlockNo;
 use address::PageNo;
 use cache::Directory;
 use cache::Sizes;
+use cache::VACANT;
 ghost use mathlib.Core.Path.{_≡_};
+ghost use Prim.Native.Nat.{_≤_};
+ghost use Rattle.model.specs.Sizes.{vacant};
 ghost use Rattle.model.specs.Soundness.{Sound};
 ghost use Rattle.model.specs.Policy.{slotOf, frameOf, frameWith};
 ghost use Rattle.cache.specs.View.{sizesOf, directoryOf};
@@ -23,6 +26,33 @@ pub fn slot_of(z: Sizes, d: Directory, n: PageNo) -> usize
         i += 1;
     }
     i
+}
+
+// Where page n is among the slots, and the first vacant slot where it is not there.
+pub struct Found {
+    pub at: usize,
+    pub free: usize,
+}
+
+// The slot of page n and the first vacant one, in one pass.
+pub fn find(z: Sizes, d: Directory, n: PageNo) -> Found
+    requires { ⌜ Sound (sizesOf z) (directoryOf d) ⌝ }
+    ensures { λ r. ⌜ (r .at ≡ slotOf (sizesOf z) (directoryOf d) (n .0)) × (z .slots ≤ r .at → r .free ≡ slotOf (sizesOf z) (directoryOf d) vacant) ⌝ }
+{
+    let end = z.slots as usize;
+    let mut free = end;
+    let mut i = 0;
+    while i < end {
+        let x = d.slots[i];
+        if x.0 == n.0 {
+            return Found { at: i, free };
+        }
+        if (free == end) & (x.0 == VACANT) {
+            free = i;
+        }
+        i += 1;
+    }
+    Found { at: i, free }
 }
 
 // The frame of block b; for VACANT, the first vacant frame.

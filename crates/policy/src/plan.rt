@@ -18,17 +18,16 @@ pub fn plan(z: Sizes, d: Directory, n: PageNo, wear: &[u32]) -> Plan
     requires { ⌜ Sound (sizesOf z) (directoryOf d) ⌝ }
     ensures { λ r. ⌜ planOf r ≡ plan leastRecent (sizesOf z) (directoryOf d) (now (wear .entry)) (n .0) ⌝ }
 {
-    let i = lookup::slot_of(z, d, n);
-    if i < z.slots as usize {
-        return Plan::SlotHit(i);
+    let slot = lookup::find(z, d, n);
+    if slot.at < z.slots as usize {
+        return Plan::SlotHit(slot.at);
     }
     let f = lookup::frame_with(z, d, n);
     if f < z.frames as usize {
         return Plan::FrameHit(f);
     }
-    let free = lookup::slot_of(z, d, PageNo(VACANT));
-    if free < z.slots as usize {
-        return Plan::FreeSlot(free);
+    if slot.free < z.slots as usize {
+        return Plan::FreeSlot(slot.free);
     }
     eviction_plan(z, d, wear)
 }

@@ -1,0 +1,62 @@
+use std::fmt;
+
+/// What an accepted call answers.
+#[derive(Clone, Copy, Debug, PartialEq, Eq)]
+pub enum Answer {
+    /// way 1 from a slot, 2 from a frame, 3 from flash
+    Read { way: u32 },
+    /// way 1 to 7, the block erased if any, and the merge reads
+    Write { way: u32, erased: Option<u32>, merged: u32 },
+    /// the block rewritten and its merge reads
+    Step { block: u32, merged: u32 },
+    /// a step that found nothing cached
+    Clean,
+    /// the blocks rewritten and the sum of their merge reads
+    Flush { rewrites: u32, merged: u32 },
+}
+
+/// Why a call is turned down, by document 01's words.
+#[derive(Clone, Copy, Debug, PartialEq, Eq)]
+pub enum Refusal {
+    /// 1, opening: a size or the wear limit is beyond its limits
+    Size,
+    /// 2: a lent buffer has another length than the sizes ask for
+    Buffer,
+    /// 3, opening: a wear entry is above the wear limit
+    Overworn,
+    /// 4: the record is not sound
+    Record,
+    /// 5: there is no such page
+    Page,
+    /// 6: a rewrite is due for this block, whose wear has reached the limit
+    Worn(u32),
+}
+
+impl Refusal {
+    /// Document 01's number.
+    pub fn number(self) -> u32 {
+        match self {
+            Refusal::Size => 1,
+            Refusal::Buffer => 2,
+            Refusal::Overworn => 3,
+            Refusal::Record => 4,
+            Refusal::Page => 5,
+            Refusal::Worn(_) => 6,
+        }
+    }
+}
+
+impl fmt::Display for Refusal {
+    fn fmt(&self, out: &mut fmt::Formatter) -> fmt::Result {
+        match self {
+            Refusal::Size => out.write_str("a size or the wear limit is beyond its limits"),
+            Refusal::Buffer => out.write_str("a lent buffer has another length than the sizes ask for"),
+            Refusal::Overworn => out.write_str("a wear entry is above the wear limit"),
+            Refusal::Record => out.write_str("the record is not sound"),
+            Refusal::Page => out.write_str("there is no such page"),
+            Refusal::Worn(block) => write!(out, "block {block} is worn"),
+        }
+    }
+}
+
+impl std::error::Error for Refusal {}

@@ -1,0 +1,137 @@
+//! The calls of the archive, as `include/clash.h` declares them. The one place with unsafe code: a slice crosses as its pointer
+//! and its length, and Rust's borrows say that the buffers do not overlap.
+use crate::{Answer, Buffers, Cache, Refusal, Sizes, VACANT};
+
+#[repr(C)]
+struct RawAnswer {
+    refusal: u32,
+    way: u32,
+    block: u32,
+    rewrites: u32,
+    merged: u32,
+}
+
+#[repr(C)]
+struct Reply {
+    cache: Cache,
+    answer: RawAnswer,
+}
+
+const _: () = assert!(std::mem::size_of::<RawAnswer>() == 20 && std::mem::size_of::<Reply>() == 664);
+
+#[rustfmt::skip]
+extern "C" {
+    fn clash_open(
+        sizes: Sizes, flash: *const u8, flash_bytes: usize, wear: *const u32, wear_count: usize,
+        pspace: *const u8, pspace_bytes: usize, bspace: *const u8, bspace_bytes: usize,
+    ) -> Reply;
+    fn clash_read(
+        cache: Cache, flash: *const u8, flash_bytes: usize, wear: *const u32, wear_count: usize,
+        pspace: *const u8, pspace_bytes: usize, bspace: *const u8, bspace_bytes: usize,
+        n: u32, page: *mut u8, page_bytes: usize,
+    ) -> Reply;
+    fn clash_write(
+        cache: Cache, flash: *mut u8, flash_bytes: usize, wear: *mut u32, wear_count: usize,
+        pspace: *mut u8, pspace_bytes: usize, bspace: *mut u8, bspace_bytes: usize,
+        n: u32, page: *const u8, page_bytes: usize,
+    ) -> Reply;
+    fn clash_step(
+        cache: Cache, flash: *mut u8, flash_bytes: usize, wear: *mut u32, wear_count: usize,
+        pspace: *const u8, pspace_bytes: usize, bspace: *mut u8, bspace_bytes: usize,
+    ) -> Reply;
+    fn clash_flush(
+        cache: Cache, flash: *mut u8, flash_bytes: usize, wear: *mut u32, wear_count: usize,
+        pspace: *const u8, pspace_bytes: usize, bspace: *mut u8, bspace_bytes: usize,
+    ) -> Reply;
+}
+
+/// The calls on the record itself, with whatever is lent: nothing is asserted, and what does not fit is refused.
+#[rustfmt::skip]
+impl Cache {
+    pub fn open(sizes: Sizes, lent: &Buffers) -> Result<Cache, Refusal> {
+        let reply = unsafe {
+            clash_open(
+                sizes, lent.flash.as_ptr(), lent.flash.len(), lent.wear.as_ptr(), lent.wear.len(),
+                lent.pspace.as_ptr(), lent.pspace.len(), lent.bspace.as_ptr(), lent.bspace.len(),
+            )
+        };
+        accepted(&reply.answer)?;
+        Ok(reply.cache)
+    }
+
+    /// Fills `page` with page `n`.
+    pub fn read(&mut self, lent: &Buffers, n: u32, page: &mut [u8]) -> Result<Answer, Refusal> {
+        let reply = unsafe {
+            clash_read(
+                *self, lent.flash.as_ptr(), lent.flash.len(), lent.wear.as_ptr(), lent.wear.len(),
+                lent.pspace.as_ptr(), lent.pspace.len(), lent.bspace.as_ptr(), lent.bspace.len(),
+                n, page.as_mut_ptr(), page.len(),
+            )
+        };
+        let a = self.next(&reply)?;
+        Ok(Answer::Read { way: a.way })
+    }
+
+    /// Stores `page` as page `n`.
+    pub fn write(&mut self, lent: &mut Buffers, n: u32, page: &[u8]) -> Result<Answer, Refusal> {
+        let reply = unsafe {
+            clash_write(
+                *self, lent.flash.as_mut_ptr(), lent.flash.len(), lent.wear.as_mut_ptr(), lent.wear.len(),
+                lent.pspace.as_mut_ptr(), lent.pspace.len(), lent.bspace.as_mut_ptr(), lent.bspace.len(),
+                n, page.as_ptr(), page.len(),
+            )
+        };
+        let a = self.next(&reply)?;
+        let erased = if a.block == VACANT { None } else { Some(a.block) };
+        Ok(Answer::Write { way: a.way, erased, merged: a.merged })
+    }
+
+    /// Rewrites one block that has pages cached.
+    pub fn step(&mut self, lent: &mut Buffers) -> Result<Answer, Refusal> {
+        let reply = unsafe {
+            clash_step(
+                *self, lent.flash.as_mut_ptr(), lent.flash.len(), lent.wear.as_mut_ptr(), lent.wear.len(),
+                lent.pspace.as_ptr(), lent.pspace.len(), lent.bspace.as_mut_ptr(), lent.bspace.len(),
+            )
+        };
+        let a = self.next(&reply)?;
+        if a.rewrites == 0 {
+            return Ok(Answer::Clean);
+        }
+        Ok(Answer::Step { block: a.block, merged: a.merged })
+    }
+
+    /// Rewrites every block that has pages cached, or none where one of them is worn.
+    pub fn flush(&mut self, lent: &mut Buffers) -> Result<Answer, Refusal> {
+        let reply = unsafe {
+            clash_flush(
+                *self, lent.flash.as_mut_ptr(), lent.flash.len(), lent.wear.as_mut_ptr(), lent.wear.len(),
+                lent.pspace.as_ptr(), lent.pspace.len(), lent.bspace.as_mut_ptr(), lent.bspace.len(),
+            )
+        };
+        let a = self.next(&reply)?;
+        Ok(Answer::Flush { rewrites: a.rewrites, merged: a.merged })
+    }
+
+    /// Takes the record of a reply, and gives the answer where the call was accepted.
+    #[inline]
+    fn next<'a>(&mut self, reply: &'a Reply) -> Result<&'a RawAnswer, Refusal> {
+        *self = reply.cache;
+        accepted(&reply.answer)?;
+        Ok(&reply.answer)
+    }
+}
+
+#[inline]
+fn accepted(a: &RawAnswer) -> Result<(), Refusal> {
+    match a.refusal {
+        0 => Ok(()),
+        1 => Err(Refusal::Size),
+        2 => Err(Refusal::Buffer),
+        3 => Err(Refusal::Overworn),
+        4 => Err(Refusal::Record),
+        5 => Err(Refusal::Page),
+        6 => Err(Refusal::Worn(a.block)),
+        other => unreachable!("the store has no refusal {other}"),
+    }
+}

@@ -1,0 +1,31 @@
+//! The proved page store for Rust programs: safe calls over the archive of the crate `clash_c`.
+//!
+//! [`Store`] is an open store: it keeps the record and is lent the buffers call by call ([`Buffers`]). Each call answers an
+//! [`Answer`], or the [`Refusal`] that document 01 names; a refused call changes nothing.
+//!
+//! In debug builds `Store` asserts that what is lent has the lengths that the sizes ask for, since a wrong length is a mistake of
+//! the program. In release builds, and always in the calls of the record itself ([`Cache`]), the store's own refusal 2 says so.
+//!
+//! ```
+//! use clash::{Answer, Memory, Sizes, Store};
+//!
+//! // 256 bytes a page, 16 pages a block, 64 blocks, 32 slots, 4 frames, at most 100,000 erasures of a block
+//! let sizes = Sizes::from([256, 16, 64, 32, 4, 100_000]);
+//! let mut memory = Memory::new(&sizes);
+//! let mut store = Store::open(sizes, &memory.lend())?;
+//! let mut page = [7; 256];
+//! store.write(&mut memory.lend(), 5, &page)?;
+//! assert_eq!(store.read(&memory.lend(), 5, &mut page)?, Answer::Read { way: 1 });
+//! assert_eq!(store.flush(&mut memory.lend())?, Answer::Flush { rewrites: 1, merged: 15 });
+//! # Ok::<(), clash::Refusal>(())
+//! ```
+mod answer;
+mod calls;
+mod memory;
+mod record;
+mod store;
+
+pub use answer::{Answer, Refusal};
+pub use memory::{Buffers, Memory};
+pub use record::{Cache, Directory, Sizes, VACANT};
+pub use store::Store;

@@ -1,0 +1,55 @@
+use crate::{Answer, Buffers, Cache, Refusal, Sizes};
+
+/// An open store. It keeps the record; the buffers are the caller's and are lent to each call.
+#[derive(Clone, Debug, PartialEq, Eq)]
+pub struct Store {
+    cache: Cache,
+}
+
+impl Store {
+    /// Opens a store of these sizes on the buffers lent. Changes no buffer.
+    pub fn open(sizes: Sizes, lent: &Buffers) -> Result<Store, Refusal> {
+        debug_assert!(!sizes.in_limits() || lent.fit(&sizes), "a lent buffer has another length than {sizes:?} ask for");
+        let cache = Cache::open(sizes, lent)?;
+        Ok(Store { cache })
+    }
+
+    /// Fills `page` with page `n`.
+    pub fn read(&mut self, lent: &Buffers, n: u32, page: &mut [u8]) -> Result<Answer, Refusal> {
+        self.expect(lent);
+        self.expect_page(page);
+        self.cache.read(lent, n, page)
+    }
+
+    /// Stores `page` as page `n`.
+    pub fn write(&mut self, lent: &mut Buffers, n: u32, page: &[u8]) -> Result<Answer, Refusal> {
+        self.expect(lent);
+        self.expect_page(page);
+        self.cache.write(lent, n, page)
+    }
+
+    /// Rewrites one block that has pages cached.
+    pub fn step(&mut self, lent: &mut Buffers) -> Result<Answer, Refusal> {
+        self.expect(lent);
+        self.cache.step(lent)
+    }
+
+    /// Rewrites every block that has pages cached, or none where one of them is worn.
+    pub fn flush(&mut self, lent: &mut Buffers) -> Result<Answer, Refusal> {
+        self.expect(lent);
+        self.cache.flush(lent)
+    }
+
+    /// The record, for who wants to look at it or to call it directly.
+    pub fn record(&self) -> &Cache {
+        &self.cache
+    }
+
+    fn expect(&self, lent: &Buffers) {
+        debug_assert!(lent.fit(&self.cache.sizes), "a lent buffer has another length than {:?} ask for", self.cache.sizes);
+    }
+
+    fn expect_page(&self, page: &[u8]) {
+        debug_assert_eq!(page.len(), self.cache.sizes.page_size as usize, "the page buffer has another length than a page");
+    }
+}

@@ -1,0 +1,165 @@
+//! Each refusal of document 01, and that it changes nothing. Wrong lengths go through the record's own calls, which assert nothing.
+use clash::{Answer, Cache, Memory, Refusal, Sizes, Store};
+
+const SIZES: [u32; 6] = [2, 4, 3, 3, 1, 9];
+
+fn opened() -> (Cache, Memory) {
+    let sizes = Sizes::from(SIZES);
+    let mut memory = Memory::new(&sizes);
+    let cache = Cache::open(sizes, &memory.lend()).unwrap();
+    (cache, memory)
+}
+
+/// Slots 9, 4, 8 and the frame of block 0 with page 0.
+fn filled() -> (Cache, Memory) {
+    let (mut cache, mut memory) = opened();
+    for n in [0, 4, 8, 9] {
+        cache.write(&mut memory.lend(), n, &[n as u8, 7]).unwrap();
+    }
+    (cache, memory)
+}
+
+/// Each call but an opening is refused so, and leaves record, buffers and page as they were.
+fn all_refused(mut cache: Cache, mut memory: Memory, n: u32, len: usize, why: Refusal) {
+    let before = (cache, memory.clone());
+    let mut page = vec![77; len];
+    assert_eq!(cache.read(&memory.lend(), n, &mut page), Err(why));
+    assert_eq!(page, vec![77; len]);
+    assert_eq!(cache.write(&mut memory.lend(), n, &page), Err(why));
+    if !matches!(why, Refusal::Page) && len == 2 {
+        assert_eq!(cache.step(&mut memory.lend()), Err(why));
+        assert_eq!(cache.flush(&mut memory.lend()), Err(why));
+    }
+    assert_eq!((cache, memory), before);
+}
+
+#[test]
+fn size() {
+    let limits = [(1, 2048), (2, 64), (1, 4096), (1, 128), (1, 8), (1, 1_000_000)];
+    for (i, (low, high)) in limits.into_iter().enumerate() {
+        for wrong in [low - 1, high + 1, u32::MAX] {
+            let mut sizes = SIZES;
+            sizes[i] = wrong;
+            assert_eq!(Store::open(Sizes::from(sizes), &Memory::default().lend()), Err(Refusal::Size));
+        }
+        for right in [low, high] {
+            let mut sizes = SIZES;
+            sizes[i] = right;
+            let sizes = Sizes::from(sizes);
+            assert!(Store::open(sizes, &Memory::new(&sizes).lend()).is_ok());
+        }
+    }
+}
+
+#[test]
+fn buffer() {
+    let shorten: [fn(&mut Memory); 4] =
+        [|m| m.flash.truncate(23), |m| m.wear.truncate(2), |m| m.pspace.truncate(5), |m| m.bspace.truncate(7)];
+    let lengthen: [fn(&mut Memory); 4] = [|m| m.flash.push(0), |m| m.wear.push(0), |m| m.pspace.push(0), |m| m.bspace.push(0)];
+    for spoil in shorten.into_iter().chain(lengthen) {
+        let (cache, mut memory) = filled();
+        spoil(&mut memory);
+        assert_eq!(Cache::open(Sizes::from(SIZES), &memory.lend()), Err(Refusal::Buffer));
+        all_refused(cache, memory, 0, 2, Refusal::Buffer);
+    }
+    for len in [0, 1, 3, 4096] {
+        let (cache, memory) = filled();
+        all_refused(cache, memory, 0, len, Refusal::Buffer);
+    }
+}
+
+#[test]
+fn overworn() {
+    let (_, mut memory) = opened();
+    memory.wear[2] = 9;
+    assert!(Store::open(Sizes::from(SIZES), &memory.lend()).is_ok());
+    memory.wear[2] = 10;
+    assert_eq!(Store::open(Sizes::from(SIZES), &memory.lend()), Err(Refusal::Overworn));
+}
+
+#[test]
+fn record() {
+    all_refused(Cache::blank(), Memory::default(), 0, 2, Refusal::Record);
+    let spoils: [fn(&mut Cache); 12] = [
+        |c| c.sizes.page_size = 0,
+        |c| c.sizes.frames = 9,
+        |c| c.sizes.slots = 2,
+        |c| c.directory.slots[0] = 12,
+        |c| c.directory.slots[0] = 4,
+        |c| c.directory.slots[0] = 0,
+        |c| c.directory.slots[127] = 1,
+        |c| c.directory.frames[0] = 3,
+        |c| c.directory.frames[1] = 1,
+        |c| c.directory.valid[0] = 0,
+        |c| c.directory.valid[0] = 16,
+        |c| c.directory.recency[0] = 1,
+    ];
+    for spoil in spoils {
+        let (mut cache, memory) = filled();
+        spoil(&mut cache);
+        all_refused(cache, memory, 0, 2, Refusal::Record);
+    }
+}
+
+#[test]
+fn page() {
+    for n in [12, 13, u32::MAX] {
+        let (cache, memory) = filled();
+        all_refused(cache, memory, n, 2, Refusal::Page);
+    }
+    let (mut cache, mut memory) = filled();
+    assert_eq!(cache.read(&memory.lend(), 11, &mut [0, 0]), Ok(Answer::Read { way: 3 }));
+}
+
+#[test]
+fn worn() {
+    let (mut cache, mut memory) = filled();
+    cache.write(&mut memory.lend(), 5, &[1, 2]).unwrap();
+    assert_eq!(cache.directory.frames[0], 2);
+    memory.wear[2] = 9;
+    let before = (cache, memory.clone());
+    assert_eq!(cache.write(&mut memory.lend(), 6, &[3, 4]), Err(Refusal::Worn(2)));
+    assert_eq!(cache.step(&mut memory.lend()), Err(Refusal::Worn(2)));
+    assert_eq!(cache.flush(&mut memory.lend()), Err(Refusal::Worn(2)));
+    assert_eq!((cache, memory.clone()), before);
+    memory.wear[0] = 9;
+    assert_eq!(cache.flush(&mut memory.lend()), Err(Refusal::Worn(0)));
+    memory.wear = vec![8; 3];
+    assert_eq!(cache.flush(&mut memory.lend()), Ok(Answer::Flush { rewrites: 3, merged: 7 }));
+}
+
+#[test]
+fn numbers_are_document_01s() {
+    let all = [Refusal::Size, Refusal::Buffer, Refusal::Overworn, Refusal::Record, Refusal::Page, Refusal::Worn(3)];
+    assert_eq!(all.map(Refusal::number), [1, 2, 3, 4, 5, 6]);
+}
+
+#[cfg(debug_assertions)]
+mod debug_builds_assert {
+    use super::*;
+
+    #[test]
+    #[should_panic(expected = "a lent buffer has another length")]
+    fn lent_buffers() {
+        let (_, mut memory) = opened();
+        let mut store = Store::open(Sizes::from(SIZES), &memory.lend()).unwrap();
+        memory.pspace.push(0);
+        let _ = store.step(&mut memory.lend());
+    }
+
+    #[test]
+    #[should_panic(expected = "the page buffer has another length")]
+    fn the_page() {
+        let (_, mut memory) = opened();
+        let mut store = Store::open(Sizes::from(SIZES), &memory.lend()).unwrap();
+        let _ = store.write(&mut memory.lend(), 0, &[1]);
+    }
+}
+
+#[cfg(not(debug_assertions))]
+#[test]
+fn release_builds_refuse() {
+    let (_, mut memory) = opened();
+    let mut store = Store::open(Sizes::from(SIZES), &memory.lend()).unwrap();
+    assert_eq!(store.write(&mut memory.lend(), 0, &[1]), Err(Refusal::Buffer));
+}

@@ -1,0 +1,99 @@
+//! The replay driver: reads a script of the line protocol from standard input, carries each line out on the store and prints what
+//! the protocol asks. `forms` has the tables of what a line may say, with the release from which each is in force.
+mod crc32;
+mod forms;
+mod perform;
+mod print;
+
+use std::io::{self, BufWriter, Read, Write};
+
+/// How many of document 02's requests are in force.
+const RELEASE: u32 = 0;
+
+/// Whether what request `since` brings, or the base where it is 0, is in force.
+fn in_force(since: u32) -> bool {
+    (0..=RELEASE).contains(&since)
+}
+
+fn main() -> io::Result<()> {
+    let mut script = Vec::new();
+    io::stdin().lock().read_to_end(&mut script)?;
+    let mut out = BufWriter::new(io::stdout().lock());
+    let mut state = perform::State::new();
+    for (i, line) in lines(&script).enumerate() {
+        if let Some(text) = answer(&mut state, line, i + 1) {
+            writeln!(out, "{text}")?;
+        }
+    }
+    out.flush()
+}
+
+/// The lines of a script. The last may lack its byte 10, and nothing after a final byte 10 is a line.
+fn lines(script: &[u8]) -> impl Iterator<Item = &[u8]> {
+    let text = script.strip_suffix(b"\n").unwrap_or(script);
+    let count = if script.is_empty() { 0 } else { usize::MAX };
+    text.split(|&byte| byte == b'\n').take(count)
+}
+
+fn answer(state: &mut perform::State, line: &[u8], number: usize) -> Option<String> {
+    let reply = match forms::parse(line) {
+        Some((word, form)) => state.perform(form).map(|said| print::said(word, &said, state)),
+        None => Err(perform::Bad),
+    };
+    reply.unwrap_or_else(|perform::Bad| Some(format!("(bad {number})")))
+}
+
+#[cfg(test)]
+mod tests {
+    use super::*;
+
+    fn replay(script: &str) -> Vec<String> {
+        let mut state = perform::State::new();
+        lines(script.as_bytes()).enumerate().filter_map(|(i, line)| answer(&mut state, line, i + 1)).collect()
+    }
+
+    #[test]
+    fn a_script_has_as_many_lines_as_ends() {
+        assert_eq!(lines(b"").count(), 0);
+        assert_eq!(lines(b"\n").count(), 1);
+        assert_eq!(lines(b"(step)").count(), 1);
+        assert_eq!(lines(b"(step)\n\n(flush)\n").count(), 3);
+    }
+
+    #[test]
+    fn answers() {
+        let script = "(open 1 2 3 2 1 9 0 0 0 0)\n(write 0 10)\n(write 2 20)\n(write 4 30)\n(write 3 40)\n(read 2)\n(writelen 0 0 2)\n\
+                      (step)\n(flush)\n(step)\n(read 6)\n(setwear 0 9)\n(write 0 1)\n(step)\n(spoil s 0 0)\n(readlen 0 1)\n";
+        let said = [
+            "(open (done))",
+            "(write (way 3) (erased none) (merged 0))",
+            "(write (way 3) (erased none) (merged 0))",
+            "(write (way 5) (erased none) (merged 0))",
+            "(write (way 7) (erased 0) (merged 1))",
+            "(read (way 2) (page c8d83bf0))",
+            "(writelen (refused 2))",
+            "(step (block 1) (merged 0))",
+            "(flush (rewrites 1) (merged 1))",
+            "(step clean)",
+            "(read (refused 5))",
+            "(write (way 3) (erased none) (merged 0))",
+            "(step (refused 6 0))",
+            "(readlen (refused 4))",
+        ];
+        assert_eq!(replay(script), said);
+    }
+
+    #[test]
+    fn bad_lines_say_their_number() {
+        let script = "(step)\n\n(step )\n(flip flash 0 0)\n(open 2048 64 4096 1 1 1 0 0 0 0)\n(open 2048 64 4096 1 1 0 0 0 0 0)";
+        assert_eq!(replay(script), ["(step (refused 4))", "(bad 2)", "(bad 3)", "(bad 4)", "(bad 5)", "(open (refused 1))"]);
+    }
+
+    #[test]
+    fn the_dump_before_an_opening() {
+        let said = replay("(dump)").concat();
+        assert!(said.starts_with("(dump (sizes 0 0 0 0 0 0) (places 4294967295 "), "{said}");
+        let end = "(valid 0 0 0 0 0 0 0 0) (order 0 1 2 3 4 5 6 7) (flash 00000000) (wear) (pspace 00000000) (bspace 00000000))";
+        assert!(said.ends_with(end), "{said}");
+    }
+}

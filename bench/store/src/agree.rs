@@ -1,0 +1,145 @@
+//! Both stores on the same random histories: after each call the answers, the records, all buffers and the page must be equal. Some
+//! calls get a record with an entry spoilt, a buffer of another length or a page that is not there.
+use crate::plain::Plain;
+use crate::random::Random;
+use clash::{Answer, Cache, Memory, Refusal, Sizes};
+
+const HISTORIES: u32 = 800;
+const CALLS: u32 = 400;
+
+/// One store with all that it is lent.
+#[derive(Clone, PartialEq, Debug)]
+struct Side {
+    cache: Cache,
+    memory: Memory,
+    page: Vec<u8>,
+}
+
+/// What occurred, so that it can be said what was compared.
+#[derive(Default)]
+struct Tally {
+    calls: u32,
+    reads: [u32; 3],
+    writes: [u32; 7],
+    rewrites: u32,
+    refused: [u32; 6],
+}
+
+pub fn agree(random: &mut Random) {
+    let mut tally = Tally::default();
+    for _ in 0..HISTORIES {
+        history(random, &mut tally);
+    }
+    let Tally { calls, reads, writes, rewrites, refused } = tally;
+    assert!(reads.iter().chain(&writes).chain(&refused).all(|&count| count > 40), "{reads:?} {writes:?} {refused:?}");
+    println!("{calls} calls in {HISTORIES} random histories: answers, records and buffers of both stores are equal after each.");
+    println!("reads by way {reads:?}, writes by way {writes:?}, {rewrites} rewrites by steps and flushes, refusals 1 to 6 {refused:?}\n");
+}
+
+fn history(random: &mut Random, tally: &mut Tally) {
+    let Some(mut proved) = opened(random, tally) else { return };
+    for _ in 0..CALLS {
+        let before = proved.clone();
+        let spoilt = random.one_in(30);
+        if spoilt {
+            spoil(random, &mut proved);
+        }
+        let mut plain = proved.clone();
+        let (kind, n) = (random.below(40), random.below(proved.cache.sizes.pages().saturating_add(1).max(1)));
+        let answer = call(kind, n, &mut proved, Side::proved);
+        assert_eq!(answer, call(kind, n, &mut plain, Side::plain));
+        assert_eq!(proved, plain);
+        tally.count(answer);
+        if spoilt {
+            proved = before;
+        }
+    }
+}
+
+fn opened(random: &mut Random, tally: &mut Tally) -> Option<Side> {
+    let limit = 1 + random.below(60);
+    let mut sizes = [1 + random.below(20), 2 + random.below(8), 1 + random.below(10), 1 + random.below(12), 1 + random.below(4), limit];
+    let mut memory = Memory::new(&Sizes::from(sizes));
+    memory.flash = random.bytes(memory.flash.len());
+    match random.below(6) {
+        0 => sizes[random.below(6) as usize] = random.of(&[0, 1, 9, 65, 129, 2049, 4097, 1_000_001, u32::MAX]),
+        1 => memory.wear[0] = limit + random.below(2),
+        2 => memory.wear.iter_mut().for_each(|worn| *worn = random.below(limit + 1)),
+        _ => {}
+    }
+    let sizes = Sizes::from(sizes);
+    let cache = Cache::open(sizes, &memory.lend());
+    assert_eq!(cache, Plain::open(sizes, &memory.lend()).map(|plain| plain.0));
+    tally.calls += 1;
+    match cache {
+        Ok(cache) => Some(Side { cache, memory, page: random.bytes(sizes.page_size as usize) }),
+        Err(why) => {
+            tally.refused[why.number() as usize - 1] += 1;
+            None
+        }
+    }
+}
+
+fn spoil(random: &mut Random, side: &mut Side) {
+    let (d, m, f) = (&mut side.cache.directory, &mut side.memory, random.below(8) as usize);
+    match random.below(12) {
+        0 => d.slots[random.below(128) as usize] = random.below(100),
+        1 => d.slots[random.below(12) as usize] = d.slots[random.below(12) as usize],
+        2 => d.frames[f] = random.below(12),
+        3 => d.valid[f] ^= 1 << random.below(64),
+        4 => d.recency.swap(f, random.below(8) as usize),
+        5 => side.cache.sizes.pages_per_block += 1,
+        6 => side.cache.sizes.slots = random.below(140),
+        7 => m.flash.push(0),
+        8 => m.wear.push(0),
+        9 => m.pspace.push(0),
+        10 => m.bspace.push(0),
+        _ => side.page.push(0),
+    }
+}
+
+type Calls = fn(&mut Side, u32, u32) -> Result<Answer, Refusal>;
+
+fn call(kind: u32, n: u32, side: &mut Side, on: Calls) -> Result<Answer, Refusal> {
+    side.page.iter_mut().enumerate().for_each(|(i, byte)| *byte = byte.wrapping_add(i as u8 * 3 + 1));
+    on(side, kind, n)
+}
+
+impl Side {
+    fn proved(&mut self, kind: u32, n: u32) -> Result<Answer, Refusal> {
+        let mut lent = self.memory.lend();
+        match kind {
+            0 => self.cache.flush(&mut lent),
+            1 => self.cache.step(&mut lent),
+            2..=12 => self.cache.read(&lent, n, &mut self.page),
+            _ => self.cache.write(&mut lent, n, &self.page),
+        }
+    }
+
+    fn plain(&mut self, kind: u32, n: u32) -> Result<Answer, Refusal> {
+        let mut lent = self.memory.lend();
+        let mut plain = Plain(self.cache);
+        let answer = match kind {
+            0 => plain.flush(&mut lent),
+            1 => plain.step(&mut lent),
+            2..=12 => plain.read(&lent, n, &mut self.page),
+            _ => plain.write(&mut lent, n, &self.page),
+        };
+        self.cache = plain.0;
+        answer
+    }
+}
+
+impl Tally {
+    fn count(&mut self, answer: Result<Answer, Refusal>) {
+        self.calls += 1;
+        match answer {
+            Ok(Answer::Read { way }) => self.reads[way as usize - 1] += 1,
+            Ok(Answer::Write { way, .. }) => self.writes[way as usize - 1] += 1,
+            Ok(Answer::Step { .. }) => self.rewrites += 1,
+            Ok(Answer::Flush { rewrites, .. }) => self.rewrites += rewrites,
+            Ok(Answer::Clean) => {}
+            Err(why) => self.refused[why.number() as usize - 1] += 1,
+        }
+    }
+}

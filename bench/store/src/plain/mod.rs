@@ -1,0 +1,145 @@
+//! A plain Rust store of document 01, with the same checks: what the proved one is measured beside. The record is changed in place.
+mod chip;
+mod flush;
+mod room;
+mod sound;
+
+use clash::{Answer, Buffers, Cache, Refusal, Sizes, VACANT};
+
+#[repr(transparent)]
+#[derive(Clone, Copy, Debug)]
+pub struct Plain(pub Cache);
+
+impl Plain {
+    pub fn open(sizes: Sizes, lent: &Buffers) -> Result<Plain, Refusal> {
+        if !sizes.in_limits() {
+            return Err(Refusal::Size);
+        }
+        if !lent.fit(&sizes) {
+            return Err(Refusal::Buffer);
+        }
+        if lent.wear.iter().any(|&worn| worn > sizes.wear_limit) {
+            return Err(Refusal::Overworn);
+        }
+        Ok(Plain(Cache { sizes, ..Cache::blank() }))
+    }
+
+    #[inline(never)]
+    pub fn sound(&self) -> bool {
+        sound::sound(&self.0)
+    }
+
+    #[inline(never)]
+    pub fn read(&mut self, lent: &Buffers, n: u32, page: &mut [u8]) -> Result<Answer, Refusal> {
+        self.check(lent)?;
+        self.check_page(n, page.len())?;
+        let s = page.len();
+        if let Some(i) = self.slot_of(n) {
+            page.copy_from_slice(page_at(lent.pspace, i, s));
+            return Ok(Answer::Read { way: 1 });
+        }
+        if let Some((f, at)) = self.frame_with(n) {
+            page.copy_from_slice(page_at(lent.bspace, at, s));
+            self.touch(f);
+            return Ok(Answer::Read { way: 2 });
+        }
+        page.copy_from_slice(page_at(lent.flash, n as usize, s));
+        Ok(Answer::Read { way: 3 })
+    }
+
+    #[inline(never)]
+    pub fn write(&mut self, lent: &mut Buffers, n: u32, page: &[u8]) -> Result<Answer, Refusal> {
+        self.check(lent)?;
+        self.check_page(n, page.len())?;
+        let s = page.len();
+        if let Some(i) = self.slot_of(n) {
+            page_at_mut(lent.pspace, i, s).copy_from_slice(page);
+            return Ok(Answer::Write { way: 1, erased: None, merged: 0 });
+        }
+        if let Some((f, at)) = self.frame_with(n) {
+            page_at_mut(lent.bspace, at, s).copy_from_slice(page);
+            self.touch(f);
+            return Ok(Answer::Write { way: 2, erased: None, merged: 0 });
+        }
+        if let Some(i) = self.slot_of(VACANT) {
+            self.enter(lent, i, n, page);
+            return Ok(Answer::Write { way: 3, erased: None, merged: 0 });
+        }
+        let answer = self.make_room(lent)?;
+        let i = self.slot_of(VACANT).expect("room was made");
+        self.enter(lent, i, n, page);
+        Ok(answer)
+    }
+
+    fn check(&self, lent: &Buffers) -> Result<(), Refusal> {
+        if !sound::sound(&self.0) {
+            return Err(Refusal::Record);
+        }
+        if !lent.fit(&self.0.sizes) {
+            return Err(Refusal::Buffer);
+        }
+        Ok(())
+    }
+
+    fn check_page(&self, n: u32, len: usize) -> Result<(), Refusal> {
+        if len != self.0.sizes.page_size as usize {
+            return Err(Refusal::Buffer);
+        }
+        if n >= self.0.sizes.pages() {
+            return Err(Refusal::Page);
+        }
+        Ok(())
+    }
+
+    /// The slots in use.
+    fn slots(&self) -> &[u32] {
+        &self.0.directory.slots[..self.0.sizes.slots as usize]
+    }
+
+    fn frames(&self) -> &[u32] {
+        &self.0.directory.frames[..self.0.sizes.frames as usize]
+    }
+
+    /// The frames by their use, least recent first.
+    fn by_use(&self) -> &[u8] {
+        &self.0.directory.recency[..self.0.sizes.frames as usize]
+    }
+
+    fn slot_of(&self, n: u32) -> Option<usize> {
+        self.slots().iter().position(|&x| x == n)
+    }
+
+    fn frame_of(&self, block: u32) -> Option<usize> {
+        self.frames().iter().position(|&x| x == block)
+    }
+
+    /// The frame that has page n valid, and the page's place in b-space.
+    fn frame_with(&self, n: u32) -> Option<(usize, usize)> {
+        let k = self.0.sizes.pages_per_block;
+        let (block, offset) = (n / k, n % k);
+        let f = self.frame_of(block)?;
+        let valid = self.0.directory.valid[f] >> offset & 1 == 1;
+        valid.then_some((f, f * k as usize + offset as usize))
+    }
+
+    /// Frame f becomes most recent.
+    fn touch(&mut self, f: usize) {
+        let b = self.0.sizes.frames as usize;
+        let order = &mut self.0.directory.recency[..b];
+        let at = order.iter().position(|&x| x as usize == f).expect("the order lists each frame");
+        order[at..].rotate_left(1);
+    }
+
+    fn enter(&mut self, lent: &mut Buffers, i: usize, n: u32, page: &[u8]) {
+        page_at_mut(lent.pspace, i, page.len()).copy_from_slice(page);
+        self.0.directory.slots[i] = n;
+    }
+}
+
+fn page_at(bytes: &[u8], i: usize, s: usize) -> &[u8] {
+    &bytes[i * s..(i + 1) * s]
+}
+
+fn page_at_mut(bytes: &mut [u8], i: usize, s: usize) -> &mut [u8] {
+    &mut bytes[i * s..(i + 1) * s]
+}

@@ -1,0 +1,114 @@
+//! Ways 4 to 7 of a write: the pages of the victim block leave the slots.
+use super::{chip, page_at, page_at_mut, Plain};
+use clash::{Answer, Buffers, Refusal, VACANT};
+
+impl Plain {
+    /// Vacates the slots of the block with the most pages there.
+    pub(super) fn make_room(&mut self, lent: &mut Buffers) -> Result<Answer, Refusal> {
+        let (victim, pages) = self.victim();
+        let (way, f) = self.frame_for(victim, pages);
+        let (mut erased, mut merged) = (None, 0);
+        match way {
+            4 | 5 => self.join(lent, victim, f),
+            6 => self.exchange(lent, victim, f),
+            _ => {
+                let block = self.0.directory.frames[f];
+                merged = chip::rewrite(&self.0, lent, block, f)?;
+                erased = Some(block);
+                self.vacate(f);
+                self.join(lent, victim, f);
+            }
+        }
+        self.touch(f);
+        Ok(Answer::Write { way, erased, merged })
+    }
+
+    /// The block with the most pages in slots, the lowest among equals, and how many. All slots are in use.
+    fn victim(&self) -> (u32, u32) {
+        let k = self.0.sizes.pages_per_block;
+        let mut counts = [0u8; 4096];
+        let (mut best, mut most) = (0, 0);
+        for &n in self.slots() {
+            let block = n / k;
+            let count = &mut counts[block as usize];
+            *count += 1;
+            if *count > most || (*count == most && block < best) {
+                (best, most) = (block, *count);
+            }
+        }
+        (best, most as u32)
+    }
+
+    /// The way, and the frame that takes the victim's pages.
+    fn frame_for(&self, victim: u32, pages: u32) -> (u32, usize) {
+        if let Some(f) = self.frame_of(victim) {
+            return (4, f);
+        }
+        if let Some(f) = self.frame_of(VACANT) {
+            return (5, f);
+        }
+        let count = |f: usize| self.0.directory.valid[f].count_ones();
+        // the first of equals is the least recent
+        let fewest = self.by_use().iter().map(|&f| f as usize).min_by_key(|&f| count(f));
+        match fewest {
+            Some(f) if count(f) < pages => (6, f),
+            _ => (7, self.0.directory.recency[0] as usize),
+        }
+    }
+
+    /// The pages of a block in slots go into frame f, which is the block's or vacant.
+    pub(super) fn join(&mut self, lent: &mut Buffers, block: u32, f: usize) {
+        let (s, k, p) = (self.0.sizes.page_size as usize, self.0.sizes.pages_per_block, self.0.sizes.slots as usize);
+        let stretch = page_at_mut(lent.bspace, f, k as usize * s);
+        let d = &mut self.0.directory;
+        for (i, n) in d.slots[..p].iter_mut().enumerate() {
+            let offset = n.wrapping_sub(block * k);
+            if offset < k {
+                page_at_mut(stretch, offset as usize, s).copy_from_slice(page_at(lent.pspace, i, s));
+                d.valid[f] |= 1 << offset;
+                *n = VACANT;
+            }
+        }
+        d.frames[f] = block;
+    }
+
+    /// They change places with the old pages of frame f: where offsets meet the bytes are exchanged, the other victims are copied in,
+    /// and the other old pages go to the slots so vacated.
+    fn exchange(&mut self, lent: &mut Buffers, block: u32, f: usize) {
+        let (s, k, p) = (self.0.sizes.page_size as usize, self.0.sizes.pages_per_block, self.0.sizes.slots as usize);
+        let stretch = page_at_mut(lent.bspace, f, k as usize * s);
+        let d = &mut self.0.directory;
+        let (first, old) = (d.frames[f] * k, d.valid[f]);
+        let (mut new, mut vacated) = (0u64, 0u128);
+        for (i, n) in d.slots[..p].iter_mut().enumerate() {
+            let offset = n.wrapping_sub(block * k);
+            if offset >= k {
+                continue;
+            }
+            new |= 1 << offset;
+            let (page, slot) = (page_at_mut(stretch, offset as usize, s), page_at_mut(lent.pspace, i, s));
+            if old >> offset & 1 == 1 {
+                page.swap_with_slice(slot);
+                *n = first + offset;
+            } else {
+                page.copy_from_slice(slot);
+                *n = VACANT;
+                vacated |= 1 << i;
+            }
+        }
+        (d.frames[f], d.valid[f]) = (block, new);
+        let mut left = old & !new;
+        while left != 0 && vacated != 0 {
+            let (offset, i) = (left.trailing_zeros(), vacated.trailing_zeros() as usize);
+            page_at_mut(lent.pspace, i, s).copy_from_slice(page_at(stretch, offset as usize, s));
+            d.slots[i] = first + offset;
+            left &= left - 1;
+            vacated &= vacated - 1;
+        }
+    }
+
+    pub(super) fn vacate(&mut self, f: usize) {
+        self.0.directory.frames[f] = VACANT;
+        self.0.directory.valid[f] = 0;
+    }
+}

@@ -9,6 +9,7 @@ mod timing;
 
 use clash::Sizes;
 use random::Random;
+use rows::{Bench, Row};
 
 /// S, K, N, P, B and the wear limit.
 const SIZES: [[u32; 6]; 3] = [[2048, 64, 64, 128, 8, 1_000_000], [256, 16, 256, 32, 4, 1_000_000], [16, 64, 4096, 128, 8, 1_000_000]];
@@ -19,11 +20,13 @@ const MIDDLE: [u32; 6] = [256, 16, 256, 32, 4, 1_000_000];
 fn main() {
     let mut random = Random(88172645463325252);
     agree::agree(&mut random);
-    println!("Both sides use the same buffers, which were filled before and are not cleared between calls. Medians, ns for one call.");
+    println!("Median ns for one call. The sides use the same buffers, which are filled before and not cleared between calls.");
+    println!("Plain Rust changes the record in place; \"by value\" takes it and hands it back, as the proved calls do.");
     for sizes in SIZES {
         table(&mut random, sizes);
     }
-    println!("\nHow the cost grows, from S=256 K=16 N=256 P=32 B=4: proved ns / plain ns");
+    println!("\nHow the cost grows from S=256 K=16 N=256 P=32 B=4: proved / plain in place");
+    println!("{:8}{:>15}{:>15}{:>15}{:>15}{:>15}{:>15}", "", "soundness", "read 3", "write 3", "write 4", "write 7", "step");
     grow(&mut random, "P", 3, [8, 32, 128]);
     grow(&mut random, "K", 1, [4, 16, 64]);
     grow(&mut random, "S", 0, [16, 256, 2048]);
@@ -31,19 +34,27 @@ fn main() {
 
 fn table(random: &mut Random, sizes: [u32; 6]) {
     let [s, k, n, p, b, _] = sizes;
+    let mut bench = Bench::new(random, Sizes::from(sizes));
     println!("\nS={s} K={k} N={n} P={p} B={b}");
-    println!("{:34} {:>10} {:>10} {:>7}", "call", "proved", "plain", "ratio");
-    for row in rows::all(random, Sizes::from(sizes)) {
-        println!("{:34} {:10.0} {:10.0} {:7.2}", row.name, row.times.proved, row.times.plain, row.times.ratio());
-    }
+    println!("{:26}{:>10}{:>10}{:>8}{:>10}{:>8}", "call", "proved", "in place", "ratio", "by value", "ratio");
+    line(bench.sound());
+    (1..=3).for_each(|way| line(bench.read(way)));
+    (1..=7).for_each(|way| line(bench.write(way)));
+    line(bench.step());
+    line(bench.flush());
+}
+
+fn line(Row { name, times: t }: Row) {
+    println!("{name:26}{:10.0}{:10.0}{:8.2}{:10.0}{:8.2}", t.proved, t.plain, t.proved / t.plain, t.by_value, t.proved / t.by_value);
 }
 
 fn grow(random: &mut Random, word: &str, which: usize, values: [u32; 3]) {
     for value in values {
         let mut sizes = MIDDLE;
         sizes[which] = value;
-        let some = rows::some(random, Sizes::from(sizes));
-        let cells: Vec<String> = some.iter().map(|row| format!("{} {:.0} / {:.0}", row.name, row.times.proved, row.times.plain)).collect();
-        println!("{word}={value:<5} {}", cells.join("   "));
+        let mut bench = Bench::new(random, Sizes::from(sizes));
+        let rows = [bench.sound(), bench.read(3), bench.write(3), bench.write(4), bench.write(7), bench.step()];
+        let cells = rows.map(|row| format!("{:>15}", format!("{:.0} / {:.0}", row.times.proved, row.times.plain)));
+        println!("{:8}{}", format!("{word}={value}"), cells.concat());
     }
 }

@@ -2,8 +2,8 @@
 use crate::cases::{cases, Case, Cases};
 use crate::plain::Plain;
 use crate::random::Random;
-use crate::timing::{measure, Times};
-use clash::{Answer, Cache, Memory, Sizes};
+use crate::timing::{measure, Sides, Times};
+use clash::{Answer, Cache, Memory, Refusal, Sizes};
 use std::time::Duration;
 
 pub struct Row {
@@ -12,135 +12,126 @@ pub struct Row {
 }
 
 /// What a call is lent.
-struct Lent {
+pub struct Lent {
     memory: Memory,
     page: Vec<u8>,
 }
 
-const TIME: Duration = Duration::from_millis(400);
+/// What is timed at some sizes.
+pub struct Bench {
+    cases: Cases,
+    lent: Lent,
+}
+
+type Calls = Sides<Lent, Result<Answer, Refusal>>;
+
+const TIME: Duration = Duration::from_millis(500);
 
 extern "C" {
     fn record_sound(cache: Cache) -> bool;
 }
 
-/// Every call and way.
-pub fn all(random: &mut Random, sizes: Sizes) -> Vec<Row> {
-    let cases = cases(random, sizes);
-    let mut lent = lent(random, &sizes);
-    let mut rows = vec![sound(&cases, &mut lent)];
-    for way in 1..=3 {
-        rows.push(read(&cases, way, &mut lent));
-    }
-    for way in 1..=7 {
-        rows.push(write(&cases, way, &mut lent));
-    }
-    rows.push(step(&cases, &mut lent));
-    rows.push(flush(&cases, &mut lent));
-    rows
-}
+const SOUND: Sides<Lent, bool> =
+    Sides { proved: |c, _, _| unsafe { record_sound(*c) }, plain: |c, _, _| c.sound(), by_value: |c, _, _| c.sound_by_value() };
 
-/// The rows that show how the cost grows.
-pub fn some(random: &mut Random, sizes: Sizes) -> Vec<Row> {
-    let cases = cases(random, sizes);
-    let mut lent = lent(random, &sizes);
-    vec![
-        sound(&cases, &mut lent),
-        read(&cases, 3, &mut lent),
-        write(&cases, 3, &mut lent),
-        write(&cases, 4, &mut lent),
-        write(&cases, 7, &mut lent),
-        step(&cases, &mut lent),
-    ]
-}
+const READ: Calls = Sides {
+    proved: |c, n, l| c.read(&l.memory.lend(), n, &mut l.page),
+    plain: |c, n, l| c.read(&l.memory.lend(), n, &mut l.page),
+    by_value: |c, n, l| {
+        let (next, answer) = c.read_by_value(&l.memory.lend(), n, &mut l.page);
+        *c = next;
+        answer
+    },
+};
 
-fn lent(random: &mut Random, sizes: &Sizes) -> Lent {
-    let mut memory = Memory::new(sizes);
-    for bytes in [&mut memory.flash, &mut memory.pspace, &mut memory.bspace] {
-        bytes.iter_mut().for_each(|byte| *byte = random.below(256) as u8);
-    }
-    Lent { memory, page: random.bytes(sizes.page_size as usize) }
-}
+const WRITE: Calls = Sides {
+    proved: |c, n, l| c.write(&mut l.memory.lend(), n, &l.page),
+    plain: |c, n, l| c.write(&mut l.memory.lend(), n, &l.page),
+    by_value: |c, n, l| {
+        let (next, answer) = c.write_by_value(&mut l.memory.lend(), n, &l.page);
+        *c = next;
+        answer
+    },
+};
 
-fn sound(cases: &Cases, lent: &mut Lent) -> Row {
-    let times = measure(&cases.writes[6], lent, TIME, |c, _, _| unsafe { record_sound(*c) }, |c, _, _| c.sound());
-    Row { name: "soundness alone".into(), times }
-}
+const STEP: Calls = Sides {
+    proved: |c, _, l| c.step(&mut l.memory.lend()),
+    plain: |c, _, l| c.step(&mut l.memory.lend()),
+    by_value: |c, _, l| {
+        let (next, answer) = c.step_by_value(&mut l.memory.lend());
+        *c = next;
+        answer
+    },
+};
 
-fn read(cases: &Cases, way: u32, lent: &mut Lent) -> Row {
-    let cases = &cases.reads[way as usize - 1];
-    same(cases, lent, proved_read, plain_read, |answer| answer == Answer::Read { way });
-    Row { name: format!("read {way}"), times: measure(cases, lent, TIME, proved_read, plain_read) }
-}
+const FLUSH: Calls = Sides {
+    proved: |c, _, l| c.flush(&mut l.memory.lend()),
+    plain: |c, _, l| c.flush(&mut l.memory.lend()),
+    by_value: |c, _, l| {
+        let (next, answer) = c.flush_by_value(&mut l.memory.lend());
+        *c = next;
+        answer
+    },
+};
 
-fn write(cases: &Cases, way: u32, lent: &mut Lent) -> Row {
-    let cases = &cases.writes[way as usize - 1];
-    same(cases, lent, proved_write, plain_write, |answer| matches!(answer, Answer::Write { way: gone, .. } if gone == way));
-    Row { name: format!("write {way}"), times: measure(cases, lent, TIME, proved_write, plain_write) }
-}
-
-fn step(cases: &Cases, lent: &mut Lent) -> Row {
-    let cases = &cases.writes[6];
-    same(cases, lent, proved_step, plain_step, |answer| matches!(answer, Answer::Step { .. }));
-    Row { name: "step".into(), times: measure(cases, lent, TIME, proved_step, plain_step) }
-}
-
-/// A few cases do: a flush is long.
-fn flush(cases: &Cases, lent: &mut Lent) -> Row {
-    let cases = &cases.writes[6][..4];
-    let mut blocks = Vec::new();
-    same(cases, lent, proved_flush, plain_flush, |answer| match answer {
-        Answer::Flush { rewrites, .. } => {
-            blocks.push(rewrites);
-            true
+impl Bench {
+    pub fn new(random: &mut Random, sizes: Sizes) -> Bench {
+        let mut memory = Memory::new(&sizes);
+        for bytes in [&mut memory.flash, &mut memory.pspace, &mut memory.bspace] {
+            bytes.iter_mut().for_each(|byte| *byte = random.below(256) as u8);
         }
-        _ => false,
-    });
-    let (least, most) = (blocks.iter().min().unwrap_or(&0), blocks.iter().max().unwrap_or(&0));
-    Row { name: format!("flush of {least} to {most} blocks"), times: measure(cases, lent, TIME, proved_flush, plain_flush) }
+        let page = random.bytes(sizes.page_size as usize);
+        Bench { cases: cases(random, sizes), lent: Lent { memory, page } }
+    }
+
+    pub fn sound(&mut self) -> Row {
+        Row { name: "soundness alone".into(), times: measure(&self.cases.writes[6], &mut self.lent, TIME, &SOUND) }
+    }
+
+    pub fn read(&mut self, way: u32) -> Row {
+        let cases = &self.cases.reads[way as usize - 1];
+        same(cases, &mut self.lent, &READ, |answer| answer == Answer::Read { way });
+        Row { name: format!("read {way}"), times: measure(cases, &mut self.lent, TIME, &READ) }
+    }
+
+    pub fn write(&mut self, way: u32) -> Row {
+        let cases = &self.cases.writes[way as usize - 1];
+        same(cases, &mut self.lent, &WRITE, |answer| matches!(answer, Answer::Write { way: gone, .. } if gone == way));
+        Row { name: format!("write {way}"), times: measure(cases, &mut self.lent, TIME, &WRITE) }
+    }
+
+    pub fn step(&mut self) -> Row {
+        let cases = &self.cases.writes[6];
+        same(cases, &mut self.lent, &STEP, |answer| matches!(answer, Answer::Step { .. }));
+        Row { name: "step".into(), times: measure(cases, &mut self.lent, TIME, &STEP) }
+    }
+
+    /// A few cases do: a flush is long.
+    pub fn flush(&mut self) -> Row {
+        let cases = &self.cases.writes[6][..4];
+        let mut blocks = Vec::new();
+        same(cases, &mut self.lent, &FLUSH, |answer| match answer {
+            Answer::Flush { rewrites, .. } => {
+                blocks.push(rewrites);
+                true
+            }
+            _ => false,
+        });
+        blocks.sort();
+        let name = format!("flush of {} to {} blocks", blocks[0], blocks[blocks.len() - 1]);
+        Row { name, times: measure(cases, &mut self.lent, TIME, &FLUSH) }
+    }
 }
 
-/// Both sides answer as wanted and leave the same record. Buffers are compared on the random histories before.
-fn same(cases: &[Case], lent: &mut Lent, proved: Call<Cache>, plain: Call<Plain>, mut wanted: impl FnMut(Answer) -> bool) {
+/// The sides answer as wanted and leave the same record. Buffers are compared on the random histories before.
+fn same(cases: &[Case], lent: &mut Lent, sides: &Calls, mut wanted: impl FnMut(Answer) -> bool) {
     lent.memory.wear.fill(0);
     for case in cases {
-        let (mut a, mut b) = (case.record, Plain(case.record));
-        let answer = proved(&mut a, case.n, lent);
-        assert_eq!(answer, plain(&mut b, case.n, lent));
-        assert_eq!(a, b.0);
-        assert!(wanted(answer));
+        let (mut a, mut b, mut c) = (case.record, Plain(case.record), Plain(case.record));
+        let answer = (sides.proved)(&mut a, case.n, lent);
+        assert_eq!(answer, (sides.plain)(&mut b, case.n, lent));
+        assert_eq!(answer, (sides.by_value)(&mut c, case.n, lent));
+        assert!(a == b.0 && a == c.0);
+        assert!(answer.is_ok_and(&mut wanted));
     }
-}
-
-type Call<R> = fn(&mut R, u32, &mut Lent) -> Answer;
-
-fn proved_read(c: &mut Cache, n: u32, lent: &mut Lent) -> Answer {
-    c.read(&lent.memory.lend(), n, &mut lent.page).expect("accepted")
-}
-
-fn plain_read(c: &mut Plain, n: u32, lent: &mut Lent) -> Answer {
-    c.read(&lent.memory.lend(), n, &mut lent.page).expect("accepted")
-}
-
-fn proved_write(c: &mut Cache, n: u32, lent: &mut Lent) -> Answer {
-    c.write(&mut lent.memory.lend(), n, &lent.page).expect("accepted")
-}
-
-fn plain_write(c: &mut Plain, n: u32, lent: &mut Lent) -> Answer {
-    c.write(&mut lent.memory.lend(), n, &lent.page).expect("accepted")
-}
-
-fn proved_step(c: &mut Cache, _: u32, lent: &mut Lent) -> Answer {
-    c.step(&mut lent.memory.lend()).expect("accepted")
-}
-
-fn plain_step(c: &mut Plain, _: u32, lent: &mut Lent) -> Answer {
-    c.step(&mut lent.memory.lend()).expect("accepted")
-}
-
-fn proved_flush(c: &mut Cache, _: u32, lent: &mut Lent) -> Answer {
-    c.flush(&mut lent.memory.lend()).expect("accepted")
-}
-
-fn plain_flush(c: &mut Plain, _: u32, lent: &mut Lent) -> Answer {
-    c.flush(&mut lent.memory.lend()).expect("accepted")
 }

@@ -1,40 +1,39 @@
-//! Times both sides in turn on the same cases and the same buffers.
+//! Times the sides in turn on the same cases and the same buffers.
 use crate::cases::Case;
 use crate::plain::Plain;
 use clash::Cache;
 use std::hint::black_box;
 use std::time::{Duration, Instant};
 
-/// The median time of one call on each side, in nanoseconds.
+/// The median time of one call, in nanoseconds.
 pub struct Times {
     pub proved: f64,
+    /// with the record changed in place
     pub plain: f64,
+    /// with the record taken and handed back
+    pub by_value: f64,
 }
 
-impl Times {
-    pub fn ratio(&self) -> f64 {
-        self.proved / self.plain
-    }
+/// One call on each side.
+pub struct Sides<L, T> {
+    pub proved: fn(&mut Cache, u32, &mut L) -> T,
+    pub plain: fn(&mut Plain, u32, &mut L) -> T,
+    pub by_value: fn(&mut Plain, u32, &mut L) -> T,
 }
 
 /// Passes over the cases, the sides in turn, until the time is up. What a pass without calls takes is subtracted.
-pub fn measure<L, T>(
-    cases: &[Case],
-    lent: &mut L,
-    time: Duration,
-    proved: impl Fn(&mut Cache, u32, &mut L) -> T,
-    plain: impl Fn(&mut Plain, u32, &mut L) -> T,
-) -> Times {
-    let plain_cases: Vec<Case<Plain>> = cases.iter().map(|case| Case { record: Plain(case.record), n: case.n }).collect();
-    let (mut a, mut b, mut none) = (Vec::new(), Vec::new(), Vec::new());
+pub fn measure<L, T>(cases: &[Case], lent: &mut L, time: Duration, sides: &Sides<L, T>) -> Times {
+    let plain: Vec<Case<Plain>> = cases.iter().map(|case| Case { record: Plain(case.record), n: case.n }).collect();
+    let mut times: [Vec<f64>; 4] = Default::default();
     let start = Instant::now();
-    while a.len() < 15 || start.elapsed() < time {
-        none.push(pass(cases, lent, |_, _, _| ()));
-        a.push(pass(cases, lent, &proved));
-        b.push(pass(&plain_cases, lent, &plain));
+    while times[0].len() < 15 || start.elapsed() < time {
+        times[0].push(pass(cases, lent, |_, _, _| ()));
+        times[1].push(pass(cases, lent, sides.proved));
+        times[2].push(pass(&plain, lent, sides.plain));
+        times[3].push(pass(&plain, lent, sides.by_value));
     }
-    let idle = median(none);
-    Times { proved: median(a) - idle, plain: median(b) - idle }
+    let [idle, proved, plain, by_value] = times.map(median);
+    Times { proved: proved - idle, plain: plain - idle, by_value: by_value - idle }
 }
 
 /// The time of one call, over a pass. It works on fresh copies of the records, made before its time starts.

@@ -1,4 +1,5 @@
 //! A plain Rust store of document 01, with the same checks: what the proved one is measured beside. The record is changed in place.
+mod by_value;
 mod chip;
 mod flush;
 mod room;

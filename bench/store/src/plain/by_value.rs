@@ -1,0 +1,36 @@
+//! The same calls with the record by value, as document 01 has it: taken, and handed back beside the answer.
+use super::Plain;
+use clash::{Answer, Buffers, Refusal};
+
+pub type Outcome = (Plain, Result<Answer, Refusal>);
+
+impl Plain {
+    #[inline(never)]
+    pub fn sound_by_value(self) -> bool {
+        self.sound()
+    }
+
+    #[inline(never)]
+    pub fn read_by_value(mut self, lent: &Buffers, n: u32, page: &mut [u8]) -> Outcome {
+        let answer = self.read(lent, n, page);
+        (self, answer)
+    }
+
+    #[inline(never)]
+    pub fn write_by_value(mut self, lent: &mut Buffers, n: u32, page: &[u8]) -> Outcome {
+        let answer = self.write(lent, n, page);
+        (self, answer)
+    }
+
+    #[inline(never)]
+    pub fn step_by_value(mut self, lent: &mut Buffers) -> Outcome {
+        let answer = self.step(lent);
+        (self, answer)
+    }
+
+    #[inline(never)]
+    pub fn flush_by_value(mut self, lent: &mut Buffers) -> Outcome {
+        let answer = self.flush(lent);
+        (self, answer)
+    }
+}

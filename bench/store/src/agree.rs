@@ -143,3 +143,11 @@ impl Tally {
         }
     }
 }
+
+#[cfg(test)]
+mod tests {
+    #[test]
+    fn both_stores_agree_on_random_histories() {
+        super::agree(&mut super::Random(1));
+    }
+}

@@ -37,6 +37,7 @@ fn table(random: &mut Random, sizes: [u32; 6]) {
     let mut bench = Bench::new(random, Sizes::from(sizes));
     println!("\nS={s} K={k} N={n} P={p} B={b}");
     println!("{:26}{:>10}{:>10}{:>8}{:>10}{:>8}", "call", "proved", "in place", "ratio", "by value", "ratio");
+    line(bench.refused());
     line(bench.sound());
     (1..=3).for_each(|way| line(bench.read(way)));
     (1..=7).for_each(|way| line(bench.write(way)));

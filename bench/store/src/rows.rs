@@ -1,5 +1,5 @@
 //! The rows of the table: which call is timed on which cases.
-use crate::cases::{cases, Case, Cases};
+use crate::cases::{cases, Case, Cases, CASES};
 use crate::plain::Plain;
 use crate::random::Random;
 use crate::timing::{measure, Sides, Times};
@@ -86,6 +86,13 @@ impl Bench {
 
     pub fn sound(&mut self) -> Row {
         Row { name: "soundness alone".into(), times: measure(&self.cases.writes[6], &mut self.lent, TIME, &SOUND) }
+    }
+
+    /// A read that is refused for its record at once: what it costs to call.
+    pub fn refused(&mut self) -> Row {
+        let cases = [Case { record: Cache::blank(), n: 0 }; CASES];
+        assert_eq!((READ.proved)(&mut Cache::blank(), 0, &mut self.lent), Err(Refusal::Record));
+        Row { name: "refused 4, blank record".into(), times: measure(&cases, &mut self.lent, TIME, &READ) }
     }
 
     pub fn read(&mut self, way: u32) -> Row {

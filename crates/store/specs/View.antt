@@ -7,7 +7,10 @@ use Rattle.model.specs.Sizes as sizes
 use Rattle.model.specs.Directory as directory
 use Rattle.model.specs.Calls as calls
 use Rattle.model.specs.Calls.{Buffers, Page}
+use Rattle.cache.specs.declared.Sizes.{Sizes}
+use Rattle.cache.specs.declared.Directory.{Directory}
 use Rattle.cache.specs.View.{sizesOf, directoryOf}
+use Rattle.writes.specs.declared.Written.{Written}
 use Rattle.answer.specs.Numbers.{openingOf, readOf, writeOf, stepOf, flushOf}
 use Rattle.store.specs.declared.Cache.{Cache}
 use Rattle.store.specs.declared.Opened.{Opened}
@@ -26,9 +29,17 @@ openedOf r = record { answer = openingOf (r .answer); cache = cacheOf (r .cache)
 abbrev pub storeOf : Cache → Buffers → calls.Store
 storeOf c u = record { cache = cacheOf c; lent = u }
 
+-- the same of sizes and directory
+abbrev pub storeWith : Sizes → Directory → Buffers → calls.Store
+storeWith z d u = record { cache = record { sizes = sizesOf z; directory = directoryOf d }; lent = u }
+
 -- the answer, the record handed back, the buffers u and the page buffer
 abbrev pub readResult : ReadOut → Buffers → Page → calls.Result
 readResult r u page = record { answer = readOf (r .answer); store = storeOf (r .cache) u; page = page }
+
+-- the same of what is handed up to the call: the directory without the sizes z
+abbrev pub wroteResult : Sizes → Written → Buffers → Page → calls.Result
+wroteResult z r u page = record { answer = writeOf (r .answer); store = storeWith z (r .directory) u; page = page }
 
 abbrev pub writeResult : WriteOut → Buffers → Page → calls.Result
 writeResult r u page = record { answer = writeOf (r .answer); store = storeOf (r .cache) u; page = page }

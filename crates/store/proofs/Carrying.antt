@@ -3,14 +3,15 @@ use mathlib.Core.Path.{_≡_, refl, sym, ap, _∙_}
 use mathlib.Core.Bool.{Bool, true, false, cond}
 use mathlib.Core.List.{[]}
 use Prim.Native.Nat.{ℕ, _*_, _≤_, _<_}
+use lib.Dec.{eqb}
 use lib.ListN.{length}
 use borrow.Author.Tests.{eq-eqb, ne-eqb, lt-ltb, le-ltb}
 use Rattle.prelude.proofs.Tests.{by-test}
 use Rattle.model.specs.Sizes.{Sizes, vacant}
 use Rattle.model.specs.Directory.{Directory}
 use Rattle.model.specs.Soundness.{sound}
-use Rattle.model.specs.Policy.{Choice, leastRecent, plan, dueOf}
-use Rattle.model.specs.Moves.{Memory}
+use Rattle.model.specs.Policy.{Choice, leastRecent, readWay, plan, dueOf}
+use Rattle.model.specs.Moves.{Memory, touched, readDirectory}
 use Rattle.model.specs.Calls.{Answer, readDone, refused, isRefused, Call, read, write, step, flush, State, Outcome, turnedDown, checked, readOutcome, writeOutcome, stepOutcome, flushOutcome, decide, callPages, Page, Buffers, lentOk, Fits, Store, zeroPage, memoryOf, buffersOf, stateOf, told, lentBuffer, filledBuffer, unaltered, carriedOut, call}
 use Rattle.model.proofs.Demand3.{decide-keeps}
 use Rattle.model.proofs.Buffers.{buffers-of-memory, fits-of}
@@ -21,6 +22,14 @@ use Rattle.reads.specs.declared.Done.{Done}
 use Rattle.reads.specs.Reads.{Readable, ReadOut}
 use Rattle.writes.specs.Writes.{Writable, Wrote}
 use Rattle.flushes.specs.Flushes.{StepCarried, FlushCarried}
+
+-- a read changes no more than the order of use
+pub order-alone : (sz : Sizes) (d m : Directory) (n : ℕ) → m ≡ readDirectory sz d n → record { slots = d .slots; frames = d .frames; valid = d .valid; recency = m .recency } ≡ m
+unfolding readDirectory touched
+order-alone sz d m n e =
+    let keep : Directory → Directory = λ x. record { slots = d .slots; frames = d .frames; valid = d .valid; recency = x .recency } in
+    let kept : keep (readDirectory sz d n) ≡ readDirectory sz d n = by-test (eqb (readWay sz d n) 2) (λ t. rw (t, readDirectory)) (λ t. rw (t, readDirectory)) in
+    ap keep e ∙ kept ∙ sym e
 
 module _ (pick : Choice) (s : Store) (c : Call Page) where
   abbrev sz : Sizes

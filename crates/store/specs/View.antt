@@ -1,6 +1,6 @@
 -- The record, the lent buffers and what a call hands back, as the model has them.
 use mathlib.Core.Bool.{Bool, _&&_}
-use mathlib.Core.List.{[]}
+use mathlib.Core.List.{List, []}
 use Prim.Native.Nat.{ℕ, _*_}
 use lib.Dec.{eqb}
 use Rattle.model.specs.Sizes as sizes
@@ -15,6 +15,7 @@ use Rattle.answer.specs.Numbers.{openingOf, readOf, writeOf, stepOf, flushOf}
 use Rattle.store.specs.declared.Cache.{Cache}
 use Rattle.store.specs.declared.Opened.{Opened}
 use Rattle.store.specs.declared.ReadOut.{ReadOut}
+use Rattle.store.specs.declared.read.Seen.{Seen}
 use Rattle.store.specs.declared.WriteOut.{WriteOut}
 use Rattle.store.specs.declared.StepOut.{StepOut}
 use Rattle.store.specs.declared.FlushOut.{FlushOut}
@@ -34,6 +35,13 @@ abbrev pub storeWith : Sizes → Directory → Buffers → calls.Store
 storeWith z d u = record { cache = record { sizes = sizesOf z; directory = directoryOf d }; lent = u }
 
 -- the answer, the record handed back, the buffers u and the page buffer
+-- the same of what is handed up to the call: the order of use that directory d then has, without the sizes z
+abbrev pub withRecency : Directory → List ℕ → Directory
+withRecency d l = record { slots = d .slots; frames = d .frames; valid = d .valid; recency = l }
+
+abbrev pub seenResult : Sizes → Directory → Seen → Buffers → Page → calls.Result
+seenResult z d r u page = record { answer = readOf (r .answer); store = storeWith z (withRecency d (r .recency)) u; page = page }
+
 abbrev pub readResult : ReadOut → Buffers → Page → calls.Result
 readResult r u page = record { answer = readOf (r .answer); store = storeOf (r .cache) u; page = page }
 

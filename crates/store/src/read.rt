@@ -5,12 +5,14 @@ use crate::lent;
 use address::PageNo;
 use answer::Read;
 use answer::Refusal;
+use cache::Directory;
+use cache::Sizes;
 ghost use mathlib.Core.Path.{_≡_};
 ghost use Rattle.model.specs.Policy.{leastRecent};
 ghost use Rattle.model.specs.Calls.{read, call};
 ghost use Rattle.answer.specs.Carried.{buffers};
 ghost use Rattle.answer.specs.declared.Read.the-variants.{Refused};
-ghost use Rattle.store.specs.View.{storeOf, readResult};
+ghost use Rattle.store.specs.View.{storeOf, storeWith, seenResult, readResult};
 
 impl Cache {
     // Reads page n into the page buffer. Nothing but the page buffer changes, and, where the page is in a frame, the order of
@@ -27,37 +29,68 @@ impl Cache {
         ensures { λ r. ⌜ readResult r (buffers (now (flash .entry)) (now (wear .entry)) (now (pspace .entry)) (now (bspace .entry))) (now (page .exit)) ≡ call leastRecent (storeOf self (buffers (now (flash .entry)) (now (wear .entry)) (now (pspace .entry)) (now (bspace .entry)))) (read (n .0) (now (page .entry))) ⌝ }
     {
         let z = self.sizes;
-        let d = self.directory;
-        if !d.sound(z) {
-            return refused(self, Refusal::Record);
-        }
-        if !lent::lengths_ok(z, flash.len(), wear.len(), pspace.len(), bspace.len()) {
-            return refused(self, Refusal::Buffer);
-        }
-        if page.len() != z.page_size as usize {
-            return refused(self, Refusal::Buffer);
-        }
-        if z.blocks * z.pages_per_block <= n.0 {
-            return refused(self, Refusal::Page);
-        }
-        let r = reads::read(z, d, flash, pspace, bspace, n, page);
-        let next = r.directory;
+        let mut d = self.directory;
+        let r = attempt(z, d, flash, wear, pspace, bspace, n, page);
+        let recency = r.recency;
+        let answer = r.answer;
+        d.recency = recency;
         ReadOut {
             cache: Cache {
                 sizes: z,
-                directory: next,
+                directory: d,
             },
-            answer: Read::Done { way: r.way },
+            answer: answer,
         }
     }
 }
 
-// The record handed back unaltered.
-fn refused(c: Cache, why: Refusal) -> ReadOut
-    ensures { λ r. ⌜ r ≡ record { cache = c; answer = Refused why } ⌝ }
+// What a read answers, and the order of use, which is all of the record that it changes.
+struct Seen {
+    recency: [u8; 8],
+    answer: Read,
+}
+
+// The checks, and the read.
+fn attempt(
+    z: Sizes,
+    d: Directory,
+    flash: &[u8],
+    wear: &[u32],
+    pspace: &[u8],
+    bspace: &[u8],
+    n: PageNo,
+    page: &mut [u8],
+) -> Seen
+    ensures { λ r. ⌜ seenResult z d r (buffers (now (flash .entry)) (now (wear .entry)) (now (pspace .entry)) (now (bspace .entry))) (now (page .exit)) ≡ call leastRecent (storeWith z d (buffers (now (flash .entry)) (now (wear .entry)) (now (pspace .entry)) (now (bspace .entry)))) (read (n .0) (now (page .entry))) ⌝ }
 {
-    ReadOut {
-        cache: c,
+    let before = d.recency;
+    if !d.sound(z) {
+        return refused(before, Refusal::Record);
+    }
+    if !lent::lengths_ok(z, flash.len(), wear.len(), pspace.len(), bspace.len()) {
+        return refused(before, Refusal::Buffer);
+    }
+    if page.len() != z.page_size as usize {
+        return refused(before, Refusal::Buffer);
+    }
+    if z.blocks * z.pages_per_block <= n.0 {
+        return refused(before, Refusal::Page);
+    }
+    let r = reads::read(z, d, flash, pspace, bspace, n, page);
+    let next = r.directory;
+    let recency = next.recency;
+    Seen {
+        recency: recency,
+        answer: Read::Done { way: r.way },
+    }
+}
+
+// The order of use handed back unaltered.
+fn refused(recency: [u8; 8], why: Refusal) -> Seen
+    ensures { λ r. ⌜ r ≡ record { recency = recency; answer = Refused why } ⌝ }
+{
+    Seen {
+        recency: recency,
         answer: Read::Refused(why),
     }
 }

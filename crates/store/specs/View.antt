@@ -11,6 +11,8 @@ use Rattle.cache.specs.declared.Sizes.{Sizes}
 use Rattle.cache.specs.declared.Directory.{Directory}
 use Rattle.cache.specs.View.{sizesOf, directoryOf}
 use Rattle.writes.specs.declared.Written.{Written}
+use Rattle.flushes.specs.declared.Stepped.{Stepped}
+use Rattle.flushes.specs.declared.Flushed.{Flushed}
 use Rattle.answer.specs.Numbers.{openingOf, readOf, writeOf, stepOf, flushOf}
 use Rattle.store.specs.declared.Cache.{Cache}
 use Rattle.store.specs.declared.Opened.{Opened}
@@ -53,6 +55,12 @@ abbrev pub writeResult : WriteOut → Buffers → Page → calls.Result
 writeResult r u page = record { answer = writeOf (r .answer); store = storeOf (r .cache) u; page = page }
 
 -- a flush step and a flush have no page buffer
+abbrev pub steppedResult : Sizes → Stepped → Buffers → calls.Result
+steppedResult z r u = record { answer = stepOf (r .answer); store = storeWith z (r .directory) u; page = [] }
+
+abbrev pub flushedResult : Sizes → Flushed → Buffers → calls.Result
+flushedResult z r u = record { answer = flushOf (r .answer); store = storeWith z (r .directory) u; page = [] }
+
 abbrev pub stepResult : StepOut → Buffers → calls.Result
 stepResult r u = record { answer = stepOf (r .answer); store = storeOf (r .cache) u; page = [] }
 

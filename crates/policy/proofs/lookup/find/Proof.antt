@@ -76,11 +76,13 @@ loop-again c =
 returns-2 : tie.Need-returns-2 Inv-loop μ-loop
 unfolding slotOf
 returns-2 c =
-    let l = c .before .loop in let a = c .before .before .before .args in let end = a .z .slots in let e : l .i ≡ end = omega arith in
-    (first-is end (holds (a .t2) (a .n .0)) (l .i) (l .inv .0) (l .inv .1) (λ k. absurd (omega arith)), λ k. elim (l .inv .2) [
-      | inl m ↦ m .0 ∙ first-is end (holds (a .t2) vacant) end (omega arith) (rw e at (m .1)) (λ q. absurd (omega arith))
-      | inr m ↦ m .0
-    ])
+    let l = c .before .loop in let a = c .before .before .before .args in let end = a .z .slots in let e : l .i ≡ end = omega arith in (
+      first-is end (holds (a .t2) (a .n .0)) (l .i) (l .inv .0) (l .inv .1) (λ k. absurd (omega arith)),
+      λ k. elim (l .inv .2) [
+        | inl m ↦ m .0 ∙ first-is end (holds (a .t2) vacant) end (omega arith) (rw e at (m .1)) (λ q. absurd (omega arith))
+        | inr m ↦ m .0
+      ],
+    )
 
 pub find-spec : {M : Type 1} → statement M
 find-spec =

@@ -15,7 +15,7 @@ use Rattle.model.specs.Moves.{flashPage, programmed, worn, wornBy, recen
 use Rattle.model.specs.Calls.{Answer, openDone, readDone, writeDone, stepDone, stepClean, flushDone, refused, Call, read, write, step, flush, checked, readOutcome, writeOutcome, stepOutcome, steps, flushOutcome, decide, stepsPages, callPages, Page, Buffers, lentOk, openStore, Store, zeroPage, memoryOf, buffersOf, carriedOut, call}
 
 -- what a history gives: the opening's answer, each call's answer and the first byte then in its page buffer, and at the end the first P
--- slots, the first B frames, valid sets and order entries, flash and wear
+-- slots, the first B frames, valid sets and order entries, and the lent buffers
 record Gives : Type 0 where
   opening : Answer
   answers : List Answer
@@ -25,6 +25,8 @@ record Gives : Type 0 where
   valid : List ℕ
   recency : List ℕ
   flash : List ℕ
+  pspace : List ℕ
+  bspace : List ℕ
   wear : List ℕ
 
 -- an opening on erased flash with the wear given, and the calls after it
@@ -52,6 +54,8 @@ runs sz a s [] ys bs = record {
   valid = take (sz .B) (s .cache .directory .valid);
   recency = take (sz .B) (s .cache .directory .recency);
   flash = s .lent .flash;
+  pspace = s .lent .pspace;
+  bspace = s .lent .bspace;
   wear = s .lent .wear;
 }
 runs sz a s (c ∷ cs) ys bs = let r = call leastRecent s c in runs sz a (r .store) cs (r .answer ∷ ys) (getD (r .page) 0 0 ∷ bs)
@@ -83,6 +87,18 @@ two = record { S = 1; K = 2; N = 5; P = 2; B = 2; W = 9 }
 abbrev wide : Sizes
 wide = record { S = 1; K = 4; N = 4; P = 3; B = 2; W = 9 }
 
+-- three frames
+abbrev three : Sizes
+three = record { S = 1; K = 2; N = 6; P = 2; B = 3; W = 9 }
+
+-- three frames, four slots, four pages a block
+abbrev roomy : Sizes
+roomy = record { S = 1; K = 4; N = 6; P = 4; B = 3; W = 9 }
+
+-- two bytes a page
+abbrev page : ℕ → Page
+page b = b ∷ b ∷ []
+
 -- ---- P1 to P11
 
 -- P1: script A's four writes
@@ -100,6 +116,8 @@ p1 = record {
     valid = 1 ∷ [];
     recency = 0 ∷ [];
     flash = 10 ∷ 255 ∷ 255 ∷ 255 ∷ 255 ∷ 255 ∷ [];
+    pspace = 30 ∷ 40 ∷ [];
+    bspace = 20 ∷ 255 ∷ [];
     wear = 1 ∷ 0 ∷ 0 ∷ [];
   };
 }
@@ -119,6 +137,8 @@ p2 = record {
     valid = 0 ∷ [];
     recency = 0 ∷ [];
     flash = 10 ∷ 255 ∷ 20 ∷ 40 ∷ 30 ∷ 255 ∷ [];
+    pspace = 30 ∷ 40 ∷ [];
+    bspace = 30 ∷ 255 ∷ [];
     wear = 1 ∷ 1 ∷ 1 ∷ [];
   };
 }
@@ -138,6 +158,8 @@ p3 = record {
     valid = 0 ∷ [];
     recency = 0 ∷ [];
     flash = 10 ∷ 255 ∷ 20 ∷ 40 ∷ 30 ∷ 255 ∷ [];
+    pspace = 30 ∷ 40 ∷ [];
+    bspace = 30 ∷ 255 ∷ [];
     wear = 1 ∷ 1 ∷ 1 ∷ [];
   };
 }
@@ -157,6 +179,8 @@ p4 = record {
     valid = 1 ∷ [];
     recency = 0 ∷ [];
     flash = 255 ∷ 255 ∷ 255 ∷ 255 ∷ 255 ∷ 255 ∷ 255 ∷ 255 ∷ 255 ∷ 255 ∷ 255 ∷ 255 ∷ [];
+    pspace = 40 ∷ 20 ∷ 30 ∷ [];
+    bspace = 10 ∷ 0 ∷ 0 ∷ 0 ∷ [];
     wear = 0 ∷ 0 ∷ 0 ∷ [];
   };
 }
@@ -176,6 +200,8 @@ p5 = record {
     valid = 3 ∷ [];
     recency = 0 ∷ [];
     flash = 255 ∷ 255 ∷ 255 ∷ 255 ∷ 255 ∷ 255 ∷ 255 ∷ 255 ∷ 255 ∷ 255 ∷ 255 ∷ 255 ∷ [];
+    pspace = 50 ∷ 20 ∷ 10 ∷ [];
+    bspace = 30 ∷ 40 ∷ 0 ∷ 0 ∷ [];
     wear = 0 ∷ 0 ∷ 0 ∷ [];
   };
 }
@@ -195,6 +221,8 @@ p6 = record {
     valid = 3 ∷ [];
     recency = 0 ∷ [];
     flash = 255 ∷ 255 ∷ 255 ∷ 255 ∷ 255 ∷ 255 ∷ 255 ∷ 255 ∷ 30 ∷ 40 ∷ 255 ∷ 255 ∷ [];
+    pspace = 60 ∷ 20 ∷ 10 ∷ [];
+    bspace = 20 ∷ 50 ∷ 255 ∷ 255 ∷ [];
     wear = 0 ∷ 0 ∷ 1 ∷ [];
   };
 }
@@ -214,6 +242,8 @@ p7 = record {
     valid = 3 ∷ [];
     recency = 0 ∷ [];
     flash = 255 ∷ 255 ∷ 255 ∷ 255 ∷ 20 ∷ 50 ∷ 255 ∷ 255 ∷ 30 ∷ 40 ∷ 255 ∷ 255 ∷ [];
+    pspace = 60 ∷ 70 ∷ 90 ∷ [];
+    bspace = 10 ∷ 80 ∷ 255 ∷ 255 ∷ [];
     wear = 0 ∷ 1 ∷ 1 ∷ [];
   };
 }
@@ -233,6 +263,8 @@ p8 = record {
     valid = 3 ∷ [];
     recency = 0 ∷ [];
     flash = 255 ∷ 255 ∷ 255 ∷ 255 ∷ 20 ∷ 30 ∷ 255 ∷ 255 ∷ 255 ∷ 255 ∷ 255 ∷ 255 ∷ [];
+    pspace = 60 ∷ 40 ∷ 50 ∷ [];
+    bspace = 10 ∷ 50 ∷ 255 ∷ 255 ∷ [];
     wear = 0 ∷ 1 ∷ 0 ∷ [];
   };
 }
@@ -252,6 +284,8 @@ p9 = record {
     valid = 0 ∷ [];
     recency = 0 ∷ [];
     flash = 255 ∷ 255 ∷ 255 ∷ 255 ∷ 255 ∷ 255 ∷ 255 ∷ 255 ∷ 255 ∷ 255 ∷ 255 ∷ 255 ∷ [];
+    pspace = 0 ∷ 0 ∷ 0 ∷ [];
+    bspace = 0 ∷ 0 ∷ 0 ∷ 0 ∷ [];
     wear = 0 ∷ 0 ∷ 0 ∷ [];
   };
 }
@@ -271,6 +305,8 @@ p10 = record {
     valid = 1 ∷ [];
     recency = 0 ∷ [];
     flash = 10 ∷ 255 ∷ 255 ∷ 255 ∷ 255 ∷ 255 ∷ [];
+    pspace = 30 ∷ 40 ∷ [];
+    bspace = 20 ∷ 255 ∷ [];
     wear = 9 ∷ 0 ∷ 0 ∷ [];
   };
 }
@@ -290,6 +326,8 @@ p10-worn = record {
     valid = 1 ∷ [];
     recency = 0 ∷ [];
     flash = 255 ∷ 255 ∷ 255 ∷ 255 ∷ 255 ∷ 255 ∷ [];
+    pspace = 30 ∷ 20 ∷ [];
+    bspace = 10 ∷ 0 ∷ [];
     wear = 9 ∷ 0 ∷ 0 ∷ [];
   };
 }
@@ -309,6 +347,8 @@ p11 = record {
     valid = 0 ∷ [];
     recency = 0 ∷ [];
     flash = 255 ∷ 255 ∷ 255 ∷ 255 ∷ 255 ∷ 255 ∷ 255 ∷ 255 ∷ 255 ∷ 255 ∷ 255 ∷ 255 ∷ [];
+    pspace = 0 ∷ 0 ∷ 0 ∷ [];
+    bspace = 0 ∷ 0 ∷ 0 ∷ 0 ∷ [];
     wear = 0 ∷ 0 ∷ 0 ∷ [];
   };
 }
@@ -330,6 +370,8 @@ read-hit = record {
     valid = 1 ∷ 1 ∷ [];
     recency = 0 ∷ 1 ∷ [];
     flash = 255 ∷ 255 ∷ 2 ∷ 255 ∷ 255 ∷ 255 ∷ 255 ∷ 255 ∷ 255 ∷ 255 ∷ [];
+    pspace = 5 ∷ 4 ∷ [];
+    bspace = 1 ∷ 0 ∷ 3 ∷ 255 ∷ [];
     wear = 0 ∷ 1 ∷ 0 ∷ 0 ∷ 0 ∷ [];
   };
 }
@@ -349,6 +391,8 @@ write-hit = record {
     valid = 1 ∷ 1 ∷ [];
     recency = 0 ∷ 1 ∷ [];
     flash = 255 ∷ 255 ∷ 2 ∷ 255 ∷ 255 ∷ 255 ∷ 255 ∷ 255 ∷ 255 ∷ 255 ∷ [];
+    pspace = 5 ∷ 4 ∷ [];
+    bspace = 6 ∷ 0 ∷ 3 ∷ 255 ∷ [];
     wear = 0 ∷ 1 ∷ 0 ∷ 0 ∷ 0 ∷ [];
   };
 }
@@ -368,6 +412,8 @@ slot-hit = record {
     valid = 0 ∷ 5 ∷ [];
     recency = 0 ∷ 1 ∷ [];
     flash = 255 ∷ 255 ∷ 255 ∷ 255 ∷ 6 ∷ 255 ∷ 255 ∷ 2 ∷ 255 ∷ 255 ∷ 255 ∷ 255 ∷ 255 ∷ 255 ∷ 255 ∷ 255 ∷ [];
+    pspace = 6 ∷ 4 ∷ 3 ∷ [];
+    bspace = 6 ∷ 255 ∷ 255 ∷ 2 ∷ 4 ∷ 0 ∷ 1 ∷ 0 ∷ [];
     wear = 0 ∷ 1 ∷ 0 ∷ 0 ∷ [];
   };
 }
@@ -387,6 +433,8 @@ join-recent = record {
     valid = 3 ∷ 1 ∷ [];
     recency = 0 ∷ 1 ∷ [];
     flash = 3 ∷ 255 ∷ 255 ∷ 255 ∷ 255 ∷ 255 ∷ 255 ∷ 255 ∷ 255 ∷ 255 ∷ [];
+    pspace = 1 ∷ 6 ∷ [];
+    bspace = 2 ∷ 4 ∷ 5 ∷ 255 ∷ [];
     wear = 1 ∷ 0 ∷ 0 ∷ 0 ∷ 0 ∷ [];
   };
 }
@@ -406,6 +454,8 @@ tie-frames = record {
     valid = 3 ∷ 2 ∷ [];
     recency = 1 ∷ 0 ∷ [];
     flash = 255 ∷ 255 ∷ 255 ∷ 255 ∷ 255 ∷ 255 ∷ 255 ∷ 255 ∷ 255 ∷ 255 ∷ [];
+    pspace = 1 ∷ 5 ∷ [];
+    bspace = 4 ∷ 3 ∷ 0 ∷ 2 ∷ [];
     wear = 0 ∷ 0 ∷ 0 ∷ 0 ∷ 0 ∷ [];
   };
 }
@@ -425,6 +475,8 @@ tie-blocks = record {
     valid = 2 ∷ 0 ∷ [];
     recency = 1 ∷ 0 ∷ [];
     flash = 255 ∷ 255 ∷ 255 ∷ 255 ∷ 255 ∷ 255 ∷ 255 ∷ 255 ∷ 255 ∷ 255 ∷ [];
+    pspace = 1 ∷ 3 ∷ [];
+    bspace = 0 ∷ 2 ∷ 0 ∷ 0 ∷ [];
     wear = 0 ∷ 0 ∷ 0 ∷ 0 ∷ 0 ∷ [];
   };
 }
@@ -444,6 +496,8 @@ slot-order = record {
     valid = 5 ∷ 2 ∷ [];
     recency = 1 ∷ 0 ∷ [];
     flash = 255 ∷ 255 ∷ 255 ∷ 255 ∷ 255 ∷ 255 ∷ 255 ∷ 255 ∷ 255 ∷ 255 ∷ 255 ∷ 255 ∷ 255 ∷ 255 ∷ 255 ∷ 255 ∷ [];
+    pspace = 3 ∷ 2 ∷ 6 ∷ [];
+    bspace = 5 ∷ 3 ∷ 1 ∷ 0 ∷ 0 ∷ 4 ∷ 0 ∷ 0 ∷ [];
     wear = 0 ∷ 0 ∷ 0 ∷ 0 ∷ [];
   };
 }
@@ -463,6 +517,8 @@ exchange-bytes = record {
     valid = 3 ∷ [];
     recency = 0 ∷ [];
     flash = 255 ∷ 255 ∷ 255 ∷ 255 ∷ 255 ∷ 255 ∷ 255 ∷ 255 ∷ 255 ∷ 255 ∷ 255 ∷ 255 ∷ [];
+    pspace = 50 ∷ 20 ∷ 10 ∷ [];
+    bspace = 30 ∷ 40 ∷ 0 ∷ 0 ∷ [];
     wear = 0 ∷ 0 ∷ 0 ∷ [];
   };
 }
@@ -482,6 +538,8 @@ step-order = record {
     valid = 1 ∷ 0 ∷ [];
     recency = 1 ∷ 0 ∷ [];
     flash = 255 ∷ 255 ∷ 2 ∷ 255 ∷ 255 ∷ 255 ∷ 255 ∷ 255 ∷ 255 ∷ 255 ∷ [];
+    pspace = 3 ∷ 4 ∷ [];
+    bspace = 1 ∷ 0 ∷ 2 ∷ 255 ∷ [];
     wear = 0 ∷ 1 ∷ 0 ∷ 0 ∷ 0 ∷ [];
   };
 }
@@ -501,6 +559,8 @@ merge-count = record {
     valid = 0 ∷ 0 ∷ [];
     recency = 1 ∷ 0 ∷ [];
     flash = 255 ∷ 255 ∷ 255 ∷ 255 ∷ 1 ∷ 4 ∷ 255 ∷ 255 ∷ 255 ∷ 255 ∷ 255 ∷ 255 ∷ 255 ∷ 255 ∷ 255 ∷ 255 ∷ [];
+    pspace = 4 ∷ 2 ∷ 3 ∷ [];
+    bspace = 1 ∷ 4 ∷ 255 ∷ 255 ∷ 0 ∷ 0 ∷ 0 ∷ 0 ∷ [];
     wear = 0 ∷ 1 ∷ 0 ∷ 0 ∷ [];
   };
 }
@@ -520,6 +580,8 @@ flush-all = record {
     valid = 0 ∷ 0 ∷ [];
     recency = 0 ∷ 1 ∷ [];
     flash = 1 ∷ 255 ∷ 2 ∷ 255 ∷ 3 ∷ 255 ∷ 255 ∷ 255 ∷ 255 ∷ 4 ∷ [];
+    pspace = 3 ∷ 4 ∷ [];
+    bspace = 255 ∷ 4 ∷ 2 ∷ 255 ∷ [];
     wear = 1 ∷ 1 ∷ 1 ∷ 0 ∷ 1 ∷ [];
   };
 }
@@ -539,6 +601,8 @@ worn-blocks = record {
     valid = 1 ∷ 1 ∷ [];
     recency = 1 ∷ 0 ∷ [];
     flash = 255 ∷ 255 ∷ 255 ∷ 255 ∷ 255 ∷ 255 ∷ 255 ∷ 255 ∷ 255 ∷ 255 ∷ [];
+    pspace = 4 ∷ 2 ∷ [];
+    bspace = 1 ∷ 0 ∷ 3 ∷ 0 ∷ [];
     wear = 0 ∷ 9 ∷ 0 ∷ 9 ∷ 0 ∷ [];
   };
 }
@@ -558,6 +622,8 @@ read-miss = record {
     valid = 0 ∷ 0 ∷ [];
     recency = 0 ∷ 1 ∷ [];
     flash = 255 ∷ 255 ∷ 255 ∷ 255 ∷ 255 ∷ 255 ∷ 255 ∷ 255 ∷ 255 ∷ 255 ∷ [];
+    pspace = 2 ∷ 4 ∷ [];
+    bspace = 0 ∷ 0 ∷ 0 ∷ 0 ∷ [];
     wear = 0 ∷ 0 ∷ 0 ∷ 0 ∷ 0 ∷ [];
   };
 }
@@ -577,6 +643,8 @@ one-frame = record {
     valid = 3 ∷ 2 ∷ [];
     recency = 0 ∷ 1 ∷ [];
     flash = 255 ∷ 255 ∷ 255 ∷ 255 ∷ 255 ∷ 255 ∷ 255 ∷ 255 ∷ 255 ∷ 255 ∷ [];
+    pspace = 4 ∷ 5 ∷ [];
+    bspace = 3 ∷ 1 ∷ 0 ∷ 2 ∷ [];
     wear = 0 ∷ 0 ∷ 0 ∷ 0 ∷ 0 ∷ [];
   };
 }
@@ -596,7 +664,202 @@ merge-first = record {
     valid = 0 ∷ 0 ∷ [];
     recency = 0 ∷ 1 ∷ [];
     flash = 255 ∷ 255 ∷ 255 ∷ 255 ∷ 3 ∷ 255 ∷ 255 ∷ 1 ∷ 255 ∷ 255 ∷ 255 ∷ 255 ∷ 255 ∷ 255 ∷ 255 ∷ 255 ∷ [];
+    pspace = 3 ∷ 0 ∷ 0 ∷ [];
+    bspace = 3 ∷ 255 ∷ 255 ∷ 1 ∷ 0 ∷ 0 ∷ 0 ∷ 0 ∷ [];
     wear = 0 ∷ 2 ∷ 0 ∷ 0 ∷ [];
+  };
+}
+
+-- ---- three frames
+
+-- a read hit of the least recent of three frames puts it last and leaves the other two in their order
+first-used : Row
+first-used = record {
+  sizes = three;
+  wear = 0 ∷ 0 ∷ 0 ∷ 0 ∷ 0 ∷ 0 ∷ [];
+  calls = write 0 (1 ∷ []) ∷ write 2 (2 ∷ []) ∷ write 4 (3 ∷ []) ∷ write 6 (4 ∷ []) ∷ write 8 (5 ∷ []) ∷ read 0 (0 ∷ []) ∷ write 10 (6 ∷ []) ∷ [];
+  gives = record {
+    opening = openDone;
+    answers = way 3 ∷ way 3 ∷ way 5 ∷ way 5 ∷ way 5 ∷ readDone 2 ∷ writeDone 7 1 1 ∷ [];
+    bytes = 1 ∷ 2 ∷ 3 ∷ 4 ∷ 5 ∷ 1 ∷ 6 ∷ [];
+    slots = 8 ∷ 10 ∷ [];
+    frames = 0 ∷ 3 ∷ 2 ∷ [];
+    valid = 1 ∷ 1 ∷ 1 ∷ [];
+    recency = 2 ∷ 0 ∷ 1 ∷ [];
+    flash = 255 ∷ 255 ∷ 2 ∷ 255 ∷ 255 ∷ 255 ∷ 255 ∷ 255 ∷ 255 ∷ 255 ∷ 255 ∷ 255 ∷ [];
+    pspace = 5 ∷ 6 ∷ [];
+    bspace = 1 ∷ 0 ∷ 4 ∷ 255 ∷ 3 ∷ 0 ∷ [];
+    wear = 0 ∷ 1 ∷ 0 ∷ 0 ∷ 0 ∷ 0 ∷ [];
+  };
+}
+
+-- a write hit of the frame in the middle puts it last: way 7 then takes the first, and after it the third
+middle-used : Row
+middle-used = record {
+  sizes = three;
+  wear = 0 ∷ 0 ∷ 0 ∷ 0 ∷ 0 ∷ 0 ∷ [];
+  calls = write 0 (1 ∷ []) ∷ write 2 (2 ∷ []) ∷ write 4 (3 ∷ []) ∷ write 6 (4 ∷ []) ∷ write 8 (5 ∷ []) ∷ write 2 (6 ∷ []) ∷ write 10 (7 ∷ []) ∷ write 11 (8 ∷ []) ∷ [];
+  gives = record {
+    opening = openDone;
+    answers = way 3 ∷ way 3 ∷ way 5 ∷ way 5 ∷ way 5 ∷ way 2 ∷ writeDone 7 0 1 ∷ writeDone 7 2 1 ∷ [];
+    bytes = 1 ∷ 2 ∷ 3 ∷ 4 ∷ 5 ∷ 6 ∷ 7 ∷ 8 ∷ [];
+    slots = 11 ∷ 10 ∷ [];
+    frames = 3 ∷ 1 ∷ 4 ∷ [];
+    valid = 1 ∷ 1 ∷ 1 ∷ [];
+    recency = 1 ∷ 0 ∷ 2 ∷ [];
+    flash = 1 ∷ 255 ∷ 255 ∷ 255 ∷ 3 ∷ 255 ∷ 255 ∷ 255 ∷ 255 ∷ 255 ∷ 255 ∷ 255 ∷ [];
+    pspace = 8 ∷ 7 ∷ [];
+    bspace = 4 ∷ 255 ∷ 6 ∷ 0 ∷ 5 ∷ 255 ∷ [];
+    wear = 1 ∷ 0 ∷ 1 ∷ 0 ∷ 0 ∷ 0 ∷ [];
+  };
+}
+
+-- two of three frames have equally few pages: way 6 takes the less recent of the two, which has neither the lower number nor the first
+-- entry of the order
+tie-of-three : Row
+tie-of-three = record {
+  sizes = roomy;
+  wear = 0 ∷ 0 ∷ 0 ∷ 0 ∷ 0 ∷ 0 ∷ [];
+  calls = write 0 (1 ∷ []) ∷ write 1 (2 ∷ []) ∷ write 4 (3 ∷ []) ∷ write 8 (4 ∷ []) ∷ write 12 (5 ∷ []) ∷ write 16 (6 ∷ []) ∷ write 20 (7 ∷ []) ∷ write 13 (8 ∷ []) ∷ read 4 (0 ∷ []) ∷ write 17 (9 ∷ []) ∷ read 8 (0 ∷ []) ∷ read 12 (0 ∷ []) ∷ read 13 (0 ∷ []) ∷ [];
+  gives = record {
+    opening = openDone;
+    answers = way 3 ∷ way 3 ∷ way 3 ∷ way 3 ∷ way 5 ∷ way 3 ∷ way 5 ∷ way 5 ∷ readDone 2 ∷ way 6 ∷ readDone 1 ∷ readDone 2 ∷ readDone 2 ∷ [];
+    bytes = 1 ∷ 2 ∷ 3 ∷ 4 ∷ 5 ∷ 6 ∷ 7 ∷ 8 ∷ 3 ∷ 9 ∷ 4 ∷ 5 ∷ 8 ∷ [];
+    slots = 8 ∷ 16 ∷ 20 ∷ 17 ∷ [];
+    frames = 0 ∷ 1 ∷ 3 ∷ [];
+    valid = 3 ∷ 1 ∷ 3 ∷ [];
+    recency = 0 ∷ 1 ∷ 2 ∷ [];
+    flash = 255 ∷ 255 ∷ 255 ∷ 255 ∷ 255 ∷ 255 ∷ 255 ∷ 255 ∷ 255 ∷ 255 ∷ 255 ∷ 255 ∷ 255 ∷ 255 ∷ 255 ∷ 255 ∷ 255 ∷ 255 ∷ 255 ∷ 255 ∷ 255 ∷ 255 ∷ 255 ∷ 255 ∷ [];
+    pspace = 4 ∷ 6 ∷ 7 ∷ 9 ∷ [];
+    bspace = 1 ∷ 2 ∷ 0 ∷ 0 ∷ 3 ∷ 0 ∷ 0 ∷ 0 ∷ 5 ∷ 8 ∷ 0 ∷ 0 ∷ [];
+    wear = 0 ∷ 0 ∷ 0 ∷ 0 ∷ 0 ∷ 0 ∷ [];
+  };
+}
+
+-- way 6 takes the frame with the fewest pages, though a less recent one has fewer than v as well
+fewest-of-three : Row
+fewest-of-three = record {
+  sizes = roomy;
+  wear = 0 ∷ 0 ∷ 0 ∷ 0 ∷ 0 ∷ 0 ∷ [];
+  calls = write 0 (1 ∷ []) ∷ write 1 (2 ∷ []) ∷ write 20 (3 ∷ []) ∷ write 21 (4 ∷ []) ∷ write 7 (5 ∷ []) ∷ write 12 (6 ∷ []) ∷ write 16 (7 ∷ []) ∷ write 22 (8 ∷ []) ∷ write 23 (9 ∷ []) ∷ write 13 (10 ∷ []) ∷ write 14 (11 ∷ []) ∷ write 8 (12 ∷ []) ∷ read 7 (0 ∷ []) ∷ read 12 (0 ∷ []) ∷ read 13 (0 ∷ []) ∷ read 14 (0 ∷ []) ∷ [];
+  gives = record {
+    opening = openDone;
+    answers = way 3 ∷ way 3 ∷ way 3 ∷ way 3 ∷ way 5 ∷ way 3 ∷ way 5 ∷ way 3 ∷ way 5 ∷ way 4 ∷ way 3 ∷ way 6 ∷ readDone 1 ∷ readDone 2 ∷ readDone 2 ∷ readDone 2 ∷ [];
+    bytes = 1 ∷ 2 ∷ 3 ∷ 4 ∷ 5 ∷ 6 ∷ 7 ∷ 8 ∷ 9 ∷ 10 ∷ 11 ∷ 12 ∷ 5 ∷ 6 ∷ 10 ∷ 11 ∷ [];
+    slots = 7 ∷ 8 ∷ 16 ∷ vacant ∷ [];
+    frames = 0 ∷ 5 ∷ 3 ∷ [];
+    valid = 3 ∷ 15 ∷ 7 ∷ [];
+    recency = 0 ∷ 1 ∷ 2 ∷ [];
+    flash = 255 ∷ 255 ∷ 255 ∷ 255 ∷ 255 ∷ 255 ∷ 255 ∷ 255 ∷ 255 ∷ 255 ∷ 255 ∷ 255 ∷ 255 ∷ 255 ∷ 255 ∷ 255 ∷ 255 ∷ 255 ∷ 255 ∷ 255 ∷ 255 ∷ 255 ∷ 255 ∷ 255 ∷ [];
+    pspace = 5 ∷ 12 ∷ 7 ∷ 11 ∷ [];
+    bspace = 1 ∷ 2 ∷ 0 ∷ 0 ∷ 3 ∷ 4 ∷ 8 ∷ 9 ∷ 6 ∷ 10 ∷ 11 ∷ 5 ∷ [];
+    wear = 0 ∷ 0 ∷ 0 ∷ 0 ∷ 0 ∷ 0 ∷ [];
+  };
+}
+
+-- three frames used in mixed order by a read hit, a write hit and a join, but not by a hit in a slot or a read from flash: steps in
+-- succession take the frames in that order, then the slots by block
+steps-of-three : Row
+steps-of-three = record {
+  sizes = roomy;
+  wear = 0 ∷ 0 ∷ 0 ∷ 0 ∷ 0 ∷ 0 ∷ [];
+  calls = write 0 (1 ∷ []) ∷ write 4 (2 ∷ []) ∷ write 8 (3 ∷ []) ∷ write 12 (4 ∷ []) ∷ write 16 (5 ∷ []) ∷ write 5 (6 ∷ []) ∷ write 9 (7 ∷ []) ∷ write 10 (8 ∷ []) ∷ write 11 (9 ∷ []) ∷ read 4 (0 ∷ []) ∷ write 0 (10 ∷ []) ∷ write 10 (11 ∷ []) ∷ read 3 (0 ∷ []) ∷ write 17 (12 ∷ []) ∷ write 6 (13 ∷ []) ∷ step ∷ step ∷ step ∷ step ∷ step ∷ step ∷ [];
+  gives = record {
+    opening = openDone;
+    answers = way 3 ∷ way 3 ∷ way 3 ∷ way 3 ∷ way 5 ∷ way 5 ∷ way 4 ∷ way 5 ∷ way 3 ∷ readDone 2 ∷ way 2 ∷ way 1 ∷ readDone 3 ∷ way 4 ∷ way 3 ∷ stepDone 1 1 ∷ stepDone 0 3 ∷ stepDone 2 0 ∷ stepDone 3 3 ∷ stepDone 4 2 ∷ stepClean ∷ [];
+    bytes = 1 ∷ 2 ∷ 3 ∷ 4 ∷ 5 ∷ 6 ∷ 7 ∷ 8 ∷ 9 ∷ 2 ∷ 10 ∷ 11 ∷ 255 ∷ 12 ∷ 13 ∷ 0 ∷ 0 ∷ 0 ∷ 0 ∷ 0 ∷ 0 ∷ [];
+    slots = vacant ∷ vacant ∷ vacant ∷ vacant ∷ [];
+    frames = vacant ∷ vacant ∷ vacant ∷ [];
+    valid = 0 ∷ 0 ∷ 0 ∷ [];
+    recency = 1 ∷ 0 ∷ 2 ∷ [];
+    flash = 10 ∷ 255 ∷ 255 ∷ 255 ∷ 2 ∷ 6 ∷ 13 ∷ 255 ∷ 3 ∷ 7 ∷ 11 ∷ 9 ∷ 4 ∷ 255 ∷ 255 ∷ 255 ∷ 5 ∷ 12 ∷ 255 ∷ 255 ∷ 255 ∷ 255 ∷ 255 ∷ 255 ∷ [];
+    pspace = 5 ∷ 12 ∷ 13 ∷ 4 ∷ [];
+    bspace = 5 ∷ 12 ∷ 255 ∷ 255 ∷ 2 ∷ 6 ∷ 13 ∷ 255 ∷ 3 ∷ 7 ∷ 11 ∷ 9 ∷ [];
+    wear = 1 ∷ 1 ∷ 1 ∷ 1 ∷ 1 ∷ 0 ∷ [];
+  };
+}
+
+-- the same by a flush: 5 blocks cached, 5 rewrites, merge reads counted after the join
+flush-of-three : Row
+flush-of-three = record {
+  sizes = roomy;
+  wear = 0 ∷ 0 ∷ 0 ∷ 0 ∷ 0 ∷ 0 ∷ [];
+  calls = write 0 (1 ∷ []) ∷ write 4 (2 ∷ []) ∷ write 8 (3 ∷ []) ∷ write 12 (4 ∷ []) ∷ write 16 (5 ∷ []) ∷ write 5 (6 ∷ []) ∷ write 9 (7 ∷ []) ∷ write 10 (8 ∷ []) ∷ write 11 (9 ∷ []) ∷ read 4 (0 ∷ []) ∷ write 0 (10 ∷ []) ∷ write 10 (11 ∷ []) ∷ read 3 (0 ∷ []) ∷ write 17 (12 ∷ []) ∷ write 6 (13 ∷ []) ∷ flush ∷ read 10 (0 ∷ []) ∷ read 6 (0 ∷ []) ∷ [];
+  gives = record {
+    opening = openDone;
+    answers = way 3 ∷ way 3 ∷ way 3 ∷ way 3 ∷ way 5 ∷ way 5 ∷ way 4 ∷ way 5 ∷ way 3 ∷ readDone 2 ∷ way 2 ∷ way 1 ∷ readDone 3 ∷ way 4 ∷ way 3 ∷ flushDone 5 9 ∷ readDone 3 ∷ readDone 3 ∷ [];
+    bytes = 1 ∷ 2 ∷ 3 ∷ 4 ∷ 5 ∷ 6 ∷ 7 ∷ 8 ∷ 9 ∷ 2 ∷ 10 ∷ 11 ∷ 255 ∷ 12 ∷ 13 ∷ 0 ∷ 11 ∷ 13 ∷ [];
+    slots = vacant ∷ vacant ∷ vacant ∷ vacant ∷ [];
+    frames = vacant ∷ vacant ∷ vacant ∷ [];
+    valid = 0 ∷ 0 ∷ 0 ∷ [];
+    recency = 1 ∷ 0 ∷ 2 ∷ [];
+    flash = 10 ∷ 255 ∷ 255 ∷ 255 ∷ 2 ∷ 6 ∷ 13 ∷ 255 ∷ 3 ∷ 7 ∷ 11 ∷ 9 ∷ 4 ∷ 255 ∷ 255 ∷ 255 ∷ 5 ∷ 12 ∷ 255 ∷ 255 ∷ 255 ∷ 255 ∷ 255 ∷ 255 ∷ [];
+    pspace = 5 ∷ 12 ∷ 13 ∷ 4 ∷ [];
+    bspace = 5 ∷ 12 ∷ 255 ∷ 255 ∷ 2 ∷ 6 ∷ 13 ∷ 255 ∷ 3 ∷ 7 ∷ 11 ∷ 9 ∷ [];
+    wear = 1 ∷ 1 ∷ 1 ∷ 1 ∷ 1 ∷ 0 ∷ [];
+  };
+}
+
+-- way 5 fills the first vacant frame by number, and a step passes over a vacant frame that is least recent
+vacant-of-three : Row
+vacant-of-three = record {
+  sizes = three;
+  wear = 0 ∷ 0 ∷ 0 ∷ 0 ∷ 0 ∷ 0 ∷ [];
+  calls = write 0 (1 ∷ []) ∷ write 2 (2 ∷ []) ∷ write 4 (3 ∷ []) ∷ write 6 (4 ∷ []) ∷ write 8 (5 ∷ []) ∷ read 2 (0 ∷ []) ∷ read 0 (0 ∷ []) ∷ step ∷ step ∷ write 10 (6 ∷ []) ∷ step ∷ [];
+  gives = record {
+    opening = openDone;
+    answers = way 3 ∷ way 3 ∷ way 5 ∷ way 5 ∷ way 5 ∷ readDone 2 ∷ readDone 2 ∷ stepDone 2 1 ∷ stepDone 1 1 ∷ way 5 ∷ stepDone 0 1 ∷ [];
+    bytes = 1 ∷ 2 ∷ 3 ∷ 4 ∷ 5 ∷ 2 ∷ 1 ∷ 0 ∷ 0 ∷ 6 ∷ 0 ∷ [];
+    slots = 8 ∷ 10 ∷ [];
+    frames = vacant ∷ 3 ∷ vacant ∷ [];
+    valid = 0 ∷ 1 ∷ 0 ∷ [];
+    recency = 2 ∷ 0 ∷ 1 ∷ [];
+    flash = 1 ∷ 255 ∷ 2 ∷ 255 ∷ 3 ∷ 255 ∷ 255 ∷ 255 ∷ 255 ∷ 255 ∷ 255 ∷ 255 ∷ [];
+    pspace = 5 ∷ 6 ∷ [];
+    bspace = 1 ∷ 255 ∷ 4 ∷ 255 ∷ 3 ∷ 255 ∷ [];
+    wear = 1 ∷ 1 ∷ 1 ∷ 0 ∷ 0 ∷ 0 ∷ [];
+  };
+}
+
+-- refusal 6 of a write and of a step names the block of the least recent of three frames, of a flush the lowest worn
+worn-of-three : Row
+worn-of-three = record {
+  sizes = three;
+  wear = 0 ∷ 9 ∷ 9 ∷ 0 ∷ 0 ∷ 0 ∷ [];
+  calls = write 0 (1 ∷ []) ∷ write 2 (2 ∷ []) ∷ write 4 (3 ∷ []) ∷ write 6 (4 ∷ []) ∷ write 8 (5 ∷ []) ∷ read 0 (0 ∷ []) ∷ read 2 (0 ∷ []) ∷ write 10 (6 ∷ []) ∷ step ∷ flush ∷ read 4 (0 ∷ []) ∷ write 10 (7 ∷ []) ∷ step ∷ [];
+  gives = record {
+    opening = openDone;
+    answers = way 3 ∷ way 3 ∷ way 5 ∷ way 5 ∷ way 5 ∷ readDone 2 ∷ readDone 2 ∷ refused 6 2 ∷ refused 6 2 ∷ refused 6 1 ∷ readDone 2 ∷ writeDone 7 0 1 ∷ refused 6 1 ∷ [];
+    bytes = 1 ∷ 2 ∷ 3 ∷ 4 ∷ 5 ∷ 1 ∷ 2 ∷ 6 ∷ 0 ∷ 0 ∷ 3 ∷ 7 ∷ 0 ∷ [];
+    slots = 8 ∷ 10 ∷ [];
+    frames = 3 ∷ 1 ∷ 2 ∷ [];
+    valid = 1 ∷ 1 ∷ 1 ∷ [];
+    recency = 1 ∷ 2 ∷ 0 ∷ [];
+    flash = 1 ∷ 255 ∷ 255 ∷ 255 ∷ 255 ∷ 255 ∷ 255 ∷ 255 ∷ 255 ∷ 255 ∷ 255 ∷ 255 ∷ [];
+    pspace = 5 ∷ 7 ∷ [];
+    bspace = 4 ∷ 255 ∷ 2 ∷ 0 ∷ 3 ∷ 0 ∷ [];
+    wear = 1 ∷ 9 ∷ 9 ∷ 0 ∷ 0 ∷ 0 ∷ [];
+  };
+}
+
+-- a history of the outside vectors, without its reads from flash: pages of two bytes, ways 1, 2, 3, 5, 7 and 6 over three frames
+of-vectors : Row
+of-vectors = record {
+  sizes = record { S = 2; K = 6; N = 5; P = 6; B = 3; W = 3 };
+  wear = 0 ∷ 0 ∷ 0 ∷ 0 ∷ 0 ∷ [];
+  calls = write 6 (page 244) ∷ write 23 (page 202) ∷ write 23 (page 43) ∷ write 18 (page 238) ∷ write 19 (page 242) ∷ write 11 (page 79) ∷ write 4 (page 10) ∷ write 23 (page 52) ∷ write 29 (page 71) ∷ write 27 (page 99) ∷ read 6 (page 0) ∷ write 6 (page 149) ∷ write 24 (page 166) ∷ write 13 (page 67) ∷ write 23 (page 181) ∷ write 28 (page 215) ∷ read 28 (page 0) ∷ write 17 (page 77) ∷ write 0 (page 225) ∷ read 19 (page 0) ∷ write 25 (page 76) ∷ write 15 (page 61) ∷ write 10 (page 247) ∷ write 8 (page 21) ∷ [];
+  gives = record {
+    opening = openDone;
+    answers = way 3 ∷ way 3 ∷ way 1 ∷ way 3 ∷ way 3 ∷ way 3 ∷ way 3 ∷ way 1 ∷ way 5 ∷ way 3 ∷ readDone 1 ∷ way 1 ∷ way 3 ∷ way 5 ∷ way 2 ∷ way 3 ∷ readDone 1 ∷ way 3 ∷ way 5 ∷ readDone 2 ∷ way 3 ∷ writeDone 7 4 3 ∷ way 3 ∷ way 6 ∷ [];
+    bytes = 244 ∷ 202 ∷ 43 ∷ 238 ∷ 242 ∷ 79 ∷ 10 ∷ 52 ∷ 71 ∷ 99 ∷ 244 ∷ 149 ∷ 166 ∷ 67 ∷ 181 ∷ 215 ∷ 215 ∷ 77 ∷ 225 ∷ 242 ∷ 76 ∷ 61 ∷ 247 ∷ 21 ∷ [];
+    slots = 6 ∷ 8 ∷ 28 ∷ 11 ∷ 25 ∷ 10 ∷ [];
+    frames = 3 ∷ 0 ∷ 2 ∷ [];
+    valid = 35 ∷ 17 ∷ 42 ∷ [];
+    recency = 0 ∷ 1 ∷ 2 ∷ [];
+    flash = 255 ∷ 255 ∷ 255 ∷ 255 ∷ 255 ∷ 255 ∷ 255 ∷ 255 ∷ 255 ∷ 255 ∷ 255 ∷ 255 ∷ 255 ∷ 255 ∷ 255 ∷ 255 ∷ 255 ∷ 255 ∷ 255 ∷ 255 ∷ 255 ∷ 255 ∷ 255 ∷ 255 ∷ 255 ∷ 255 ∷ 255 ∷ 255 ∷ 255 ∷ 255 ∷ 255 ∷ 255 ∷ 255 ∷ 255 ∷ 255 ∷ 255 ∷ 255 ∷ 255 ∷ 255 ∷ 255 ∷ 255 ∷ 255 ∷ 255 ∷ 255 ∷ 255 ∷ 255 ∷ 255 ∷ 255 ∷ 166 ∷ 166 ∷ 255 ∷ 255 ∷ 255 ∷ 255 ∷ 99 ∷ 99 ∷ 255 ∷ 255 ∷ 71 ∷ 71 ∷ [];
+    pspace = 149 ∷ 149 ∷ 21 ∷ 21 ∷ 215 ∷ 215 ∷ 79 ∷ 79 ∷ 76 ∷ 76 ∷ 247 ∷ 247 ∷ [];
+    bspace = 238 ∷ 238 ∷ 242 ∷ 242 ∷ 0 ∷ 0 ∷ 0 ∷ 0 ∷ 0 ∷ 0 ∷ 181 ∷ 181 ∷ 225 ∷ 225 ∷ 255 ∷ 255 ∷ 255 ∷ 255 ∷ 99 ∷ 99 ∷ 10 ∷ 10 ∷ 71 ∷ 71 ∷ 149 ∷ 149 ∷ 67 ∷ 67 ∷ 0 ∷ 0 ∷ 61 ∷ 61 ∷ 0 ∷ 0 ∷ 77 ∷ 77 ∷ [];
+    wear = 0 ∷ 0 ∷ 0 ∷ 0 ∷ 1 ∷ [];
   };
 }
 
@@ -617,6 +880,8 @@ blank-record = record {
     valid = 0 ∷ [];
     recency = 0 ∷ [];
     flash = [];
+    pspace = [];
+    bspace = [];
     wear = 0 ∷ 0 ∷ 0 ∷ [];
   };
 }
@@ -636,6 +901,8 @@ short-wear = record {
     valid = 0 ∷ [];
     recency = 0 ∷ [];
     flash = 255 ∷ 255 ∷ 255 ∷ 255 ∷ 255 ∷ 255 ∷ [];
+    pspace = 0 ∷ 0 ∷ [];
+    bspace = 0 ∷ 0 ∷ [];
     wear = 0 ∷ 0 ∷ [];
   };
 }
@@ -654,6 +921,8 @@ overworn = record {
     valid = 0 ∷ [];
     recency = 0 ∷ [];
     flash = 255 ∷ 255 ∷ 255 ∷ 255 ∷ 255 ∷ 255 ∷ [];
+    pspace = 0 ∷ 0 ∷ [];
+    bspace = 0 ∷ 0 ∷ [];
     wear = 0 ∷ 10 ∷ 0 ∷ [];
   };
 }
@@ -673,6 +942,8 @@ page-buffer = record {
     valid = 0 ∷ [];
     recency = 0 ∷ [];
     flash = 255 ∷ 255 ∷ 255 ∷ 255 ∷ 255 ∷ 255 ∷ [];
+    pspace = 0 ∷ 0 ∷ [];
+    bspace = 0 ∷ 0 ∷ [];
     wear = 0 ∷ 9 ∷ 0 ∷ [];
   };
 }
@@ -681,9 +952,11 @@ table : List Row
 table =
     p1 ∷ p2 ∷ p3 ∷ p4 ∷ p5 ∷ p6 ∷ p7 ∷ p8 ∷ p9 ∷ p10 ∷ p10-worn ∷ p11
     ∷ read-hit ∷ write-hit ∷ slot-hit ∷ join-recent ∷ tie-frames ∷ tie-blocks ∷ slot-order ∷ exchange-bytes ∷ step-order
-    ∷ merge-count ∷ flush-all ∷ worn-blocks ∷ read-miss ∷ one-frame ∷ merge-first ∷ blank-record ∷ short-wear ∷ overworn ∷ page-buffer ∷ []
+    ∷ merge-count ∷ flush-all ∷ worn-blocks ∷ read-miss ∷ one-frame ∷ merge-first
+    ∷ first-used ∷ middle-used ∷ tie-of-three ∷ fewest-of-three ∷ steps-of-three ∷ flush-of-three ∷ vacant-of-three ∷ worn-of-three ∷ of-vectors
+    ∷ blank-record ∷ short-wear ∷ overworn ∷ page-buffer ∷ []
 
 -- every row holds, by computing with the definitions
 rows : map gave table ≡ map gives table
-unfolding p1 p2 p3 p4 p5 p6 p7 p8 p9 p10 p10-worn p11 read-hit write-hit slot-hit join-recent tie-frames tie-blocks slot-order exchange-bytes step-order merge-count flush-all worn-blocks read-miss one-frame merge-first blank-record short-wear overworn page-buffer table gives gave runs erased openStore call carriedOut memoryOf buffersOf zeroPage lentOk callPages stepsPages decide flushOutcome steps stepOutcome writeOutcome readOutcome checked steppedPages writtenPages readPage stepped written readDirectory rewrittenPages merged vacated exchangedPages exchanged givenSlot taken spare unmet joinedPages filled joined putFramePage putSlotPage entered putSlot touched recencyAfter wornBy worn programmed flashPage lowestWorn isWorn cached dueOf lowestInSlots occupied plan evictionPlan evictable fewestValid victim leastRecent readWay slotCount validCount frameOf frameWith inSlots slotOf inBlock inFrame sound framePast slotPast listedOnce cachedOnce framesDiffer slotsDiffer frameOk slotOk shapeOk sizesOk vacantDirectory blankCache every first firstFrom count all allPairs tab tabFrom bit mask nth argmax least pageAt pagesOf flat
+unfolding p1 p2 p3 p4 p5 p6 p7 p8 p9 p10 p10-worn p11 read-hit write-hit slot-hit join-recent tie-frames tie-blocks slot-order exchange-bytes step-order merge-count flush-all worn-blocks read-miss one-frame merge-first first-used middle-used tie-of-three fewest-of-three steps-of-three flush-of-three vacant-of-three worn-of-three of-vectors blank-record short-wear overworn page-buffer table gives gave runs erased openStore call carriedOut memoryOf buffersOf zeroPage lentOk callPages stepsPages decide flushOutcome steps stepOutcome writeOutcome readOutcome checked steppedPages writtenPages readPage stepped written readDirectory rewrittenPages merged vacated exchangedPages exchanged givenSlot taken spare unmet joinedPages filled joined putFramePage putSlotPage entered putSlot touched recencyAfter wornBy worn programmed flashPage lowestWorn isWorn cached dueOf lowestInSlots occupied plan evictionPlan evictable fewestValid victim leastRecent readWay slotCount validCount frameOf frameWith inSlots slotOf inBlock inFrame sound framePast slotPast listedOnce cachedOnce framesDiffer slotsDiffer frameOk slotOk shapeOk sizesOk vacantDirectory blankCache every first firstFrom count all allPairs tab tabFrom bit mask nth argmax least pageAt pagesOf flat
 rows = refl

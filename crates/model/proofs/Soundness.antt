@@ -2,7 +2,7 @@
 -- the histories are checked before the proofs, so that a definition that breaks one is refused there
 use Rattle.model.proofs.AuditClauses
 use Rattle.model.proofs.AuditTable
-use mathlib.Core.Path.{_≡_, sym, _∙_}
+use mathlib.Core.Path.{_≡_, sym}
 use mathlib.Core.Logic.{_⊎_, inl, inr}
 use mathlib.Core.Bool.{Bool, true, not, _&&_, _||_}
 use Prim.Native.Nat.{ℕ, _*_, _^_, _≤_, _<_}
@@ -10,9 +10,9 @@ use native.Mathlib.Nat.{mul-le-mul}
 use native.Mathlib.Omega.{arith}
 use lib.Dec.{ltb, eqb}
 use borrow.Author.Tests.{leb-true, ltb-true, ltb-false, eqb-true, eqb-false, le-leb, lt-ltb, eq-eqb, ne-eqb}
-use Rattle.prelude.specs.Scan.{first, count, all, allPairs}
+use Rattle.prelude.specs.Scan.{all, allPairs}
 use Rattle.prelude.proofs.Tests.{each, every-of, by-test, clash, and-l, and-r, or-l, or-r, or-cases, not-t, not-i}
-use Rattle.prelude.proofs.Scan.{all-at, all-of, pairs-at, pairs-of, count-some, count-one, count-past, first-hit, listed-at, listed-once}
+use Rattle.prelude.proofs.Scan.{all-at, all-of, pairs-at, pairs-of, listed-at, once-has, has-once}
 use Rattle.model.specs.Sizes.{Sizes, vacant, sizesOk, InLimits}
 use Rattle.model.specs.Directory.{Directory, slotAt, frameAt, validAt, recencyAt, inFrame}
 use Rattle.model.specs.Soundness.{shapeOk, slotOk, frameOk, slotsDiffer, framesDiffer, cachedOnce, listedOnce, slotPast, framePast, sound, Shape, Entries, Listed, Sound}
@@ -149,11 +149,7 @@ module _ (sz : Sizes) (d : Directory) where
 
   listed-facts : all (sz .B) (listedOnce sz d) ≡ true → Listed sz d
   unfolding listedOnce
-  listed-facts h = record { recency-lt = λ i l. listed-at (sz .B) (recencyAt d) has i l .0; recency-has = has }
-    where
-      has : (f : ℕ) → f < sz .B → (i : ℕ) × (i < sz .B) × (recencyAt d i ≡ f)
-      has f l = let p : ℕ → Bool = λ i. eqb (recencyAt d i) f in let c = eqb-true (count (sz .B) p) 1 (all-at (sz .B) (listedOnce sz d) h f l) in
-          let k = count-some (sz .B) p (omega arith) in (first (sz .B) p, k, eqb-true _ f (first-hit (sz .B) p k))
+  listed-facts h = let has = once-has (sz .B) (recencyAt d) h in record { recency-lt = λ i l. listed-at (sz .B) (recencyAt d) has i l .0; recency-has = has }
 
   pub sound-facts : sound sz d ≡ true → Sound sz d
   unfolding sound slotPast
@@ -212,12 +208,9 @@ module _ (sz : Sizes) (d : Directory) where
       | inr e ↦ or-r (eqb (slotAt d i) vacant) (not-i (by-test (inFrame sz d (slotAt d i) f) (λ q. absurd (s .entries .once i f il fl e q)) (λ q. q)))
     ]
 
-    listed-test : (f : ℕ) → f < sz .B → listedOnce sz d f ≡ true
+    listed-test : all (sz .B) (listedOnce sz d) ≡ true
     unfolding listedOnce
-    listed-test f l = let p : ℕ → Bool = λ i. eqb (recencyAt d i) f in let h = s .listed .recency-has f l in
-        let lo = count-past (h .0) (sz .B) p (h .1) (eq-eqb _ _ (h .2)) in
-        let hi = count-one (sz .B) p (λ i j il jl a b. listed-once (sz .B) (recencyAt d) (s .listed .recency-has) i j il jl (eqb-true _ f a ∙ sym (eqb-true _ f b))) in
-        eq-eqb (count (sz .B) p) 1 (omega arith)
+    listed-test = has-once (sz .B) (recencyAt d) (s .listed .recency-has)
 
     slot-past-test : (i : ℕ) → i < 128 → slotPast sz d i ≡ true
     unfolding slotPast
@@ -249,7 +242,7 @@ module _ (sz : Sizes) (d : Directory) where
                 (
                   all-of (sz .P) (λ i. all (sz .B) (cachedOnce sz d i)) (λ i il. all-of (sz .B) (cachedOnce sz d i) (λ f fl. once-test i f il fl)),
                   (
-                    all-of (sz .B) (listedOnce sz d) listed-test,
+                    listed-test,
                     (all-of 128 (slotPast sz d) slot-past-test, (all-of 8 (framePast sz d) frame-past-test, tt)),
                   ),
                 ),

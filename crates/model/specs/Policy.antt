@@ -165,10 +165,6 @@ dueOf pick sz d =
       | false ↦ elim (ltb (lowestInSlots sz d) (sz .N)) [ true ↦ due (lowestInSlots sz d) 0 | false ↦ clean ]
     ]
 
-abbrev pub dueBlock : Due → ℕ
-dueBlock clean = vacant
-dueBlock (due b f) = b
-
 -- block b has a page cached
 unfoldable pub cached : Sizes → Directory → ℕ → Bool
 cached sz d b = ltb 0 (slotCount sz d b) || ltb (frameOf sz d b) (sz .B)

@@ -1,10 +1,9 @@
 -- Laws of sets as numbers, and of the machine's operations on them.
 use mathlib.Core.Path.{_≡_, refl, sym, ap, _∙_}
 use mathlib.Core.Logic.{_≢_}
-use mathlib.Core.Bool.{Bool, true, false, cond, _||_}
+use mathlib.Core.Bool.{Bool, true, false, _||_}
 use Prim.Native.Nat.{ℕ, zero, suc, _+_, _-_, _*_, _/_, _%_, _^_, _≤_, _<_, max}
 use native.Mathlib.Nat.{not-suc-le-zero, add-zero, add-mul, zero-add, zero-lt-suc, div-eq-of-lt, pow-suc, add-mul-div-right, add-mul-mod-self-right, add-comm, one-mul, zero-div, mod-lt}
-use native.Mathlib.Numerals.{add-one}
 use native.Mathlib.Omega.{arith}
 use lib.Dec.{ltb, leb, eqb}
 use lib.Arith.{digits-div, digits-mod}
@@ -15,7 +14,7 @@ use borrow.Author.Tests.{ltb-true, ltb-false, leb-true, eqb-true, eqb-false, lt-
 use Rattle.prelude.specs.Scan.{count}
 use Rattle.prelude.specs.Bits.{bit, mask, withBit, firstBits}
 use Rattle.prelude.proofs.Tests.{by-test, clash, or-r, or-false, same-test}
-use Rattle.prelude.proofs.Scan.{count-same, count-upto, count-add}
+use Rattle.prelude.proofs.Scan.{count-same, count-upto}
 
 pub mask-lt : (n : ℕ) (p : ℕ → Bool) → mask n p < 2 ^ n
 unfolding mask
@@ -173,19 +172,6 @@ module _ (v i : ℕ) where
 
   pub with-lt : (k : ℕ) → v < 2 ^ k → i < k → withBit v i < 2 ^ k
   with-lt k hv hi = rw (← or-with) (or-lt k v (2 ^ i) hv (pow-lt hi))
-
-  -- one more in the count
-  pub count-with : (n : ℕ) → i < n → bit v i ≡ false → count n (bit (withBit v i)) ≡ suc (count n (bit v))
-  count-with n l h = count-add n (bit v) (bit (withBit v i)) i l h bit-with-same (λ j ne. bit-with-other j (λ e. ne (sym e)))
-
--- a set built number by number
-pub mask-hit : (o : ℕ) (p : ℕ → Bool) → p o ≡ true → withBit (mask o p) o ≡ mask (o + 1) p
-unfolding mask
-mask-hit o p h = with-new (mask o p) o (bit-none o (mask o p) (mask-lt o p)) ∙ rw (add-one o, h) (add-comm (mask o p) (2 ^ o))
-
-pub mask-miss : (o : ℕ) (p : ℕ → Bool) → p o ≡ false → mask (o + 1) p ≡ mask o p
-unfolding mask
-mask-miss o p h = rw (add-one o, h) (zero-add (mask o p))
 
 -- ---- the numbers below k
 

@@ -1,16 +1,16 @@
 -- Laws of pages in a list, over the page size s and any element type.
 use mathlib.Core.Path.{_≡_, refl, sym, ap, _∙_}
 use mathlib.Core.Logic.{_≢_, _⊎_, inl, inr, ⊎-elim}
-use mathlib.Core.Bool.{Bool, cond}
+use mathlib.Core.Bool.{cond}
 use mathlib.Core.List.{List, [], _∷_, _++_, append-assoc}
 use Prim.Native.Nat.{ℕ, zero, suc, _+_, _-_, _*_, _/_, _%_, _≤_, _<_}
-use native.Mathlib.Nat.{not-suc-le-zero, mul-le-mul-right, suc-mul, zero-mul, mul-assoc, add-mul, add-comm, zero-add, mod-lt, div-lt-iff-lt-mul, div-add-mod'}
-use native.Mathlib.Decide.{decLt, ℕ-discrete}
+use native.Mathlib.Nat.{not-suc-le-zero, mul-le-mul-right, suc-mul, zero-mul, mul-assoc, add-mul, add-comm, mod-lt, div-lt-iff-lt-mul, div-add-mod'}
+use native.Mathlib.Decide.{decLt}
 use native.Mathlib.Omega.{arith}
 use lib.Arith.{digits-lt}
 use lib.Dec.{eqb}
 use lib.ListN.{length, getD, set, take, drop, length-append, length-take, length-drop, length-set, take-append-drop}
-use lib.Seq.{take-append-le, drop-append-le, take-append-add, drop-append-add, take-at, drop-at, drop-drop, take-take, take-add, take-length, length-take-le, ext-getD, getD-set-same, getD-set-other}
+use lib.Seq.{take-append-le, drop-append-le, drop-append-add, take-at, drop-at, drop-drop, take-take, take-add, take-length, length-take-le, ext-getD, getD-set-same, getD-set-other}
 use borrow.Author.Tests.{eqb-true, eqb-false}
 use Rattle.prelude.specs.Scan.{tab, tabFrom}
 use Rattle.prelude.specs.Pages.{pageAt, putPage, pagesOf, flat}
@@ -53,15 +53,7 @@ module _ {A : Type 0} (s : ℕ) (l : List A) (i : ℕ) (fits : i * s + s ≤ len
   unfolding pageAt
   length-pageAt = simp (length-take, length-drop) (omega arith)
 
-  pub put-same : putPage s l i (pageAt s l i) ≡ l
-  unfolding pageAt putPage
-  put-same = rw (← drop-drop s (i * s) l, take-append-drop s (drop (i * s) l), take-append-drop (i * s) l)
-
 module _ {A : Type 0} (s : ℕ) (l : List A) (i : ℕ) (pg : List A) (fits : i * s + s ≤ length l) (full : length pg ≡ s) where
-  pub length-putPage : length (putPage s l i pg) ≡ length l
-  unfolding putPage
-  length-putPage = simp (length-append, length-take, length-drop) (omega arith)
-
   head-long : length (take (i * s) l) ≡ i * s
   head-long = length-take-le (i * s) l (omega arith)
 
@@ -92,24 +84,10 @@ module _ {A : Type 0} (s : ℕ) (l : List A) (i : ℕ) (pg : List A) (fits : i *
   pub page-put-other : (j : ℕ) → i ≢ j → pageAt s (putPage s l i pg) j ≡ pageAt s l j
   page-put-other j ne = ⊎-elim (page-put-above j) (page-put-below j) (apart ne)
 
-  pub put-put-same : (q : List A) → putPage s (putPage s l i pg) i q ≡ putPage s l i q
-  unfolding putPage
-  put-put-same q =
-      rw (take-at (take (i * s) l) (pg ++ drop (i * s + s) l) (i * s) head-long)
-      (ap (λ (x : List A). take (i * s) l ++ (q ++ x)) (ap (drop (i * s + s)) grouped ∙ drop-at (take (i * s) l ++ pg) (drop (i * s + s) l) (i * s + s) upto-long))
-
 -- a run of n pages
 module _ {A : Type 0} (s n : ℕ) where
   pub in-run : (l : List A) → length l ≡ n * s → {i : ℕ} → i < n → i * s + s ≤ length l
   in-run l e h = omega (arith, ends-before s h)
-
-  upto : (k : ℕ) (l m : List A) → ((i : ℕ) → i < k → pageAt s l i ≡ pageAt s m i) → take (k * s) l ≡ take (k * s) m
-  unfolding pageAt
-  upto zero l m h = rw (zero-mul s)
-  upto (suc k) l m h = rw (suc-mul k s, take-add (k * s) s l, take-add (k * s) s m, h k (omega arith), upto k l m (λ i g. h i (omega arith)))
-
-  pub ext-pages : (l m : List A) → length l ≡ n * s → length m ≡ n * s → ((i : ℕ) → i < n → pageAt s l i ≡ pageAt s m i) → l ≡ m
-  ext-pages l m el em h = sym (take-length l) ∙ ap (λ (k : ℕ). take k l) el ∙ upto n l m h ∙ ap (λ (k : ℕ). take k m) (sym em) ∙ take-length m
 
 -- blocks of k pages of s: a page of a block is a page of the run
 module _ {A : Type 0} (s k : ℕ) (l : List A) (b o : ℕ) (inside : o < k) where
@@ -171,21 +149,6 @@ module _ {A : Type 0} where
   unfolding flat
   length-flat s [] d h = sym (zero-mul s)
   length-flat s (p ∷ ps) d h = length-append p (flat ps) ∙ rw (h 0 (omega arith), length-flat s ps d (λ j jl. h (suc j) (omega arith)), suc-mul) (add-comm s _)
-
--- ---- one page of a buffer replaced
-
-module _ {A : Type 0} where
-  pub flat-set : (s : ℕ) (ps : List (List A)) (d : List A) → ((j : ℕ) → j < length ps → length (getD ps j d) ≡ s) → (i : ℕ) → i < length ps → (p : List A)
-      → flat (set ps i p) ≡ take (i * s) (flat ps) ++ (p ++ drop (i * s + s) (flat ps))
-  unfolding flat
-  flat-set s [] d h i l p = absurd (omega arith)
-  flat-set s (q ∷ ps) d h zero l p = rw (zero-mul s, zero-add s) (ap (λ (t : List A). p ++ t) (sym (drop-at q (flat ps) s (h 0 l))))
-  flat-set s (q ∷ ps) d h (suc i) l p =
-      let e : s ≡ length q = sym (h 0 (omega arith)) in
-      let t1 : take (suc i * s) (q ++ flat ps) ≡ q ++ take (i * s) (flat ps) = ap (λ (k : ℕ). take k (q ++ flat ps)) (suc-mul i s ∙ add-comm (i * s) s ∙ ap (λ (k : ℕ). k + i * s) e) ∙ take-append-add q (flat ps) (i * s) in
-      let t2 : drop (suc i * s + s) (q ++ flat ps) ≡ drop (i * s + s) (flat ps) = ap (λ (k : ℕ). drop k (q ++ flat ps)) (let w = suc-mul i s in let y : suc i * s + s ≡ length q + (i * s + s) = omega arith in y) ∙ drop-append-add q (flat ps) (i * s + s) in
-      ap (λ (t : List A). q ++ t) (flat-set s ps d (λ j jl. h (suc j) (omega arith)) i (omega arith) p)
-      ∙ sym (rw (t1, t2) (append-assoc q (take (i * s) (flat ps)) (p ++ drop (i * s + s) (flat ps))))
 
 -- ---- a buffer as a list of pages
 

@@ -3,7 +3,7 @@ use mathlib.Core.Path.{_≡_, refl, sym, ap, _∙_}
 use mathlib.Core.Logic.{inl, inr}
 use mathlib.Core.Bool.{Bool, true, false, not, cond, _&&_, _||_}
 use Prim.Native.Nat.{ℕ, zero, suc, _+_, _-_, _≤_, _<_}
-use native.Mathlib.Nat.{not-suc-le-zero, add-zero, zero-add}
+use native.Mathlib.Nat.{not-suc-le-zero}
 use native.Mathlib.Numerals.{add-one}
 use native.Mathlib.Omega.{arith}
 use lib.Dec.{ltb, eqb}
@@ -49,12 +49,6 @@ all-end p i n e q = e ∙ ap (λ (k : ℕ). all k p) q
 -- one that fails
 pub all-fails : (n : ℕ) (p : ℕ → Bool) (i : ℕ) → i < n → p i ≡ false → all n p ≡ false
 all-fails n p i l e = by-test (all n p) (λ h. clash (all-at n p h i l) e) (λ h. h)
-
--- two tests alike below n
-pub all-same : (n : ℕ) (p q : ℕ → Bool) → ((i : ℕ) → i < n → p i ≡ q i) → all n p ≡ all n q
-all-same n p q f = same-test
-    (λ h. all-of n q (λ i l. sym (f i l) ∙ all-at n p h i l))
-    (λ h. all-of n p (λ i l. f i l ∙ all-at n q h i l))
 
 -- a test that does not look at the number
 pub all-or : (n : ℕ) (a : Bool) (p : ℕ → Bool) → (a || all n p) ≡ all n (λ i. a || p i)
@@ -227,12 +221,6 @@ count-remove (suc n) p x l e = by-test (eqb n x)
     (λ k. let k2 = eqb-false n x k in let h = count-remove n p x (omega arith) e in by-test (p n)
     (λ t. rw (t, k) (omega arith))
     (λ t. rw t (omega arith)))
-
--- one number more
-pub count-add : (n : ℕ) (p q : ℕ → Bool) (x : ℕ) → x < n → p x ≡ false → q x ≡ true → ((j : ℕ) → (j ≡ x → ⊥) → q j ≡ p j) → count n q ≡ suc (count n p)
-count-add n p q x l a b f = count-remove n q x l b ∙ ap suc (count-same n (λ i. q i && not (eqb i x)) p (λ j jl. by-test (eqb j x)
-    (λ t. let e = eqb-true j x t in by-test (q j) (λ u. rw (t, u, e) (sym a)) (λ u. rw (u, e) (sym a)))
-    (λ t. by-test (q j) (λ u. rw (t, u) (sym u ∙ f j (eqb-false j x t))) (λ u. rw u (sym u ∙ f j (eqb-false j x t))))))
 
 -- none passes from k on
 pub count-upto : (k n : ℕ) (p : ℕ → Bool) → k ≤ n → ((j : ℕ) → k ≤ j → j < n → p j ≡ false) → count n p ≡ count k p

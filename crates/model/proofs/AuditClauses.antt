@@ -1,7 +1,7 @@
 -- Demand 3 on script A, clause by clause, by computing the store, the page array and the rewrite book side by side.
 use mathlib.Core.Path.{_≡_, refl}
 use mathlib.Core.List.{List, [], _∷_}
-use lib.ListN.{take, getD, replicate}
+use lib.ListN.{take, replicate}
 use Rattle.prelude.specs.Tests.{every}
 use Rattle.prelude.specs.Scan.{firstFrom, first, count, all, allPairs, nth, argmax, least, tabFrom, tab}
 use Rattle.prelude.specs.Bits.{bit, mask}
@@ -15,10 +15,10 @@ use Rattle.model.specs.Calls.{readDone, writeDone, flushDone, refused, A
 use Rattle.model.specs.Calls.{told}
 use Rattle.model.specs.Lists.{Reference, opened, fed, arrayAfter, logAfter, beforeAfter, timesCached}
 
-abbrev sizesA : Sizes
+abbrev pub sizesA : Sizes
 sizesA = record { S = 1; K = 2; N = 3; P = 2; B = 1; W = 9 }
 
-abbrev lentA : Buffers
+abbrev pub lentA : Buffers
 lentA = record { flash = replicate 6 255; wear = replicate 3 0; pspace = replicate 2 0; bspace = replicate 2 0 }
 
 -- four writes, the last by way 7; a read from a frame, one from flash; a refused read and a refused write; a flush

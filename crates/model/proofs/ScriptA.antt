@@ -1,25 +1,19 @@
 -- Demand 3 at script A's sizes, for its writes, reads and flush: the opening is accepted, and the claim speaks of these very bytes.
 use mathlib.Core.Path.{_≡_, refl}
 use mathlib.Core.List.{List, [], _∷_}
-use lib.ListN.{replicate}
 use Rattle.prelude.specs.Tests.{every}
 use Rattle.prelude.specs.Scan.{firstFrom, first, count, all, allPairs, nth, argmax, least, tabFrom, tab}
 use Rattle.prelude.specs.Bits.{bit, mask}
 use Rattle.prelude.specs.Pages.{pageAt, pagesOf, flat}
-use Rattle.model.specs.Sizes.{Sizes, sizesOk}
+use Rattle.model.specs.Sizes.{sizesOk}
 use Rattle.model.specs.Directory.{inFrame, vacantDirectory, blankCache}
 use Rattle.model.specs.Soundness.{shapeOk, slotOk, frameOk, slotsDiffer, framesDiffer, cachedOnce, listedOnce, slotPast, framePast, sound}
 use Rattle.model.specs.Policy.{inBlock, slotOf, inSlots, frameWith, frameOf, validCount, slotCount, readWay, leastRecent, victim, fewestValid, evictable, evictionPlan, plan, occupied, lowestInSlots, dueOf, cached, isWorn, lowestWorn}
 use Rattle.model.specs.Moves.{flashPage, programmed, worn, wornBy, recencyAfter, touched, putSlot, entered, putSlotPage, putFramePage, joined, filled, joinedPages, unmet, spare, taken, givenSlot, exchanged, exchangedPages, vacated, merged, rewrittenPages, readDirectory, written, stepped, readPage, writtenPages, steppedPages}
-use Rattle.model.specs.Calls.{Call, read, write, flush, checked, readOutcome, writeOutcome, stepOutcome, steps, flushOutcome, decide, stepsPages, callPages, Page, Buffers, lentOk, openStore, Store, zeroPage, memoryOf, buffersOf, carriedOut, call}
+use Rattle.model.specs.Calls.{Call, read, write, flush, checked, readOutcome, writeOutcome, stepOutcome, steps, flushOutcome, decide, stepsPages, callPages, Page, lentOk, openStore, Store, zeroPage, memoryOf, buffersOf, carriedOut, call}
 use Rattle.model.specs.Lists.{Claim, opened, fed, arrayAfter}
+use Rattle.model.proofs.AuditClauses.{sizesA, lentA}
 use Rattle.model.proofs.Demand3.{lru, demand-3-lru}
-
-abbrev sizesA : Sizes
-sizesA = record { S = 1; K = 2; N = 3; P = 2; B = 1; W = 9 }
-
-abbrev lentA : Buffers
-lentA = record { flash = replicate 6 255; wear = replicate 3 0; pspace = replicate 2 0; bspace = replicate 2 0 }
 
 abbrev callsA : List (Call Page)
 callsA = write 0 (10 ∷ []) ∷ write 2 (20 ∷ []) ∷ write 4 (30 ∷ []) ∷ write 3 (40 ∷ []) ∷ read 2 (0 ∷ []) ∷ read 1 (0 ∷ []) ∷ flush ∷ []

@@ -779,11 +779,11 @@ steps-of-three = record {
   };
 }
 
--- the same by a flush: 5 blocks cached, 5 rewrites, merge reads counted after the join
+-- the same by a flush: 5 blocks cached, 5 rewrites, merge reads counted after the join; a worn block with no page cached does not stop it
 flush-of-three : Row
 flush-of-three = record {
   sizes = roomy;
-  wear = 0 ∷ 0 ∷ 0 ∷ 0 ∷ 0 ∷ 0 ∷ [];
+  wear = 0 ∷ 0 ∷ 0 ∷ 0 ∷ 0 ∷ 9 ∷ [];
   calls = write 0 (1 ∷ []) ∷ write 4 (2 ∷ []) ∷ write 8 (3 ∷ []) ∷ write 12 (4 ∷ []) ∷ write 16 (5 ∷ []) ∷ write 5 (6 ∷ []) ∷ write 9 (7 ∷ []) ∷ write 10 (8 ∷ []) ∷ write 11 (9 ∷ []) ∷ read 4 (0 ∷ []) ∷ write 0 (10 ∷ []) ∷ write 10 (11 ∷ []) ∷ read 3 (0 ∷ []) ∷ write 17 (12 ∷ []) ∷ write 6 (13 ∷ []) ∷ flush ∷ read 10 (0 ∷ []) ∷ read 6 (0 ∷ []) ∷ [];
   gives = record {
     opening = openDone;
@@ -796,7 +796,7 @@ flush-of-three = record {
     flash = 10 ∷ 255 ∷ 255 ∷ 255 ∷ 2 ∷ 6 ∷ 13 ∷ 255 ∷ 3 ∷ 7 ∷ 11 ∷ 9 ∷ 4 ∷ 255 ∷ 255 ∷ 255 ∷ 5 ∷ 12 ∷ 255 ∷ 255 ∷ 255 ∷ 255 ∷ 255 ∷ 255 ∷ [];
     pspace = 5 ∷ 12 ∷ 13 ∷ 4 ∷ [];
     bspace = 5 ∷ 12 ∷ 255 ∷ 255 ∷ 2 ∷ 6 ∷ 13 ∷ 255 ∷ 3 ∷ 7 ∷ 11 ∷ 9 ∷ [];
-    wear = 1 ∷ 1 ∷ 1 ∷ 1 ∷ 1 ∷ 0 ∷ [];
+    wear = 1 ∷ 1 ∷ 1 ∷ 1 ∷ 1 ∷ 9 ∷ [];
   };
 }
 

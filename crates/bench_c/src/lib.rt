@@ -1,13 +1,9 @@
 // The leaves for a Rust or C program that measures them.
-use address::BlockNo;
-use address::PageNo;
 ghost use mathlib.Core.Path.{_≡_};
 ghost use Prim.Native.Nat.{_+_, _*_, _≤_, _<_};
 ghost use lib.ListN.{replicate};
-ghost use Rattle.prelude.specs.Bits.{withBit};
 ghost use Rattle.prelude.specs.Pages.{pageAt, putPage};
 ghost use Rattle.page.specs.Page.{HasPage, Exchanged};
-ghost use Rattle.address.specs.Address.{blockOf};
 
 // Page si of src goes to page di of dst.
 #[no_mangle]
@@ -51,22 +47,4 @@ pub extern "C" fn rt_fill_page(dst: &mut [u8], di: usize, s: usize, b: u8)
     ensures { λ _. ⌜ now (dst .exit) ≡ putPage s (now (dst .entry)) di (replicate s b) ⌝ }
 {
     page::fill_page(dst, di, s, b);
-}
-
-// The set with offset i.
-#[no_mangle]
-pub extern "C" fn rt_with(v: u64, i: u32) -> u64
-    requires { ⌜ i < 64 ⌝ }
-    ensures { λ r. ⌜ r ≡ withBit v i ⌝ }
-{
-    bitmap::with(v, i)
-}
-
-// The block of page n.
-#[no_mangle]
-pub extern "C" fn rt_block_of(n: PageNo, k: u32) -> BlockNo
-    requires { ⌜ 0 < k ⌝ }
-    ensures { λ r. ⌜ r ≡ blockOf n k ⌝ }
-{
-    address::block_of(n, k)
 }

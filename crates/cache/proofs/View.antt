@@ -1,6 +1,5 @@
 -- Laws of the view: what code reads and stores is what the model has.
-use mathlib.Core.Path.{_≡_, refl, sym, ap, _∙_}
-use mathlib.Core.List.{List}
+use mathlib.Core.Path.{_≡_, refl}
 use Prim.Native.Nat.{ℕ}
 use lib.ListN.{getD, set, length-map, List·getD-map}
 use denote.RattleType.{Valss, owns}
@@ -8,37 +7,13 @@ use denote.Struct.Declared.{shape}
 use denote.Shadow.{shadow}
 use Rattle.address.specs.declared.PageNo.{PageNo}
 use Rattle.address.specs.declared.BlockNo.{BlockNo}
-use Rattle.prelude.proofs.Tab.{map-set, map-undo}
+use Rattle.prelude.proofs.Tab.{map-set}
 use Rattle.model.specs.Directory as model
 use Rattle.model.specs.Directory.{slotAt, frameAt, validAt, recencyAt}
 use Rattle.model.specs.Soundness.{Shape}
 use Rattle.cache.specs.declared.Directory.{Directory}
-use Rattle.cache.specs.View.{pageNo, blockNo, directoryOf, ofDirectory}
+use Rattle.cache.specs.View.{pageNo, blockNo, directoryOf}
 use Rattle.cache.proofs.Directory.{the-type}
-
--- ---- and back again
-
-pub view-of : (m : model.Directory) → directoryOf (ofDirectory m) ≡ m
-unfolding directoryOf ofDirectory
-view-of m = λ i. record {
-  slots = map-undo pageNo (λ (x : PageNo). x .0) (λ n. refl) (m .slots) i;
-  frames = map-undo blockNo (λ (x : BlockNo). x .0) (λ n. refl) (m .frames) i;
-  valid = m .valid;
-  recency = m .recency;
-}
-
-pub of-view : (d : Directory) → ofDirectory (directoryOf d) ≡ d
-unfolding directoryOf ofDirectory
-of-view d = λ i. record {
-  slots = map-undo (λ (x : PageNo). x .0) pageNo (λ x. refl) (d .slots) i;
-  frames = map-undo (λ (x : BlockNo). x .0) blockNo (λ x. refl) (d .frames) i;
-  valid = d .valid;
-  recency = d .recency;
-}
-
--- a directory with the model's numbers m is the one that m makes
-pub made-of : (d : Directory) (m : model.Directory) → directoryOf d ≡ m → d ≡ ofDirectory m
-made-of d m h = sym (of-view d) ∙ ap ofDirectory h
 
 module _ (d : Directory) (i : ℕ) where
   -- ---- what code reads at an index
@@ -70,16 +45,6 @@ module _ (d : Directory) (i : ℕ) where
       ≡ record { slots = directoryOf d .slots; frames = set (directoryOf d .frames) i (x .0); valid = directoryOf d .valid; recency = directoryOf d .recency }
   unfolding directoryOf
   frame-set x = λ j. record { slots = directoryOf d .slots; frames = map-set (λ (y : BlockNo). y .0) (d .frames) i x j; valid = d .valid; recency = d .recency }
-
-  pub valid-set : (v : ℕ) → directoryOf (record { slots = d .slots; frames = d .frames; valid = set (d .valid) i v; recency = d .recency })
-      ≡ record { slots = directoryOf d .slots; frames = directoryOf d .frames; valid = set (directoryOf d .valid) i v; recency = directoryOf d .recency }
-  unfolding directoryOf
-  valid-set v = refl
-
-  pub recency-set : (f : ℕ) → directoryOf (record { slots = d .slots; frames = d .frames; valid = d .valid; recency = set (d .recency) i f })
-      ≡ record { slots = directoryOf d .slots; frames = directoryOf d .frames; valid = directoryOf d .valid; recency = set (directoryOf d .recency) i f }
-  unfolding directoryOf
-  recency-set f = refl
 
 -- ---- the lengths, which a list's type does not say: of a parameter `c .good .0 .1 .1`, of a call's result `c .CALL .ok .1 .1`
 

@@ -19,7 +19,3 @@ sizesOf z = record { S = z .«page_size»; K = z .«pages_per_block»; N = z .bl
 
 unfoldable pub directoryOf : Directory → directory.Directory
 directoryOf d = record { slots = map (λ (x : PageNo). x .0) (d .slots); frames = map (λ (x : BlockNo). x .0) (d .frames); valid = d .valid; recency = d .recency }
-
--- and back
-unfoldable pub ofDirectory : directory.Directory → Directory
-ofDirectory m = record { slots = map pageNo (m .slots); frames = map blockNo (m .frames); valid = m .valid; recency = m .recency }

@@ -2,24 +2,21 @@
 use mathlib.Core.Path.{_≡_, sym, ap, _∙_}
 use mathlib.Core.Logic.{_⊎_, inl, inr}
 use mathlib.Core.Bool.{true, false, cond}
-use mathlib.Core.List.{List}
 use Prim.Native.Nat.{ℕ, _+_, _-_, _*_, _%_, _≤_, _<_}
 use native.Mathlib.Numerals.{add-one}
 use native.Mathlib.Omega.{arith}
 use lib.Dec.{ltb}
-use lib.ListN.{getD}
 use borrow.Author.Tests.{ltb-true}
 use Rattle.prelude.specs.Scan.{firstFrom, count, nth}
 use Rattle.prelude.specs.Bits.{bit}
 use Rattle.prelude.proofs.Tests.{by-test, and-r, not-t}
 use Rattle.prelude.proofs.Scan.{from-le, from-same, count-hit, count-miss, nth-is, nth-zero, nth-suc}
-use Rattle.prelude.proofs.Tab.{getD-tab, tab-ext}
 use Rattle.prelude.proofs.Bits.{bit-mask}
 use Rattle.model.specs.Sizes.{Sizes}
-use Rattle.model.specs.Directory.{Directory, slotAt, frameAt, validAt}
+use Rattle.model.specs.Directory.{Directory, slotAt, validAt}
 use Rattle.model.specs.Policy.{inBlock, inSlots}
-use Rattle.model.specs.Moves.{unmet, spare, taken, givenSlot}
-use Rattle.moves.specs.Numbers.{regiven, offsetsOf}
+use Rattle.model.specs.Moves.{unmet, spare, taken}
+use Rattle.moves.specs.Numbers.{offsetsOf}
 use Rattle.moves.specs.Exchange.{leaves}
 use Rattle.moves.proofs.Offset.{offsets-alone}
 

@@ -1,18 +1,16 @@
 -- The exchange of way 6 in parts.
 use mathlib.Core.Path.{_≡_}
-use mathlib.Core.Logic.{_⊎_}
-use mathlib.Core.Bool.{Bool, true, false, not, cond, _&&_}
+use mathlib.Core.Bool.{Bool, not, cond, _&&_}
 use mathlib.Core.List.{List}
-use Prim.Native.Nat.{ℕ, _+_, _*_, _%_, _<_}
+use Prim.Native.Nat.{ℕ, _<_}
 use lib.Dec.{ltb}
 use lib.ListN.{getD}
 use Rattle.prelude.specs.Scan.{tab}
 use Rattle.prelude.specs.Bits.{bit}
 use Rattle.prelude.specs.Pages.{pageAt, putPage}
-use Rattle.model.specs.Sizes.{Sizes, vacant}
-use Rattle.model.specs.Directory.{Directory, slotAt, frameAt}
-use Rattle.model.specs.Soundness.{Sound}
-use Rattle.model.specs.Policy.{inBlock, inSlots}
+use Rattle.model.specs.Sizes.{Sizes}
+use Rattle.model.specs.Directory.{Directory, frameAt}
+use Rattle.model.specs.Policy.{inBlock}
 use Rattle.model.specs.Moves.{taken, exchanged, exchangedPages}
 use Rattle.model.specs.Calls.{Page, zeroPage, slotPages}
 use Rattle.moves.specs.Numbers.{offsetsOf}

@@ -92,8 +92,3 @@ module _ {A B : Type 0} (f : A → B) where
   map-set [] i x = refl
   map-set (y ∷ l) zero x = refl
   map-set (y ∷ l) (suc i) x = ap (λ (t : List B). f y ∷ t) (map-set l i x)
-
-  -- what g undoes at each element it undoes at each list
-  pub map-undo : (g : B → A) → ((x : A) → g (f x) ≡ x) → (l : List A) → map g (map f l) ≡ l
-  map-undo g h [] = refl
-  map-undo g h (x ∷ l) = ap (λ (y : A). y ∷ map g (map f l)) (h x) ∙ ap (λ (t : List A). x ∷ t) (map-undo g h l)

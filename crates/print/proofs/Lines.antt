@@ -6,8 +6,7 @@ use Prim.Native.Nat.{ℕ, zero, suc, _+_, _<_}
 use native.Mathlib.Nat.{le-of-suc-le-suc, not-suc-le-zero}
 use native.Mathlib.Numerals.{add-one}
 use lib.ListN.{length, take, getD}
-use Rattle.model.specs.Sizes.{vacant}
-use Rattle.model.specs.Calls.{readDone, writeDone, stepDone, flushDone, refused}
+use Rattle.model.specs.Calls.{readDone, writeDone, stepDone, flushDone}
 use Rattle.print.specs.Text.{bytes, decimal, form, items}
 use Rattle.print.specs.Print.{line, said, field, refusal, erased, writeLine, readLine, stepLine, flushLine, wearLine, badLine, spaced}
 
@@ -67,11 +66,6 @@ step-line b m = four (40 ∷ bytes "step") (32 ∷ field "block" b) (32 ∷ fiel
 pub flush-line : (r m : ℕ) → (((40 ∷ bytes "flush") ++ (32 ∷ field "rewrites" r)) ++ (32 ∷ field "merged" m)) ++ end ≡ flushLine (flushDone r m)
 unfolding said tails
 flush-line r m = four (40 ∷ bytes "flush") (32 ∷ field "rewrites" r) (32 ∷ field "merged" m) end ∙ whole "flush" _
-
--- a refusal's block is not printed, nor the byte of a page
-pub refused-alike : (r b byte : ℕ) → said (refused r b) byte ≡ said (refused r vacant) 0
-unfolding said
-refused-alike r b byte = refl
 
 -- a refusal after a call's words
 pub refused-line : (w : String) (r : ℕ) → (40 ∷ bytes w) ++ (32 ∷ (refusal r ++ end)) ≡ line w (refusal r ∷ [])

@@ -1,7 +1,6 @@
 use borrow.Author.Needs.{needs}
 use mathlib.Core.Path.{ap}
 use Prim.Native.Nat.{ℕ}
-use Rattle.address.specs.declared.BlockNo.{BlockNo}
 use Rattle.address.proofs.Product.{by-product, product-lt, quotient-lt}
 use Rattle.address.proofs.block_by.Statement.{statement}
 use Rattle.address.proofs.block_by.Tie as tie

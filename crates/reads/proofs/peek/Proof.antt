@@ -1,11 +1,8 @@
 use borrow.Author.Needs.{needs}
 use native.Mathlib.Omega.{arith}
-use mathlib.Core.Path.{_≡_, sym, ap}
-use Prim.Native.Nat.{ℕ, _+_, _*_, _%_}
-use Rattle.prelude.specs.Pages.{pageAt}
-use Rattle.page.specs.Page.{HasPage}
+use mathlib.Core.Path.{_≡_}
+use Prim.Native.Nat.{_%_}
 use Rattle.model.proofs.Soundness.{frames-small}
-use Rattle.model.proofs.Lookup.{offset-lt}
 use Rattle.reads.proofs.Places.{has-slot, has-frame-page, frame-page-lt, has-flash, has-buffer, from-slot, from-frame, from-flash}
 use Rattle.reads.proofs.peek.Statement.{statement}
 use Rattle.reads.proofs.peek.Tie as tie

@@ -1,6 +1,5 @@
 use borrow.Author.Needs.{needs}
-use native.Mathlib.Omega.{arith}
-use mathlib.Core.Path.{_≡_, refl, sym, ap, _∙_}
+use mathlib.Core.Path.{sym, ap, _∙_}
 use Rattle.cache.specs.View.{sizesOf, directoryOf}
 use Rattle.reads.proofs.Places.{wayOf, after, frame-below, read-out}
 use Rattle.reads.proofs.read.Statement.{statement}

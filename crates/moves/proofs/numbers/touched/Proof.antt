@@ -2,9 +2,9 @@ use mathlib.Core.Path.{ap}
 use mathlib.Core.List.{List}
 use Prim.Native.Nat.{ℕ}
 use Rattle.prelude.proofs.Scan.{position-is}
-use Rattle.model.specs.Directory.{Directory, recencyAt}
+use Rattle.model.specs.Directory.{recencyAt}
 use Rattle.model.specs.Moves.{touched, recencyAfter}
-use Rattle.cache.specs.View.{sizesOf, directoryOf}
+use Rattle.cache.specs.View.{directoryOf}
 use Rattle.moves.specs.Numbers.{orderAlone}
 use Rattle.moves.proofs.numbers.touched.Statement.{statement}
 use Rattle.moves.proofs.numbers.touched.Tie as tie

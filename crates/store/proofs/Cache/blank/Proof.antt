@@ -1,5 +1,4 @@
 use borrow.Author.Needs.{needs}
-use native.Mathlib.Omega.{arith}
 use Rattle.model.specs.Directory.{blankCache}
 use Rattle.store.proofs.Cache.blank.Statement.{statement}
 use Rattle.store.proofs.Cache.blank.Tie as tie

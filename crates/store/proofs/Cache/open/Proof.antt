@@ -1,13 +1,9 @@
 use borrow.Author.Needs.{needs}
-use native.Mathlib.Omega.{arith}
-use mathlib.Core.Path.{_≡_, sym, _∙_}
-use mathlib.Core.Bool.{true, false}
+use mathlib.Core.Path.{sym, _∙_}
 use borrow.Author.Tests.{not-true, not-false}
-use Rattle.model.specs.Sizes.{sizesOk}
-use Rattle.model.specs.Calls.{lentOk, openDone}
+use Rattle.model.specs.Calls.{openDone}
 use Rattle.model.proofs.Soundness.{limits-of}
 use Rattle.cache.specs.View.{sizesOf}
-use Rattle.answer.specs.Carried.{buffers}
 use Rattle.store.proofs.ByTests.{lengths-lent, open-size, open-buffer, open-overworn, open-done}
 use Rattle.store.proofs.Cache.open.Statement.{statement}
 use Rattle.store.proofs.Cache.open.Tie as tie

@@ -1,5 +1,4 @@
 use borrow.Author.Needs.{needs}
-use native.Mathlib.Omega.{arith}
 use Rattle.answer.specs.Numbers.{refusalOf}
 use Rattle.store.proofs.open.refused.Statement.{statement}
 use Rattle.store.proofs.open.refused.Tie as tie

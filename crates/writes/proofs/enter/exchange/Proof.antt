@@ -1,5 +1,4 @@
 use borrow.Author.Needs.{needs}
-use native.Mathlib.Omega.{arith}
 use mathlib.Core.Path.{_∙_}
 use Rattle.writes.proofs.Entering.{exchange-enters, exchange-entered}
 use Rattle.writes.proofs.enter.exchange.Statement.{statement}

@@ -1,5 +1,4 @@
 use borrow.Author.Needs.{needs}
-use native.Mathlib.Omega.{arith}
 use Rattle.writes.proofs.Entering.{join-enters, join-entered}
 use Rattle.writes.proofs.enter.join.Statement.{statement}
 use Rattle.writes.proofs.enter.join.Tie as tie

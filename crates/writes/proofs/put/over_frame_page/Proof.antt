@@ -1,6 +1,4 @@
 use borrow.Author.Needs.{needs}
-use native.Mathlib.Omega.{arith}
-use mathlib.Core.Path.{sym}
 use Rattle.model.proofs.Lookup.{offset-lt}
 use Rattle.writes.proofs.Over.{frame-buffer, has-stretch, frame-page-is}
 use Rattle.writes.proofs.put.over_frame_page.Statement.{statement}

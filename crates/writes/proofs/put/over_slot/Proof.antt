@@ -1,5 +1,4 @@
 use borrow.Author.Needs.{needs}
-use native.Mathlib.Omega.{arith}
 use Rattle.writes.proofs.Over.{slot-buffer, has-slot, slot-is}
 use Rattle.writes.proofs.put.over_slot.Statement.{statement}
 use Rattle.writes.proofs.put.over_slot.Tie as tie

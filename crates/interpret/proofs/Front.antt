@@ -14,7 +14,7 @@ use Rattle.model.specs.Soundness.{sound}
 use Rattle.model.specs.Policy.{leastRecent}
 use Rattle.model.specs.Calls.{Call, Page, Buffers, Store, Result, Outcome, Fits, isRefused, lentOk, stateOf, told, decide, carriedOut, call}
 use Rattle.model.proofs.Soundness.{limits-of}
-use Rattle.print.specs.Print.{lineRoom}
+use Rattle.print.specs.Print.{lineRoom, wearRoom}
 use Rattle.script.specs.Forms as form
 use Rattle.script.specs.Forms.{buffersFit}
 use Rattle.script.specs.declared.Form.{Form}
@@ -138,7 +138,7 @@ module _ (sz : model.Sizes) (p : Parts) (q : PartsOf sz p) where
       bspace = take (q .bspace-is i) bspace;
     }
 
-    pub lent-parts : (sz′ : model.Sizes) → sz ≡ sz′ → (page out : List ℕ) → Within p → length flash ≡ 32768 → length wear ≡ 4096 → length pspace ≡ 32768 → length bspace ≡ 32768 → length page ≡ 2048 → length out ≡ 49152
+    pub lent-parts : (sz′ : model.Sizes) → sz ≡ sz′ → (page out : List ℕ) → Within p → length flash ≡ 32768 → length wear ≡ 4096 → length pspace ≡ 32768 → length bspace ≡ 32768 → length page ≡ 2048 → wearRoom 4096 ≤ length out
         → Lent sz′ (buffers (take (p .flash) flash) (take (p .wear) wear) (take (p .pspace) pspace) (take (p .bspace) bspace)) (take (p .page) page) out
     lent-parts sz′ z page out w fl wl pl bl gl ol =
         let e = length-take-le (p .wear) wear (omega arith) in

@@ -2,4 +2,5 @@ pub mod Said
 pub mod Carrying
 pub mod Opening
 pub mod Front
-pub mod Walk
+pub mod Rest
+pub mod Onward

@@ -1,16 +1,15 @@
 -- What the lines of a script do, and what the script program prints.
 use mathlib.Core.Bool.{cond}
 use mathlib.Core.List.{List, [], _∷_, _++_}
-use Prim.Native.Nat.{ℕ, zero, suc, _+_, _*_}
+use Prim.Native.Nat.{ℕ, _+_, _*_}
 use lib.Dec.{ltb}
-use lib.ListN.{length, getD, replicate}
+use lib.ListN.{length, getD, replicate, drop}
 use Rattle.model.specs.Sizes.{Sizes, sizesOk}
 use Rattle.model.specs.Directory.{blankCache}
 use Rattle.model.specs.Policy.{leastRecent}
 use Rattle.model.specs.Calls.{isRefused, Buffers, Store, openStore, call, read, write, step, flush}
 use Rattle.print.specs.Print.{openLine, writeLine, readLine, stepLine, flushLine, wearLine, badLine}
 use Rattle.script.specs.Forms.{Form, opens, writes, reads, steps, flushes, wears, bad, linesOf, formOf}
-use Rattle.script.specs.Walk.{itemAt, line, end}
 
 -- ---- a line
 
@@ -88,10 +87,6 @@ printedBy s i (l ∷ ls) = carried s (formOf l) i .printed ++ printedBy (carried
 unfoldable pub outputOf : List ℕ → List ℕ
 outputOf script = cond (ltb 32768 (length script)) (badLine 0) (printedBy blankStore 1 (linesOf script))
 
--- a walk over at most c lines of a script, from a place with its line number on
-unfoldable pub walked : List ℕ → ℕ → Store → ℕ → ℕ → List ℕ
-walked script zero s at i = []
-walked script (suc c) s at i = elim (itemAt script at i) [
-  | line f n next ↦ carried s f n .printed ++ walked script c (carried s f n .store) next (n + 1)
-  | end ↦ []
-]
+-- what is left to print at a place of a script, of line number i
+abbrev pub rest : List ℕ → Store → ℕ → ℕ → List ℕ
+rest script s at i = printedBy s i (linesOf (drop at script))

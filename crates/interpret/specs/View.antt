@@ -77,14 +77,18 @@ pub record Lent (sz : Sizes) (u : Buffers) (page out : List ℕ) : Type 0 where
   pub wear-room : length (u .wear) ≤ 4096
   pub room : wearRoom 4096 ≤ length out
 
--- the memory's lengths, and sizes that fit it
-pub record Lendable (sz : Sizes) (f : Form) (flash wear pspace bspace page out : List ℕ) : Type 0 where
-  pub flash-length : length flash ≡ 32768
-  pub wear-length : length wear ≡ 4096
-  pub pspace-length : length pspace ≡ 32768
-  pub bspace-length : length bspace ≡ 32768
+-- the memory's lengths
+pub record Memory (m : Buffers) (page : List ℕ) : Type 0 where
+  pub flash-length : length (m .flash) ≡ 32768
+  pub wear-length : length (m .wear) ≡ 4096
+  pub pspace-length : length (m .pspace) ≡ 32768
+  pub bspace-length : length (m .bspace) ≡ 32768
   pub page-length : length page ≡ 2048
-  pub out-length : length out ≡ 49152
+
+-- the memory, sizes that fit it, and room for the line
+pub record Lendable (sz : Sizes) (f : Form) (flash wear pspace bspace page out : List ℕ) : Type 0 where
+  pub memory : Memory (buffers flash wear pspace bspace) page
+  pub room : wearRoom 4096 ≤ length out
   pub held : Held sz
   pub sized : Sized f
 

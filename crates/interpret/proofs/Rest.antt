@@ -1,8 +1,8 @@
--- A script walked place by place prints what the program prints.
+-- What is left to print at a place of a script.
 use mathlib.Core.Path.{_≡_, refl, sym, ap, _∙_, subst}
 use mathlib.Core.Bool.{Bool, true, false, cond, _&&_, not}
 use mathlib.Core.List.{List, [], _∷_, _++_, map}
-use Prim.Native.Nat.{ℕ, zero, suc, _+_, _≤_, _<_}
+use Prim.Native.Nat.{ℕ, _+_, _≤_, _<_}
 use native.Mathlib.Omega.{arith}
 use lib.Dec.{leb, ltb, eqb}
 use lib.ListN.{length, getD, drop}
@@ -16,15 +16,15 @@ use Rattle.model.specs.Calls.{Store}
 use Rattle.model.proofs.Soundness.{limits-of, limits-test}
 use Rattle.print.specs.Text.{bytes}
 use Rattle.print.specs.Print.{badLine}
-use Rattle.script.specs.Forms.{Form, writes, reads, steps, flushes, wears, bad, same, isNumber, five, buffersFit, opening, sizesFrom, formWith, formOfWords, valueOf, wordsOf, bracketed, inside, linesOf, formOf}
-use Rattle.script.specs.Parts.{upTo, endOf}
+use Rattle.script.specs.Forms.{Form, writes, reads, steps, flushes, wears, bad, same, isNumber, five, buffersFit, opening, sizesFrom, formWith, formOfWords, valueOf, wordsOf, bracketed, inside, formOf}
+use Rattle.script.specs.Parts.{upTo}
 use Rattle.script.specs.Walk.{Item, line, end, itemAt}
 use Rattle.script.proofs.Words.{lines-from, lines-none, end-le}
 use Rattle.script.proofs.Walk.{item-line, item-end}
 use Rattle.cache.specs.View.{sizesOf}
 use Rattle.store.specs.declared.Cache.{Cache}
 use Rattle.store.specs.View.{cacheOf, storeOf}
-use Rattle.interpret.specs.Lines.{carried, printedBy, outputOf, walked, blankStore}
+use Rattle.interpret.specs.Lines.{carried, printedBy, outputOf, rest, blankStore}
 use Rattle.interpret.specs.View.{Held, Sized, front}
 
 -- ---- before an opening
@@ -103,10 +103,6 @@ sized-form l = sized-cond (bracketed l) (formOfWords (wordsOf (inside l))) bad (
 
 -- ---- the walk
 
--- what is left to print at a place of a script, of line number i
-abbrev pub rest : List ℕ → Store → ℕ → ℕ → List ℕ
-rest script s at i = printedBy s i (linesOf (drop at script))
-
 -- what stands at the place is carried out, and the walk goes on
 abbrev pub onward : List ℕ → Store → Item → List ℕ
 onward script s (line f n next) = carried s f n .printed ++ rest script (carried s f n .store) next (n + 1)
@@ -129,22 +125,6 @@ module _ (script : List ℕ) (at i : ℕ) where
       (λ t. let h = ltb-true at (length script) t in let k = end-le 10 script at (omega arith) in
       subst (Stands script at i) (sym (item-line script at i h)) (sized-form (upTo 10 (drop at script)), (refl, (omega arith, omega arith))))
       (λ t. let h = ltb-false at (length script) t in subst (Stands script at i) (sym (item-end script at i h)) h)
-
--- a walk of enough lines prints all that is left
-pub walk-rest : (script : List ℕ) (c : ℕ) (s : Store) (at i : ℕ) → length script ≤ at + c → walked script c s at i ≡ rest script s at i
-unfolding walked
-walk-rest script zero s at i h = sym (rest-item script at i s ∙ ap (onward script s) (item-end script at i (omega arith)))
-walk-rest script (suc c) s at i h = by-test (ltb at (length script))
-    (λ t. let l = ltb-true at (length script) t in
-    rw (item-line script at i l, walked) (ap (λ (x : List ℕ). carried s (formOf (upTo 10 (drop at script))) i .printed ++ x)
-    (walk-rest script c (carried s (formOf (upTo 10 (drop at script))) i .store) (endOf 10 script at + 1) (i + 1) (omega arith))
-    ∙ sym (rest-item script at i s ∙ ap (onward script s) (item-line script at i l))))
-    (λ t. let l = ltb-false at (length script) t in rw (item-end script at i l, walked) (sym (rest-item script at i s ∙ ap (onward script s) (item-end script at i l))))
-
--- the walk over a whole script from the blank store prints the program's output
-pub walk-output : (script : List ℕ) → length script ≤ 32768 → walked script (length script) blankStore 0 1 ≡ outputOf script
-unfolding outputOf
-walk-output script h = walk-rest script (length script) blankStore 0 1 (omega arith) ∙ rw (le-ltb 32768 (length script) h)
 
 pub rest-output : (script : List ℕ) → length script ≤ 32768 → rest script blankStore 0 1 ≡ outputOf script
 unfolding outputOf

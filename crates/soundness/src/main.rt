@@ -1,19 +1,19 @@
 // Runs the soundness test on records whose answer document 01 settles: sizes at their limits and one past, sound records at
 // the largest sizes and at others, and sound records with one entry spoilt, each entry in turn. A line for each case says what
 // must come out and what came out.
-mod records;
 mod report;
+mod runs;
 
 use cache::Directory;
 use cache::Sizes;
 use cache::VACANT;
 use records::Entry;
 use records::crowded;
-use records::entries;
 use records::filled;
 use records::largest;
 use records::middling;
 use records::sizes;
+use runs::entries;
 ghost use Prim.Native.Nat.{_≤_};
 
 fn main() {

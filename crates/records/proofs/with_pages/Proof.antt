@@ -1,7 +1,7 @@
 use borrow.Author.Needs.{needs}
 use Prim.Native.Nat.{_-_}
-use Rattle.soundness.proofs.records.with_pages.Statement.{statement}
-use Rattle.soundness.proofs.records.with_pages.Tie as tie
+use Rattle.records.proofs.with_pages.Statement.{statement}
+use Rattle.records.proofs.with_pages.Tie as tie
 
 abbrev Inv-loop : tie.InvT-loop
 Inv-loop a e start step r₀ n₀ i₀ r n i = Unit {0}

@@ -1,7 +1,7 @@
 use borrow.Author.Needs.{needs}
 use Prim.Native.Nat.{_-_}
-use Rattle.soundness.proofs.records.with_blocks.Statement.{statement}
-use Rattle.soundness.proofs.records.with_blocks.Tie as tie
+use Rattle.records.proofs.with_blocks.Statement.{statement}
+use Rattle.records.proofs.with_blocks.Tie as tie
 
 abbrev Inv-loop : tie.InvT-loop
 Inv-loop s r₀ f₀ r f = Unit {0}

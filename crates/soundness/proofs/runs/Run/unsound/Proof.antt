@@ -1,7 +1,7 @@
 use borrow.Author.Needs.{needs}
 use Prim.Native.Nat.{_-_}
-use Rattle.soundness.proofs.records.Run.unsound.Statement.{statement}
-use Rattle.soundness.proofs.records.Run.unsound.Tie as tie
+use Rattle.soundness.proofs.runs.Run.unsound.Statement.{statement}
+use Rattle.soundness.proofs.runs.Run.unsound.Tie as tie
 
 abbrev Inv-loop : tie.InvT-loop
 Inv-loop x s d to count₀ i₀ count i = Unit {0}

@@ -24,7 +24,7 @@ use Rattle.store.specs.declared.Cache.{Cache}
 use Rattle.store.specs.View.{cacheOf}
 use Rattle.interpret.specs.declared.Lined.{Lined}
 use Rattle.interpret.specs.declared.walk.Walk.{Walk}
-use Rattle.interpret.specs.Lines.{Effect, carried, printedBy, rest}
+use Rattle.interpret.specs.Lines.{Effect, carried, printedBy, rest, outputOf}
 use Rattle.interpret.specs.View.{Held, Memory, CarriedOut}
 use Rattle.interpret.specs.Walk.{inUse, printing, Ready, More, Started, Onward, Output}
 use Rattle.interpret.proofs.Rest.{held-blank, blank-front, onward, Stands, rest-item, item-stands, rest-output, over-output}
@@ -141,13 +141,16 @@ module _ (script : List ℕ) (w : Walk) (m : Buffers) (out : List ℕ) (ready : 
 
 -- ---- the output
 
--- a walk that has no more, or no room: what is printed is the output's first bytes, and all of it where there is room
-pub output-printed : (script : List ℕ) (r : Walk) (m : Buffers) (out o : List ℕ) → printing script r m out ≡ o → r .printed ≤ length out → (More script r out → ⊥) → Output o out (r .printed)
-output-printed script r m out o e h none =
+-- a walk from the start that has no more, or no room: what is printed is the output's first bytes, and all of it where there is room
+pub output-printed : {script : List ℕ} {w r : Walk} {m n : Buffers} {old out : List ℕ} → Started script w old → Onward script w m old r n out → (More script r out → ⊥) → Output (outputOf script) out (r .printed)
+output-printed {script} {w} {r} {m} {n} {old} {out} start on none =
+    let e : printing script r n out ≡ outputOf script = on .output ∙ start .output m in
+    let h = on .ready .printed-le in
     let long = length-take-le (r .printed) out h in
     record {
-      first = sym (ap (take (r .printed)) (sym e) ∙ take-at (take (r .printed) out) (rest script (inUse r m) (r .at) (r .number)) (r .printed) long);
+      within = h;
+      first = sym (ap (take (r .printed)) (sym e) ∙ take-at (take (r .printed) out) (rest script (inUse r n) (r .at) (r .number)) (r .printed) long);
       whole = λ room. by-test (ltb (r .at) (length script))
           (λ t. absurd (none (record { line = ltb-true (r .at) (length script) t; room = room })))
-          (λ t. sym (ap length (sym e ∙ ap (λ (l : List ℕ). take (r .printed) out ++ l) (rest-none script (inUse r m) (r .at) (r .number) (ltb-false (r .at) (length script) t)) ∙ append-nil (take (r .printed) out)) ∙ long));
+          (λ t. sym (ap length (sym e ∙ ap (λ (l : List ℕ). take (r .printed) out ++ l) (rest-none script (inUse r n) (r .at) (r .number) (ltb-false (r .at) (length script) t)) ∙ append-nil (take (r .printed) out)) ∙ long));
     }

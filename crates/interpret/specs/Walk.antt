@@ -45,5 +45,6 @@ pub record Onward (script : List ℕ) (w : Walk) (m : Buffers) (out : List ℕ) 
 
 -- the first n bytes of out are those of o: all of them, unless less room is left than a line may need
 pub record Output (o out : List ℕ) (n : ℕ) : Type 0 where
+  pub within : n ≤ length out
   pub first : take n out ≡ take n o
   pub whole : n + wearRoom 4096 ≤ length out → n ≡ length o

@@ -1,5 +1,4 @@
 use borrow.Author.Needs.{needs}
-use mathlib.Core.Path.{_∙_}
 use Prim.Native.Nat.{ℕ}
 use lib.ListN.{length-replicate}
 use Rattle.interpret.proofs.Onward.{output-printed}
@@ -43,7 +42,7 @@ same-length : tie.Need-same-length
 same-length c = search needs
 
 returns-2 : tie.Need-returns-2
-returns-2 c = let h = c .before .before .before .before .before .before .before .run .ensures in output-printed _ (c .before .before .before .before .before .before .before .run .result) _ _ _ (h .0 .output ∙ c .before .before .before .before .before .before .before .before .before .before .before .before .before .before .before .before .start .ensures .output _) (h .0 .ready .printed-le) (h .1 .1)
+returns-2 c = let h = c .before .before .before .before .before .before .before .run .ensures in output-printed (c .before .before .before .before .before .before .before .before .before .before .before .before .before .before .before .before .start .ensures) (h .0) (h .1 .1)
 
 pub output-spec : {M : Type 1} → statement M
 output-spec =

@@ -1,0 +1,53 @@
+use borrow.Author.Needs.{needs}
+use Prim.Native.Nat.{_-_}
+use Rattle.histories.proofs.spoilt.spoilt.Statement.{statement}
+use Rattle.histories.proofs.spoilt.spoilt.Tie as tie
+
+abbrev Inv-loop : tie.InvT-loop
+Inv-loop from to x s d count₀ i₀ count i = Unit {0}
+
+abbrev μ-loop : tie.MeasureT-loop
+μ-loop from to x s d count₀ i₀ count i = to - i
+
+sound-requires : tie.Need-sound-requires Inv-loop μ-loop
+sound-requires c κs = search needs
+
+loop-holds : tie.Need-loop-holds Inv-loop μ-loop
+loop-holds c = search needs
+
+with-requires : tie.Need-with-requires Inv-loop μ-loop
+with-requires c κs = search needs
+
+refusals-requires : tie.Need-refusals-requires Inv-loop μ-loop
+refusals-requires c κs = search needs
+
+wrapping-add-u64-requires : tie.Need-wrapping-add-u64-requires Inv-loop μ-loop
+wrapping-add-u64-requires c κs = search needs
+
+add-i : tie.Need-add-i Inv-loop μ-loop
+add-i c = search needs
+
+loop-less : tie.Need-loop-less Inv-loop μ-loop
+loop-less c = search needs
+
+loop-again : tie.Need-loop-again Inv-loop μ-loop
+loop-again c = search needs
+
+returns : tie.Need-returns Inv-loop μ-loop
+returns c = search needs
+
+pub spoilt-spec : {M : Type 1} → statement M
+spoilt-spec =
+    tie.close
+    (tie.spec
+    Inv-loop
+    μ-loop
+    sound-requires
+    loop-holds
+    with-requires
+    refusals-requires
+    wrapping-add-u64-requires
+    add-i
+    loop-less
+    loop-again
+    returns)

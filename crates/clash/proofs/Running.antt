@@ -10,9 +10,9 @@ use Rattle.model.specs.Calls.{Buffers}
 use Rattle.print.specs.Print.{lineRoom}
 use Rattle.interpret.specs.Lines.{rest, outputOf}
 use Rattle.interpret.specs.View.{Memory}
-use Rattle.interpret.specs.Walk.{inUse, printing, Ready, More, Onward}
-use Rattle.interpret.specs.declared.walk.Walk.{Walk}
-use Rattle.interpret.proofs.Onward.{rest-none}
+use Rattle.walk.specs.Walk.{inUse, printing, Ready, More, Onward}
+use Rattle.walk.specs.declared.Walk.{Walk}
+use Rattle.walk.proofs.Onward.{rest-none}
 
 -- before each part
 pub record Running (script : List ℕ) (w : Walk) (done : ℕ) (m : Buffers) (page out : List ℕ) : Type 0 where

@@ -1,5 +1,4 @@
 // The script program: reads a script from standard input and prints one bracketed form for each of its lines.
-use interpret::walk;
 use libc::STDIN_FILENO;
 use libc::STDOUT_FILENO;
 ghost use mathlib.Core.Path.{_≡_};

@@ -4,7 +4,6 @@ mod compare;
 mod report;
 mod spoilt;
 
-use interpret::walk;
 ghost use Rattle.io.specs.Counts.{Counts};
 
 fn main() {

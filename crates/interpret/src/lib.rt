@@ -1,7 +1,6 @@
 // One line of a script, carried out on the program's store, and what it prints.
 mod parts; // parts.rt: the store's own buffers in the program's memory
 mod say; // say.rt: the line of a call's answer
-pub mod walk; // walk.rt: a whole script
 
 use address::PageNo;
 use cache::Sizes;

@@ -6,7 +6,7 @@ use Prim.Native.Nat.{ℕ, _-_}
 use lib.ListN.{length, replicate, length-replicate}
 use Rattle.answer.specs.Carried.{buffers}
 use Rattle.interpret.proofs.Front.{front-long}
-use Rattle.interpret.proofs.Onward.{memory-kept}
+use Rattle.walk.proofs.Onward.{memory-kept}
 use Rattle.clash.proofs.Running.{Running, next, ends, goes-on, falls, sum-fits}
 use Rattle.clash.proofs.run.Statement.{statement}
 use Rattle.clash.proofs.run.Tie as tie
@@ -75,7 +75,7 @@ add-done : tie.Need-add-done Inv-loop μ-loop
 add-done c = record { fits = sum-fits _ _ _ _ _ _ (c .before .before .before .before .before .before .before .before .before .before .before .before .before .before .before .loop .inv) _ _ _ (c .before .before .before .before .before .before .before .before .run .ensures .0) (c .before .before .before .before .before .before .before .before .run .kept .1 .1 .1 .1 .1 .1 .1 .0 ∙ c .before .before .before .before .before .before .before .before .before .before .before .before .before .before .before .loop .inv .out-length) }
 
 returns : tie.Need-returns Inv-loop μ-loop
-returns c = ends _ _ _ _ _ _ (c .before .before .before .before .before .before .before .before .before .before .before .before .before .before .before .before .before .loop .inv) _ _ _ (c .before .before .before .before .before .before .before .before .before .before .run .ensures .0) (c .if1 .taken)
+returns c = ends _ _ _ _ _ _ (c .before .before .before .before .before .before .before .before .before .before .before .before .before .before .before .before .before .loop .inv) _ _ _ (c .before .before .before .before .before .before .before .before .before .before .run .ensures .0) (let h = c .if1 .taken in omega arith)
 
 loop-less : tie.Need-loop-less Inv-loop μ-loop
 loop-less c = falls _ _ _ _ _ _ (c .before .before .before .before .before .before .before .before .before .before .before .before .before .before .before .before .before .loop .inv) _ _ _ (c .before .before .before .before .before .before .before .before .before .before .run .ensures .0) (c .before .before .before .before .before .before .before .before .before .before .run .ensures .1 .0) (c .if1 .left)

@@ -7,9 +7,9 @@ use Rattle.model.specs.Calls.{Buffers, Store}
 use Rattle.print.specs.Print.{lineRoom, wearRoom}
 use Rattle.cache.specs.View.{sizesOf}
 use Rattle.store.specs.View.{storeOf}
 use Rattle.interpret.specs.Lines.{rest, outputOf}
 use Rattle.interpret.specs.View.{Held, front}
-use Rattle.interpret.specs.declared.walk.Walk.{Walk}
+use Rattle.walk.specs.declared.Walk.{Walk}
 
 -- the store in use: the walk's record, with its buffers at the front of the memory
 abbrev pub inUse : Walk → Buffers → Store

@@ -1,9 +1,9 @@
 use borrow.Author.Needs.{needs}
 use Prim.Native.Nat.{ℕ}
 use lib.ListN.{length-replicate}
-use Rattle.interpret.proofs.Onward.{output-printed}
-use Rattle.interpret.proofs.walk.output.Statement.{statement}
-use Rattle.interpret.proofs.walk.output.Tie as tie
+use Rattle.walk.proofs.Onward.{output-printed}
+use Rattle.walk.proofs.output.Statement.{statement}
+use Rattle.walk.proofs.output.Tie as tie
 
 returns : tie.Need-returns
 returns c = search needs

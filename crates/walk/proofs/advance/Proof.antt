@@ -4,10 +4,10 @@ use Prim.Native.Nat.{_-_, _<_, _^_}
 use lib.ListN.{length}
 use mathlib.Core.Path.{sym, ap, _∙_, subst}
 use Rattle.script.specs.Walk.{itemOf}
-use Rattle.interpret.proofs.Rest.{Stands, item-stands}
-use Rattle.interpret.proofs.Onward.{left-room, onward-line}
-use Rattle.interpret.proofs.walk.advance.Statement.{statement}
-use Rattle.interpret.proofs.walk.advance.Tie as tie
+use Rattle.walk.proofs.Rest.{Stands, item-stands}
+use Rattle.walk.proofs.Onward.{left-room, onward-line}
+use Rattle.walk.proofs.advance.Statement.{statement}
+use Rattle.walk.proofs.advance.Tie as tie
 
 form-at-requires : tie.Need-form-at-requires
 form-at-requires c κs = search needs

@@ -22,12 +22,12 @@ use Rattle.answer.specs.Carried.{buffers}
 use Rattle.cache.specs.View.{sizesOf}
 use Rattle.store.specs.declared.Cache.{Cache}
 use Rattle.store.specs.View.{cacheOf}
 use Rattle.interpret.specs.declared.Lined.{Lined}
-use Rattle.interpret.specs.declared.walk.Walk.{Walk}
+use Rattle.walk.specs.declared.Walk.{Walk}
 use Rattle.interpret.specs.Lines.{Effect, carried, printedBy, rest, outputOf}
 use Rattle.interpret.specs.View.{Held, Memory, CarriedOut}
-use Rattle.interpret.specs.Walk.{inUse, printing, Ready, More, Started, Onward, Output}
-use Rattle.interpret.proofs.Rest.{held-blank, blank-front, onward, Stands, rest-item, item-stands, rest-output, over-output}
+use Rattle.walk.specs.Walk.{inUse, printing, Ready, More, Started, Onward, Output}
+use Rattle.walk.proofs.Rest.{held-blank, blank-front, onward, Stands, rest-item, item-stands, rest-output, over-output}
 
 -- nothing is left at the end
 pub rest-none : (script : List ℕ) (s : Store) (at i : ℕ) → length script ≤ at → rest script s at i ≡ []

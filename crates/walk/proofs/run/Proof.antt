@@ -5,11 +5,11 @@ use mathlib.Core.Logic.{_⊎_, inl, inr}
 use Prim.Native.Nat.{_-_, _<_}
 use lib.ListN.{length}
 use Rattle.answer.specs.Carried.{buffers}
 use Rattle.interpret.specs.View.{Memory}
-use Rattle.interpret.specs.Walk.{More, Onward}
-use Rattle.interpret.proofs.Onward.{more-true, more-false, memory-kept, onward-none, onward-then}
-use Rattle.interpret.proofs.walk.run.Statement.{statement}
-use Rattle.interpret.proofs.walk.run.Tie as tie
+use Rattle.walk.specs.Walk.{More, Onward}
+use Rattle.walk.proofs.Onward.{more-true, more-false, memory-kept, onward-none, onward-then}
+use Rattle.walk.proofs.run.Statement.{statement}
+use Rattle.walk.proofs.run.Tie as tie
 
 abbrev Inv-loop : tie.InvT-loop
 Inv-loop script flash₀ wear₀ pspace₀ bspace₀ page₀ out₀ r₀ flash wear pspace bspace page out r =

@@ -1,8 +1,8 @@
 use borrow.Author.Needs.{needs}
 use native.Mathlib.Omega.{arith}
-use Rattle.interpret.proofs.Onward.{started-short, started-over}
-use Rattle.interpret.proofs.walk.start.Statement.{statement}
-use Rattle.interpret.proofs.walk.start.Tie as tie
+use Rattle.walk.proofs.Onward.{started-short, started-over}
+use Rattle.walk.proofs.start.Statement.{statement}
+use Rattle.walk.proofs.start.Tie as tie
 
 put-bad-requires : tie.Need-put-bad-requires
 put-bad-requires c κs = search needs

@@ -5,9 +5,9 @@ ghost use Prim.Native.Nat.{_≤_, _<_};
 ghost use lib.ListN.{length};
 ghost use Rattle.print.specs.Print.{wearRoom};
 ghost use Rattle.answer.specs.Carried.{buffers};
 ghost use Rattle.interpret.specs.Lines.{outputOf};
 ghost use Rattle.interpret.specs.View.{Memory};
-ghost use Rattle.interpret.specs.Walk.{Ready, More, Started, Onward, Output};
+ghost use Rattle.walk.specs.Walk.{Ready, More, Started, Onward, Output};
 
 // Room for any line: the wear of 4,096 blocks takes the most.
 pub const LINE_ROOM: usize = 45063;
@@ -92,7 +92,7 @@ fn advance(
     };
     let c = w.cache;
     let printed = w.printed;
-    let r = crate::line(
+    let r = interpret::line(
         c,
         form,
         line,

@@ -7,14 +7,14 @@ ghost use Rattle.histories.specs.Alike.{Alike};
 pub fn alike(a: &[u8], b: &[u8]) -> usize
     ensures { λ r. ⌜ Alike (now (a .entry)) (now (b .entry)) r ⌝ }
 {
-    let mut i = 0;
-    while (i < a.len()) & (i < b.len()) {
-        if a[i] != b[i] {
-            return i;
+    let mut n = 0;
+    while (n < a.len()) & (n < b.len()) {
+        if a[n] != b[n] {
+            return n;
         }
-        i += 1;
+        n += 1;
     }
-    i
+    n
 }
 
 // A line of a text: where it starts, and its number.

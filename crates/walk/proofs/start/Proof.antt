@@ -14,7 +14,7 @@ same-length : tie.Need-same-length
 same-length c = search needs
 
 returns : tie.Need-returns
-returns c = started-over _ _ (c .blank .ensures) _ (c .before .before .before .before .before .if1 .taken) _ _ (search needs) (search needs) (c .before .before .before .put-bad .ensures)
+returns c = started-over (c .before .before .before .before .before .before .before .before .args .script .now) _ (c .blank .ensures) _ (let h = c .before .before .before .before .before .if1 .taken in omega arith) _ _ (search needs) (search needs) (c .before .before .before .put-bad .ensures)
 
 blank-requires-2 : tie.Need-blank-requires-2
 blank-requires-2 c κs = search needs

@@ -8,32 +8,32 @@ use Rattle.histories.proofs.compare.alike.Statement.{statement}
 use Rattle.histories.proofs.compare.alike.Tie as tie
 
 abbrev Inv-loop : tie.InvT-loop
-Inv-loop a b i₀ i = (i ≤ length a) × ((i ≤ length b) × (take i a ≡ take i b))
+Inv-loop a b n₀ n = (n ≤ length a) × ((n ≤ length b) × (take n a ≡ take n b))
 
 abbrev μ-loop : tie.MeasureT-loop
-μ-loop a b i₀ i = length a - i
+μ-loop a b n₀ n = length a - n
 
 loop-holds : tie.Need-loop-holds Inv-loop μ-loop
 loop-holds c = (omega arith, (omega arith, refl))
 
 shared-slice-read-if1 : tie.Need-shared-slice-read-if1 Inv-loop μ-loop
-shared-slice-read-if1 c = in-left (c .before .before .before .args .a .now) (c .before .before .before .args .b .now) (c .before .before .loop .i) (c .before .loop-test .taken)
+shared-slice-read-if1 c = in-left (c .before .before .before .args .a .now) (c .before .before .before .args .b .now) (c .before .before .loop .n) (c .before .loop-test .taken)
 
 shared-slice-read-if1-2 : tie.Need-shared-slice-read-if1-2 Inv-loop μ-loop
-shared-slice-read-if1-2 c = in-right (c .before .before .before .before .args .a .now) (c .before .before .before .before .args .b .now) (c .before .before .before .loop .i) (c .before .before .loop-test .taken)
+shared-slice-read-if1-2 c = in-right (c .before .before .before .before .args .a .now) (c .before .before .before .before .args .b .now) (c .before .before .before .loop .n) (c .before .before .loop-test .taken)
 
 returns : tie.Need-returns Inv-loop μ-loop
 returns c = let i = c .before .before .before .before .loop .inv in record { left = i .0; right = i .1 .0; same = i .1 .1; differ = λ x y z. c .if1 .taken z }
 
-add-i : tie.Need-add-i Inv-loop μ-loop
-add-i c = let h = in-left (c .before .before .before .before .before .args .a .now) (c .before .before .before .before .before .args .b .now) (c .before .before .before .before .loop .i) (c .before .before .before .loop-test .taken) in search needs
+add-n : tie.Need-add-n Inv-loop μ-loop
+add-n c = let h = in-left (c .before .before .before .before .before .args .a .now) (c .before .before .before .before .before .args .b .now) (c .before .before .before .before .loop .n) (c .before .before .before .loop-test .taken) in search needs
 
 loop-less : tie.Need-loop-less Inv-loop μ-loop
-loop-less c = let h = in-left (c .before .before .before .before .before .args .a .now) (c .before .before .before .before .before .args .b .now) (c .before .before .before .before .loop .i) (c .before .before .before .loop-test .taken) in omega arith
+loop-less c = let h = in-left (c .before .before .before .before .before .args .a .now) (c .before .before .before .before .before .args .b .now) (c .before .before .before .before .loop .n) (c .before .before .before .loop-test .taken) in omega arith
 
 loop-again : tie.Need-loop-again Inv-loop μ-loop
-loop-again c = let t = c .before .before .before .loop-test .taken in let x = in-left (c .before .before .before .before .before .args .a .now) (c .before .before .before .before .before .args .b .now) (c .before .before .before .before .loop .i) t in let y = in-right (c .before .before .before .before .before .args .a .now) (c .before .before .before .before .before .args .b .now) (c .before .before .before .before .loop .i) t in
-    (omega arith, (omega arith, one-more (c .before .before .before .before .before .args .a .now) (c .before .before .before .before .before .args .b .now) (c .before .before .before .before .loop .i) t (c .before .before .before .before .loop .inv .1 .1) (c .if1 .left)))
+loop-again c = let t = c .before .before .before .loop-test .taken in let x = in-left (c .before .before .before .before .before .args .a .now) (c .before .before .before .before .before .args .b .now) (c .before .before .before .before .loop .n) t in let y = in-right (c .before .before .before .before .before .args .a .now) (c .before .before .before .before .before .args .b .now) (c .before .before .before .before .loop .n) t in
+    (omega arith, (omega arith, one-more (c .before .before .before .before .before .args .a .now) (c .before .before .before .before .before .args .b .now) (c .before .before .before .before .loop .n) t (c .before .before .before .before .loop .inv .1 .1) (c .if1 .left)))
 
 returns-2 : tie.Need-returns-2 Inv-loop μ-loop
 returns-2 c = let i = c .before .loop .inv in at-end _ _ _ (i .0) (i .1 .0) (i .1 .1) (c .loop-test .left)
@@ -48,7 +48,7 @@ alike-spec =
     shared-slice-read-if1
     shared-slice-read-if1-2
     returns
-    add-i
+    add-n
     loop-less
     loop-again
     returns-2)

@@ -8,10 +8,10 @@
 
 enum { PAGE = 2048, PER_BLOCK = 64, BLOCKS = 64, SLOTS = 128, FRAMES = 8, PAGES = PER_BLOCK * BLOCKS };
 enum { STACK = 1 << 18, PAINT = 0xA5, CALLS = 6000 };
-enum kind { NOTHING, OPEN, READ, WRITE, STEP, FLUSH };
+enum kind { NOTHING, OPEN, READ, WRITE, PART, STEP, FLUSH };
 
 static const clash_sizes sizes = { PAGE, PER_BLOCK, BLOCKS, SLOTS, FRAMES, 1000000 };
-static uint8_t flash[PAGES * PAGE], pspace[SLOTS * PAGE], bspace[FRAMES * PER_BLOCK * PAGE], page[PAGE];
+static uint8_t flash[PAGES * PAGE], pspace[SLOTS * PAGE], bspace[FRAMES * PER_BLOCK * PAGE], page[PAGE], bytes[40];
 static uint32_t wear[BLOCKS], n;
 static enum kind kind;
 static clash_reply reply;
@@ -23,6 +23,7 @@ static void *call(void *unused) {
     case OPEN: reply = clash_open(sizes, LENT); break;
     case READ: reply = clash_read(reply.cache, LENT, n, page, PAGE); break;
     case WRITE: reply = clash_write(reply.cache, LENT, n, page, PAGE); break;
+    case PART: reply = clash_part(reply.cache, LENT, n, 100, bytes, n % 41, page, PAGE); break;
     case STEP: reply = clash_step(reply.cache, LENT); break;
     case FLUSH: reply = clash_flush(reply.cache, LENT); break;
     case NOTHING: break;
@@ -51,7 +52,7 @@ static void keep(size_t *most, size_t now) {
 }
 
 int main(void) {
-    size_t none = used(NOTHING), open = used(OPEN) - none, read[4] = { 0 }, write[8] = { 0 }, step = 0, flush = 0;
+    size_t none = used(NOTHING), open = used(OPEN) - none, read[4] = { 0 }, write[8] = { 0 }, part[8] = { 0 }, step = 0, flush = 0;
     uint32_t i, state = 1;
     for (i = 0; i < CALLS; i++) {
         state = state * 1664525u + 1013904223u;
@@ -59,12 +60,14 @@ int main(void) {
         if (i % 1500 == 1499) keep(&flush, used(FLUSH) - none);
         else if (i % 400 == 399) keep(&step, used(STEP) - none);
         else if (state >> 29 == 0) { size_t u = used(READ) - none; keep(&read[reply.answer.way], u); }
+        else if (state >> 29 < 4) { size_t u = used(PART) - none; keep(&part[reply.answer.way], u); }
         else { size_t u = used(WRITE) - none; keep(&write[reply.answer.way], u); }
         if (reply.answer.refusal != CLASH_ACCEPTED) return 1;
     }
     printf("open    %zu\n", open);
     for (i = 1; i <= 3; i++) printf("read %u  %zu\n", i, read[i]);
     for (i = 1; i <= 7; i++) printf("write %u %zu\n", i, write[i]);
+    for (i = 0; i <= 7; i++) printf("part %u  %zu\n", i, part[i]);
     printf("step    %zu\nflush   %zu\n", step, flush);
     return 0;
 }

@@ -8,7 +8,7 @@
  *   wear     blocks numbers: how often each block was erased (aligned as uint32_t)
  *   pspace   slots * page_size bytes
  *   bspace   frames * pages_per_block * page_size bytes
- *   page     page_size bytes, for read and write
+ *   page     page_size bytes, for read, write and part
  *
  * A buffer of another length is refused, and a refused call changes nothing: neither the record nor a byte lent. */
 #ifndef CLASH_H
@@ -28,7 +28,7 @@ extern "C" {
 enum {
     CLASH_ACCEPTED = 0,
     CLASH_SIZE = 1,     /* open: a size or the wear limit is beyond its limits */
-    CLASH_BUFFER = 2,   /* a lent buffer has another length than the sizes ask for */
+    CLASH_BUFFER = 2,   /* a lent buffer has another length than the sizes ask for; part: the bytes reach past the page */
     CLASH_OVERWORN = 3, /* open: a wear entry is above the wear limit */
     CLASH_RECORD = 4,   /* the record is not sound; the blank one is not */
     CLASH_PAGE = 5,     /* there is no such page */
@@ -59,8 +59,8 @@ typedef struct {
 
 typedef struct {
     uint32_t refusal;
-    uint32_t way;      /* read: 1 slot, 2 frame, 3 flash; write: 1 to 7 */
-    uint32_t block;    /* write: the block erased, CLASH_VACANT for none; step: the block rewritten; refusal 6: the worn block */
+    uint32_t way;      /* read: 1 slot, 2 frame, 3 flash; write: 1 to 7; part: as write, 0 without bytes */
+    uint32_t block;    /* write, part: the block erased, CLASH_VACANT for none; step: the block rewritten; refusal 6: the worn block */
     uint32_t rewrites; /* flush: blocks rewritten; step: 1, or 0 where nothing was cached */
     uint32_t merged;   /* merge reads */
 } clash_answer;
@@ -86,6 +86,13 @@ clash_reply clash_write(clash_cache cache,
     uint8_t *flash, size_t flash_bytes, uint32_t *wear, size_t wear_count,
     uint8_t *pspace, size_t pspace_bytes, uint8_t *bspace, size_t bspace_bytes,
     uint32_t n, const uint8_t *page, size_t page_bytes);
+
+/* Stores bytes in page n, from its byte first on, and fills page with the page that comes of it. Without bytes, and with first up to
+ * page_size, it is accepted as way 0 and changes nothing; neither does a refused call, so that page is then as it was. */
+clash_reply clash_part(clash_cache cache,
+    uint8_t *flash, size_t flash_bytes, uint32_t *wear, size_t wear_count,
+    uint8_t *pspace, size_t pspace_bytes, uint8_t *bspace, size_t bspace_bytes,
+    uint32_t n, uint32_t first, const uint8_t *bytes, size_t byte_count, uint8_t *page, size_t page_bytes);
 
 /* Rewrites one block that has pages cached. */
 clash_reply clash_step(clash_cache cache,

@@ -5,7 +5,7 @@ use std::fmt;
 pub enum Answer {
     /// way 1 from a slot, 2 from a frame, 3 from flash
     Read { way: u32 },
-    /// way 1 to 7, the block erased if any, and the merge reads
+    /// of a page or of part of one: way 1 to 7, the block erased if any, and the merge reads; way 0 of a part write without bytes
     Write { way: u32, erased: Option<u32>, merged: u32 },
     /// the block rewritten and its merge reads
     Step { block: u32, merged: u32 },
@@ -20,7 +20,7 @@ pub enum Answer {
 pub enum Refusal {
     /// 1, opening: a size or the wear limit is beyond its limits
     Size,
-    /// 2: a lent buffer has another length than the sizes ask for
+    /// 2: a lent buffer has another length than the sizes ask for, or the bytes of a part write reach past the page
     Buffer,
     /// 3, opening: a wear entry is above the wear limit
     Overworn,

@@ -35,6 +35,11 @@ extern "C" {
         pspace: *mut u8, pspace_bytes: usize, bspace: *mut u8, bspace_bytes: usize,
         n: u32, page: *const u8, page_bytes: usize,
     ) -> Reply;
+    fn clash_part(
+        cache: Cache, flash: *mut u8, flash_bytes: usize, wear: *mut u32, wear_count: usize,
+        pspace: *mut u8, pspace_bytes: usize, bspace: *mut u8, bspace_bytes: usize,
+        n: u32, first: u32, bytes: *const u8, byte_count: usize, page: *mut u8, page_bytes: usize,
+    ) -> Reply;
     fn clash_step(
         cache: Cache, flash: *mut u8, flash_bytes: usize, wear: *mut u32, wear_count: usize,
         pspace: *const u8, pspace_bytes: usize, bspace: *mut u8, bspace_bytes: usize,
@@ -81,9 +86,20 @@ impl Cache {
                 n, page.as_ptr(), page.len(),
             )
         };
-        let a = self.next(&reply)?;
-        let erased = if a.block == VACANT { None } else { Some(a.block) };
-        Ok(Answer::Write { way: a.way, erased, merged: a.merged })
+        Ok(written(self.next(&reply)?))
+    }
+
+    /// Stores `bytes` in page `n`, from its byte `first` on, and fills `page` with the page that comes of it. Without bytes nothing is
+    /// read or changed.
+    pub fn part(&mut self, lent: &mut Buffers, n: u32, first: u32, bytes: &[u8], page: &mut [u8]) -> Result<Answer, Refusal> {
+        let reply = unsafe {
+            clash_part(
+                *self, lent.flash.as_mut_ptr(), lent.flash.len(), lent.wear.as_mut_ptr(), lent.wear.len(),
+                lent.pspace.as_mut_ptr(), lent.pspace.len(), lent.bspace.as_mut_ptr(), lent.bspace.len(),
+                n, first, bytes.as_ptr(), bytes.len(), page.as_mut_ptr(), page.len(),
+            )
+        };
+        Ok(written(self.next(&reply)?))
     }
 
     /// Rewrites one block that has pages cached.
@@ -120,6 +136,13 @@ impl Cache {
         accepted(&reply.answer)?;
         Ok(&reply.answer)
     }
+}
+
+/// The answer of a write, of a page or of part of one.
+#[inline]
+fn written(a: &RawAnswer) -> Answer {
+    let erased = if a.block == VACANT { None } else { Some(a.block) };
+    Answer::Write { way: a.way, erased, merged: a.merged }
 }
 
 #[inline]

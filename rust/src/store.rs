@@ -28,6 +28,14 @@ impl Store {
         self.cache.write(lent, n, page)
     }
 
+    /// Stores `bytes` in page `n`, from its byte `first` on, and fills `page` with the page that comes of it. Without bytes nothing is
+    /// read or changed.
+    pub fn part(&mut self, lent: &mut Buffers, n: u32, first: u32, bytes: &[u8], page: &mut [u8]) -> Result<Answer, Refusal> {
+        self.expect(lent);
+        self.expect_page(page);
+        self.cache.part(lent, n, first, bytes, page)
+    }
+
     /// Rewrites one block that has pages cached.
     pub fn step(&mut self, lent: &mut Buffers) -> Result<Answer, Refusal> {
         self.expect(lent);

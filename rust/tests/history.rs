@@ -53,6 +53,24 @@ impl Bench {
         }
     }
 
+    fn part(&mut self, random: &mut Random) {
+        let n = random.below(self.sizes.pages());
+        let first = random.below(self.sizes.page_size + 1);
+        let many = random.below(self.sizes.page_size - first + 1);
+        let bytes = random.bytes(many as usize);
+        let mut page = vec![0; self.sizes.page_size as usize];
+        match self.store.part(&mut self.memory.lend(), n, first, &bytes, &mut page) {
+            Ok(Answer::Write { way: 0, .. }) => assert_eq!(bytes.len(), 0),
+            Ok(Answer::Write { erased, .. }) => {
+                self.erasures += erased.is_some() as u32;
+                self.array[n as usize][first as usize..(first + many) as usize].copy_from_slice(&bytes);
+                assert_eq!(page, self.array[n as usize]);
+            }
+            Err(Refusal::Worn(_)) => self.worn += 1,
+            other => panic!("part write of {n}: {other:?}"),
+        }
+    }
+
     fn read(&mut self, random: &mut Random) {
         let n = random.below(self.sizes.pages());
         let mut page = vec![0; self.sizes.page_size as usize];
@@ -98,6 +116,7 @@ fn random_histories() {
                 0 => b.flush(),
                 1..=2 => b.step(),
                 3..=12 => b.read(&mut random),
+                13..=24 => b.part(&mut random),
                 _ => b.write(&mut random),
             }
         }

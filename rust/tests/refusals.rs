@@ -26,6 +26,9 @@ fn all_refused(mut cache: Cache, mut memory: Memory, n: u32, len: usize, why: Re
     assert_eq!(cache.read(&memory.lend(), n, &mut page), Err(why));
     assert_eq!(page, vec![77; len]);
     assert_eq!(cache.write(&mut memory.lend(), n, &page), Err(why));
+    assert_eq!(cache.part(&mut memory.lend(), n, 1, &[5], &mut page), Err(why));
+    assert_eq!(cache.part(&mut memory.lend(), n, 0, &[], &mut page), Err(why));
+    assert_eq!(page, vec![77; len]);
     if !matches!(why, Refusal::Page) && len == 2 {
         assert_eq!(cache.step(&mut memory.lend()), Err(why));
         assert_eq!(cache.flush(&mut memory.lend()), Err(why));
@@ -66,6 +69,18 @@ fn buffer() {
         let (cache, memory) = filled();
         all_refused(cache, memory, 0, len, Refusal::Buffer);
     }
+}
+
+#[test]
+fn bytes_past_the_page() {
+    let (mut cache, mut memory) = filled();
+    let before = (cache, memory.clone());
+    let mut page = [77, 78];
+    for (first, many) in [(1, 2), (0, 3), (2, 1), (3, 0), (u32::MAX, 0), (u32::MAX, 1)] {
+        assert_eq!(cache.part(&mut memory.lend(), 0, first, &vec![1; many], &mut page), Err(Refusal::Buffer));
+        assert_eq!(cache.part(&mut memory.lend(), 12, first, &vec![1; many], &mut page), Err(Refusal::Page));
+    }
+    assert_eq!(((cache, memory), page), (before, [77, 78]));
 }
 
 #[test]
@@ -119,6 +134,9 @@ fn worn() {
     memory.wear[2] = 9;
     let before = (cache, memory.clone());
     assert_eq!(cache.write(&mut memory.lend(), 6, &[3, 4]), Err(Refusal::Worn(2)));
+    let mut page = [77, 78];
+    assert_eq!(cache.part(&mut memory.lend(), 6, 1, &[4], &mut page), Err(Refusal::Worn(2)));
+    assert_eq!(page, [77, 78]);
     assert_eq!(cache.step(&mut memory.lend()), Err(Refusal::Worn(2)));
     assert_eq!(cache.flush(&mut memory.lend()), Err(Refusal::Worn(2)));
     assert_eq!((cache, memory.clone()), before);

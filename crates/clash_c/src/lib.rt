@@ -13,7 +13,7 @@ use store::Cache;
 ghost use mathlib.Core.Path.{_≡_};
 ghost use mathlib.Core.List.{[]};
 ghost use Rattle.model.specs.Policy.{leastRecent};
-ghost use Rattle.model.specs.Calls.{read, write, step, flush, openStore, call};
+ghost use Rattle.model.specs.Calls.{read, write, part, step, flush, openStore, call};
 ghost use Rattle.answer.specs.Numbers.{refusalOf, openingOf, readOf, writeOf, stepOf, flushOf};
 ghost use Rattle.answer.specs.Carried.{buffers};
 ghost use Rattle.cache.specs.View.{sizesOf};
@@ -24,7 +24,7 @@ ghost use Rattle.clash_c.specs.Replies.{turnedDown, openSaid, readSaid, 
 #[repr(C)]
 pub struct Answer {
     pub refusal: u32,
-    // the way of a read or a write
+    // the way of a read or a write, 0 of a part write without bytes
     pub way: u32,
     // the block that a write erased, VACANT for none, that a step rewrote, or that refusal 6 names, VACANT for another refusal
     pub block: u32,
@@ -92,6 +92,28 @@ pub extern "C" fn clash_write(
     ensures { λ r. ⌜ replied (writeSaid (r .answer)) r (buffers (now (flash .exit)) (now (wear .exit)) (now (pspace .exit)) (now (bspace .exit))) (now (page .entry)) ≡ call leastRecent (storeOf c (buffers (now (flash .entry)) (now (wear .entry)) (now (pspace .entry)) (now (bspace .entry)))) (write n (now (page .entry))) ⌝ }
 {
     let o = c.write(flash, wear, pspace, bspace, PageNo(n), page);
+    let cache = o.cache;
+    let said = o.answer;
+    let answer = write_answer(said);
+    Reply { cache, answer }
+}
+
+// Writes page n with the bytes laid in from byte `first` on.
+#[no_mangle]
+pub extern "C" fn clash_part(
+    c: Cache,
+    flash: &mut [u8],
+    wear: &mut [u32],
+    pspace: &mut [u8],
+    bspace: &mut [u8],
+    n: u32,
+    first: u32,
+    bytes: &[u8],
+    page: &mut [u8],
+) -> Reply
+    ensures { λ r. ⌜ replied (writeSaid (r .answer)) r (buffers (now (flash .exit)) (now (wear .exit)) (now (pspace .exit)) (now (bspace .exit))) (now (page .exit)) ≡ call leastRecent (storeOf c (buffers (now (flash .entry)) (now (wear .entry)) (now (pspace .entry)) (now (bspace .entry)))) (part n first (now (bytes .entry)) (now (page .entry))) ⌝ }
+{
+    let o = c.write_part(flash, wear, pspace, bspace, PageNo(n), first, bytes, page);
     let cache = o.cache;
     let said = o.answer;
     let answer = write_answer(said);

@@ -6,13 +6,13 @@ use lib.ListN.{getD, replicate, take}
 use Rattle.prelude.specs.Tests.{every}
 use Rattle.prelude.specs.Scan.{firstFrom, first, count, all, allPairs, nth, argmax, least, tabFrom, tab}
 use Rattle.prelude.specs.Bits.{bit, mask}
-use Rattle.prelude.specs.Pages.{pageAt, pagesOf, flat}
+use Rattle.prelude.specs.Pages.{pageAt, laid, pagesOf, flat}
 use Rattle.model.specs.Sizes.{Sizes, vacant, sizesOk}
 use Rattle.model.specs.Directory.{inFrame, vacantDirectory, blankCache}
 use Rattle.model.specs.Soundness.{shapeOk, slotOk, frameOk, slotsDiffer, framesDiffer, cachedOnce, listedOnce, slotPast, framePast, sound}
 use Rattle.model.specs.Policy.{inBlock, slotOf, inSlots, frameWith, frameOf, validCount, slotCount, readWay, leastRecent, victim, fewestValid, evictable, evictionPlan, plan, occupied, lowestInSlots, dueOf, cached, isWorn, lowestWorn}
 use Rattle.model.specs.Moves.{flashPage, programmed, worn, wornBy, recencyAfter, touched, putSlot, entered, putSlotPage, putFramePage, joined, filled, joinedPages, unmet, spare, taken, givenSlot, exchanged, exchangedPages, vacated, merged, rewrittenPages, readDirectory, written, stepped, readPage, writtenPages, steppedPages}
-use Rattle.model.specs.Calls.{Answer, openDone, readDone, writeDone, stepDone, stepClean, flushDone, refused, Call, read, write, step, flush, checked, readOutcome, writeOutcome, stepOutcome, steps, flushOutcome, decide, stepsPages, callPages, Page, Buffers, lentOk, openStore, Store, zeroPage, memoryOf, buffersOf, carriedOut, call}
+use Rattle.model.specs.Calls.{Answer, openDone, readDone, writeDone, stepDone, stepClean, flushDone, refused, Call, read, write, part, step, flush, checked, readOutcome, writeOutcome, partOutcome, stepOutcome, steps, flushOutcome, decide, stepsPages, combined, callPages, Page, Buffers, lentOk, openStore, Store, zeroPage, memoryOf, buffersOf, carriedOut, call}
 
 -- what a history gives: the opening's answer, each call's answer and the first byte then in its page buffer, and at the end the first P
 -- slots, the first B frames, valid sets and order entries, and the lent buffers
@@ -94,6 +94,10 @@ three = record { S = 1; K = 2; N = 6; P = 2; B = 3; W = 9 }
 -- three frames, four slots, four pages a block
 abbrev roomy : Sizes
 roomy = record { S = 1; K = 4; N = 6; P = 4; B = 3; W = 9 }
+
+-- two bytes a page, sizes else as those of P4 to P9
+abbrev pairs : Sizes
+pairs = record { S = 2; K = 4; N = 3; P = 3; B = 1; W = 9 }
 
 -- two bytes a page
 abbrev page : ℕ → Page
@@ -948,15 +952,144 @@ page-buffer = record {
   };
 }
 
+-- ---- part writes (request A1)
+
+-- P7's history by part writes: each way 0 to 7; pages that stand in a slot, in a frame and in flash; bytes that end exactly at S
+part-ways : Row
+part-ways = record {
+  sizes = pairs;
+  wear = 0 ∷ 0 ∷ 0 ∷ [];
+  calls = part 0 0 (10 ∷ 11 ∷ []) (7 ∷ 7 ∷ []) ∷ part 4 1 (20 ∷ []) (7 ∷ 7 ∷ []) ∷ part 8 0 (30 ∷ []) (7 ∷ 7 ∷ []) ∷ part 9 1 (40 ∷ []) (7 ∷ 7 ∷ []) ∷ part 5 0 (50 ∷ []) (7 ∷ 7 ∷ []) ∷ part 6 1 (60 ∷ []) (7 ∷ 7 ∷ []) ∷ part 8 1 (70 ∷ []) (7 ∷ 7 ∷ []) ∷ part 1 0 (80 ∷ []) (7 ∷ 7 ∷ []) ∷ part 2 0 (90 ∷ 91 ∷ []) (7 ∷ 7 ∷ []) ∷ part 2 1 (92 ∷ []) (7 ∷ 7 ∷ []) ∷ part 0 1 (13 ∷ []) (7 ∷ 7 ∷ []) ∷ part 9 0 (41 ∷ []) (7 ∷ 7 ∷ []) ∷ part 0 0 [] (7 ∷ 7 ∷ []) ∷ part 0 2 [] (7 ∷ 7 ∷ []) ∷ read 0 (0 ∷ 0 ∷ []) ∷ [];
+  gives = record {
+    opening = openDone;
+    answers = way 3 ∷ way 3 ∷ way 3 ∷ way 5 ∷ way 6 ∷ writeDone 7 2 2 ∷ way 3 ∷ writeDone 7 1 2 ∷ way 4 ∷ way 1 ∷ way 2 ∷ way 4 ∷ way 0 ∷ way 0 ∷ readDone 2 ∷ [];
+    bytes = 10 ∷ 255 ∷ 30 ∷ 255 ∷ 50 ∷ 255 ∷ 30 ∷ 80 ∷ 90 ∷ 90 ∷ 10 ∷ 41 ∷ 7 ∷ 7 ∷ 10 ∷ [];
+    slots = 6 ∷ 8 ∷ 9 ∷ [];
+    frames = 0 ∷ [];
+    valid = 7 ∷ [];
+    recency = 0 ∷ [];
+    flash = 255 ∷ 255 ∷ 255 ∷ 255 ∷ 255 ∷ 255 ∷ 255 ∷ 255 ∷ 255 ∷ 20 ∷ 50 ∷ 255 ∷ 255 ∷ 255 ∷ 255 ∷ 255 ∷ 30 ∷ 255 ∷ 255 ∷ 40 ∷ 255 ∷ 255 ∷ 255 ∷ 255 ∷ [];
+    pspace = 255 ∷ 60 ∷ 30 ∷ 70 ∷ 41 ∷ 40 ∷ [];
+    bspace = 10 ∷ 13 ∷ 80 ∷ 255 ∷ 90 ∷ 92 ∷ 255 ∷ 255 ∷ [];
+    wear = 0 ∷ 1 ∷ 1 ∷ [];
+  };
+}
+
+-- the page buffer is refused 2, then the page 5, then bytes past S 2: one byte past, a first byte above S without bytes; way 0 passes the same checks
+part-buffers : Row
+part-buffers = record {
+  sizes = pairs;
+  wear = 0 ∷ 0 ∷ 0 ∷ [];
+  calls = part 0 1 (1 ∷ []) (7 ∷ []) ∷ part 12 0 (1 ∷ []) (7 ∷ 7 ∷ 7 ∷ []) ∷ part 0 0 [] (7 ∷ []) ∷ part 12 1 (1 ∷ 2 ∷ []) (7 ∷ 7 ∷ []) ∷ part 12 0 [] (7 ∷ 7 ∷ []) ∷ part 0 1 (1 ∷ 2 ∷ []) (7 ∷ 7 ∷ []) ∷ part 0 0 (1 ∷ 2 ∷ 3 ∷ []) (7 ∷ 7 ∷ []) ∷ part 0 3 [] (7 ∷ 7 ∷ []) ∷ part 0 2 (1 ∷ []) (7 ∷ 7 ∷ []) ∷ part 11 0 (1 ∷ 2 ∷ []) (7 ∷ 7 ∷ []) ∷ [];
+  gives = record {
+    opening = openDone;
+    answers = refused 2 vacant ∷ refused 2 vacant ∷ refused 2 vacant ∷ refused 5 vacant ∷ refused 5 vacant ∷ refused 2 vacant ∷ refused 2 vacant ∷ refused 2 vacant ∷ refused 2 vacant ∷ way 3 ∷ [];
+    bytes = 7 ∷ 7 ∷ 7 ∷ 7 ∷ 7 ∷ 7 ∷ 7 ∷ 7 ∷ 7 ∷ 1 ∷ [];
+    slots = 11 ∷ vacant ∷ vacant ∷ [];
+    frames = vacant ∷ [];
+    valid = 0 ∷ [];
+    recency = 0 ∷ [];
+    flash = 255 ∷ 255 ∷ 255 ∷ 255 ∷ 255 ∷ 255 ∷ 255 ∷ 255 ∷ 255 ∷ 255 ∷ 255 ∷ 255 ∷ 255 ∷ 255 ∷ 255 ∷ 255 ∷ 255 ∷ 255 ∷ 255 ∷ 255 ∷ 255 ∷ 255 ∷ 255 ∷ 255 ∷ [];
+    pspace = 1 ∷ 2 ∷ 0 ∷ 0 ∷ 0 ∷ 0 ∷ [];
+    bspace = 0 ∷ 0 ∷ 0 ∷ 0 ∷ 0 ∷ 0 ∷ 0 ∷ 0 ∷ [];
+    wear = 0 ∷ 0 ∷ 0 ∷ [];
+  };
+}
+
+-- a worn block refuses the part write 6 and leaves the page buffer alone; bytes past S come first, and way 0 asks for no wear
+part-worn : Row
+part-worn = record {
+  sizes = record { S = 2; K = 2; N = 3; P = 2; B = 1; W = 9 };
+  wear = 9 ∷ 0 ∷ 0 ∷ [];
+  calls = write 0 (10 ∷ 11 ∷ []) ∷ write 2 (20 ∷ 21 ∷ []) ∷ write 4 (30 ∷ 31 ∷ []) ∷ part 3 0 (40 ∷ []) (7 ∷ 7 ∷ []) ∷ part 3 1 (40 ∷ 41 ∷ []) (7 ∷ 7 ∷ []) ∷ part 3 0 [] (7 ∷ 7 ∷ []) ∷ part 4 1 (32 ∷ []) (7 ∷ 7 ∷ []) ∷ [];
+  gives = record {
+    opening = openDone;
+    answers = way 3 ∷ way 3 ∷ way 5 ∷ refused 6 0 ∷ refused 2 vacant ∷ way 0 ∷ way 1 ∷ [];
+    bytes = 10 ∷ 20 ∷ 30 ∷ 7 ∷ 7 ∷ 7 ∷ 30 ∷ [];
+    slots = 4 ∷ 2 ∷ [];
+    frames = 0 ∷ [];
+    valid = 1 ∷ [];
+    recency = 0 ∷ [];
+    flash = 255 ∷ 255 ∷ 255 ∷ 255 ∷ 255 ∷ 255 ∷ 255 ∷ 255 ∷ 255 ∷ 255 ∷ 255 ∷ 255 ∷ [];
+    pspace = 30 ∷ 32 ∷ 20 ∷ 21 ∷ [];
+    bspace = 10 ∷ 11 ∷ 0 ∷ 0 ∷ [];
+    wear = 9 ∷ 0 ∷ 0 ∷ [];
+  };
+}
+
+-- way 0 on a page in a frame is no use: way 7 takes that frame
+part-no-use : Row
+part-no-use = record {
+  sizes = record { S = 2; K = 2; N = 5; P = 2; B = 2; W = 9 };
+  wear = 0 ∷ 0 ∷ 0 ∷ 0 ∷ 0 ∷ [];
+  calls = write 0 (1 ∷ 1 ∷ []) ∷ write 2 (2 ∷ 2 ∷ []) ∷ write 4 (3 ∷ 3 ∷ []) ∷ write 6 (4 ∷ 4 ∷ []) ∷ part 0 1 [] (7 ∷ 7 ∷ []) ∷ part 8 1 (5 ∷ []) (7 ∷ 7 ∷ []) ∷ [];
+  gives = record {
+    opening = openDone;
+    answers = way 3 ∷ way 3 ∷ way 5 ∷ way 5 ∷ way 0 ∷ writeDone 7 0 1 ∷ [];
+    bytes = 1 ∷ 2 ∷ 3 ∷ 4 ∷ 7 ∷ 255 ∷ [];
+    slots = 8 ∷ 6 ∷ [];
+    frames = 2 ∷ 1 ∷ [];
+    valid = 1 ∷ 1 ∷ [];
+    recency = 1 ∷ 0 ∷ [];
+    flash = 1 ∷ 1 ∷ 255 ∷ 255 ∷ 255 ∷ 255 ∷ 255 ∷ 255 ∷ 255 ∷ 255 ∷ 255 ∷ 255 ∷ 255 ∷ 255 ∷ 255 ∷ 255 ∷ 255 ∷ 255 ∷ 255 ∷ 255 ∷ [];
+    pspace = 255 ∷ 5 ∷ 4 ∷ 4 ∷ [];
+    bspace = 3 ∷ 3 ∷ 255 ∷ 255 ∷ 2 ∷ 2 ∷ 0 ∷ 0 ∷ [];
+    wear = 1 ∷ 0 ∷ 0 ∷ 0 ∷ 0 ∷ [];
+  };
+}
+
+-- a part write of a page in a frame makes it recent
+part-hit : Row
+part-hit = record {
+  sizes = record { S = 2; K = 2; N = 5; P = 2; B = 2; W = 9 };
+  wear = 0 ∷ 0 ∷ 0 ∷ 0 ∷ 0 ∷ [];
+  calls = write 0 (1 ∷ 1 ∷ []) ∷ write 2 (2 ∷ 2 ∷ []) ∷ write 4 (3 ∷ 3 ∷ []) ∷ write 6 (4 ∷ 4 ∷ []) ∷ part 0 1 (6 ∷ []) (7 ∷ 7 ∷ []) ∷ part 8 1 (5 ∷ []) (7 ∷ 7 ∷ []) ∷ part 2 0 (9 ∷ []) (7 ∷ 7 ∷ []) ∷ flush ∷ [];
+  gives = record {
+    opening = openDone;
+    answers = way 3 ∷ way 3 ∷ way 5 ∷ way 5 ∷ way 2 ∷ writeDone 7 1 1 ∷ writeDone 7 0 1 ∷ flushDone 4 4 ∷ [];
+    bytes = 1 ∷ 2 ∷ 3 ∷ 4 ∷ 1 ∷ 255 ∷ 9 ∷ 0 ∷ [];
+    slots = vacant ∷ vacant ∷ [];
+    frames = vacant ∷ vacant ∷ [];
+    valid = 0 ∷ 0 ∷ [];
+    recency = 1 ∷ 0 ∷ [];
+    flash = 1 ∷ 6 ∷ 255 ∷ 255 ∷ 9 ∷ 2 ∷ 255 ∷ 255 ∷ 3 ∷ 3 ∷ 255 ∷ 255 ∷ 4 ∷ 4 ∷ 255 ∷ 255 ∷ 255 ∷ 5 ∷ 255 ∷ 255 ∷ [];
+    pspace = 255 ∷ 5 ∷ 9 ∷ 2 ∷ [];
+    bspace = 255 ∷ 5 ∷ 255 ∷ 255 ∷ 3 ∷ 3 ∷ 255 ∷ 255 ∷ [];
+    wear = 1 ∷ 2 ∷ 1 ∷ 1 ∷ 1 ∷ [];
+  };
+}
+
+-- on the blank record a part write is refused 4, also without bytes
+part-unsound : Row
+part-unsound = record {
+  sizes = record { S = 0; K = 2; N = 3; P = 2; B = 1; W = 9 };
+  wear = 0 ∷ 0 ∷ 0 ∷ [];
+  calls = part 0 0 [] [] ∷ part 0 0 (1 ∷ []) (7 ∷ []) ∷ [];
+  gives = record {
+    opening = refused 1 vacant;
+    answers = refused 4 vacant ∷ refused 4 vacant ∷ [];
+    bytes = 0 ∷ 7 ∷ [];
+    slots = vacant ∷ vacant ∷ [];
+    frames = vacant ∷ [];
+    valid = 0 ∷ [];
+    recency = 0 ∷ [];
+    flash = [];
+    pspace = [];
+    bspace = [];
+    wear = 0 ∷ 0 ∷ 0 ∷ [];
+  };
+}
+
 table : List Row
 table =
     p1 ∷ p2 ∷ p3 ∷ p4 ∷ p5 ∷ p6 ∷ p7 ∷ p8 ∷ p9 ∷ p10 ∷ p10-worn ∷ p11
     ∷ read-hit ∷ write-hit ∷ slot-hit ∷ join-recent ∷ tie-frames ∷ tie-blocks ∷ slot-order ∷ exchange-bytes ∷ step-order
     ∷ merge-count ∷ flush-all ∷ worn-blocks ∷ read-miss ∷ one-frame ∷ merge-first
     ∷ first-used ∷ middle-used ∷ tie-of-three ∷ fewest-of-three ∷ steps-of-three ∷ flush-of-three ∷ vacant-of-three ∷ worn-of-three ∷ of-vectors
-    ∷ blank-record ∷ short-wear ∷ overworn ∷ page-buffer ∷ []
+    ∷ blank-record ∷ short-wear ∷ overworn ∷ page-buffer
+    ∷ part-ways ∷ part-buffers ∷ part-worn ∷ part-no-use ∷ part-hit ∷ part-unsound ∷ []
 
 -- every row holds, by computing with the definitions
 rows : map gave table ≡ map gives table
-unfolding p1 p2 p3 p4 p5 p6 p7 p8 p9 p10 p10-worn p11 read-hit write-hit slot-hit join-recent tie-frames tie-blocks slot-order exchange-bytes step-order merge-count flush-all worn-blocks read-miss one-frame merge-first first-used middle-used tie-of-three fewest-of-three steps-of-three flush-of-three vacant-of-three worn-of-three of-vectors blank-record short-wear overworn page-buffer table gives gave runs erased openStore call carriedOut memoryOf buffersOf zeroPage lentOk callPages stepsPages decide flushOutcome steps stepOutcome writeOutcome readOutcome checked steppedPages writtenPages readPage stepped written readDirectory rewrittenPages merged vacated exchangedPages exchanged givenSlot taken spare unmet joinedPages filled joined putFramePage putSlotPage entered putSlot touched recencyAfter wornBy worn programmed flashPage lowestWorn isWorn cached dueOf lowestInSlots occupied plan evictionPlan evictable fewestValid victim leastRecent readWay slotCount validCount frameOf frameWith inSlots slotOf inBlock inFrame sound framePast slotPast listedOnce cachedOnce framesDiffer slotsDiffer frameOk slotOk shapeOk sizesOk vacantDirectory blankCache every first firstFrom count all allPairs tab tabFrom bit mask nth argmax least pageAt pagesOf flat
+unfolding p1 p2 p3 p4 p5 p6 p7 p8 p9 p10 p10-worn p11 read-hit write-hit slot-hit join-recent tie-frames tie-blocks slot-order exchange-bytes step-order merge-count flush-all worn-blocks read-miss one-frame merge-first first-used middle-used tie-of-three fewest-of-three steps-of-three flush-of-three vacant-of-three worn-of-three of-vectors blank-record short-wear overworn page-buffer part-ways part-buffers part-worn part-no-use part-hit part-unsound table gives gave runs erased openStore call carriedOut memoryOf buffersOf zeroPage lentOk callPages stepsPages decide flushOutcome steps stepOutcome partOutcome writeOutcome readOutcome checked combined laid steppedPages writtenPages readPage stepped written readDirectory rewrittenPages merged vacated exchangedPages exchanged givenSlot taken spare unmet joinedPages filled joined putFramePage putSlotPage entered putSlot touched recencyAfter wornBy worn programmed flashPage lowestWorn isWorn cached dueOf lowestInSlots occupied plan evictionPlan evictable fewestValid victim leastRecent readWay slotCount validCount frameOf frameWith inSlots slotOf inBlock inFrame sound framePast slotPast listedOnce cachedOnce framesDiffer slotsDiffer frameOk slotOk shapeOk sizesOk vacantDirectory blankCache every first firstFrom count all allPairs tab tabFrom bit mask nth argmax least pageAt pagesOf flat
 rows = refl

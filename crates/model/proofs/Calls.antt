@@ -16,7 +16,7 @@ use Rattle.model.specs.Directory.{Directory}
 use Rattle.model.specs.Soundness.{sound, Sound}
 use Rattle.model.specs.Policy.{inSlots, frameWith, slotCount, readWay, Choice, victim, Plan, plan, erasedBy, mergeReads, clean, due, occupied, lowestInSlots, dueOf, cached, isWorn, lowestWorn}
 use Rattle.model.specs.Moves.{wornBy, joined, readDirectory, written, stepped}
-use Rattle.model.specs.Calls.{stepDone, stepClean, flushDone, isRefused, Call, read, write, step, flush, State, Outcome, checked, readOutcome, writeOutcome, stepOutcome, Tally, steps, flushOutcome, decide, Page, lentOk, Store, Result, stateOf, told, carriedOut, call}
+use Rattle.model.specs.Calls.{stepDone, stepClean, flushDone, isRefused, Call, read, write, part, step, flush, State, Outcome, checked, readOutcome, writeOutcome, partOutcome, stepOutcome, Tally, steps, flushOutcome, decide, Page, lentOk, Store, Result, stateOf, told, carriedOut, call}
 use Rattle.model.specs.Lists.{Picks}
 use Rattle.model.proofs.Soundness.{sound-facts, facts-sound}
 use Rattle.model.proofs.Lookup.{block-vacant}
@@ -111,6 +111,12 @@ module _ (pick : Choice) (picks : Picks pick) (sz : Sizes) (k : State) (s : Soun
         within = erased-within _ (plan-erases n) e;
       }))
 
+  part-kept : (first many : ℕ) (w : Outcome) → Keeps w → Keeps (partOutcome sz k first many w)
+  unfolding partOutcome
+  part-kept first many w h = by-test (leb (first + many) (sz .S))
+      (λ e. rw (e, partOutcome) (by-test (eqb many 0) (λ e′. rw e′ same) (λ e′. rw e′ h)))
+      (λ e. rw (e, partOutcome) same)
+
   step-kept : Keeps (stepOutcome sz k (dueOf pick sz (k .directory)))
   unfolding stepOutcome
   step-kept = due-elim sz (k .directory) s pick picks (λ q. Keeps (stepOutcome sz k q))
@@ -143,6 +149,7 @@ module _ (pick : Choice) (picks : Picks pick) (sz : Sizes) (k : State) (s : Soun
   unfolding decide readOutcome
   decide-kept (read n long) = checked-kept n long _ (λ l. record { numbers = read-sound sz (k .directory) s n; wear-length = wl; within = λ h. h })
   decide-kept (write n long) = checked-kept n long _ (λ l. write-kept n l)
+  decide-kept (part n first many long) = checked-kept n long _ (λ l. part-kept first many _ (write-kept n l))
   decide-kept step = step-kept
   decide-kept flush = flush-kept
 

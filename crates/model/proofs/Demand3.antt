@@ -3,21 +3,22 @@ use mathlib.Core.Path.{_≡_, refl, sym, ap, _∙_}
 use mathlib.Core.Logic.{_⊎_, inl, inr}
 use mathlib.Core.Bool.{Bool, true, false, cond, _&&_}
 use mathlib.Core.List.{List, [], _∷_}
-use Prim.Native.Nat.{ℕ, zero, suc, _-_, _*_, _/_, _<_}
+use Prim.Native.Nat.{ℕ, zero, suc, _+_, _-_, _*_, _/_, _≤_, _<_}
 use native.Mathlib.Nat.{not-suc-le-zero}
 use native.Mathlib.Omega.{arith}
-use lib.Dec.{ltb, eqb}
+use lib.Dec.{leb, ltb, eqb}
 use lib.ListN.{length, getD, set, replicate, getD-replicate}
 use lib.Seq.{getD-set-same, getD-set-other}
-use borrow.Author.Tests.{ltb-true, eqb-true, eqb-false, lt-ltb}
-use Rattle.prelude.specs.Pages.{pageAt, pagesOf, flat}
+use borrow.Author.Tests.{leb-true, ltb-true, eqb-true, eqb-false, lt-ltb}
+use Rattle.prelude.specs.Pages.{pageAt, laid, pagesOf, flat}
 use Rattle.prelude.proofs.Tests.{by-test, clash, each}
 use Rattle.prelude.proofs.Scan.{count-le}
 use Rattle.prelude.proofs.Tab.{getD-tab}
+use Rattle.prelude.proofs.Pages.{length-laid}
 use Rattle.model.specs.Sizes.{Sizes, vacant}
 use Rattle.model.specs.Policy.{leastRecent, Choice, Plan, plan, wayOf, erasedBy, mergeReads, mergedBy, Due, clean, due, dueOf, isWorn, lowestWorn}
 use Rattle.model.specs.Moves.{Memory, wornBy, joined, written, stepped, readPage, steppedPages}
-use Rattle.model.specs.Calls.{openDone, writeDone, stepDone, stepClean, flushDone, isRefused, Call, read, write, step, flush, State, Outcome, turnedDown, checked, readOutcome, writeOutcome, stepOutcome, Tally, steps, flushOutcome, decide, stepsPages, callPages, Page, Buffers, lentOk, openStore, Store, Result, zeroPage, memoryOf, buffersOf, told, lentBuffer, filledBuffer, carriedOut, call}
+use Rattle.model.specs.Calls.{openDone, writeDone, stepDone, stepClean, flushDone, isRefused, Call, read, write, part, step, flush, State, Outcome, turnedDown, checked, readOutcome, writeOutcome, partOutcome, stepOutcome, Tally, steps, flushOutcome, decide, stepsPages, combined, noBytes, callPages, Page, Buffers, lentOk, openStore, Store, Result, zeroPage, memoryOf, buffersOf, told, lentBuffer, filledBuffer, carriedOut, call}
 use Rattle.model.specs.Lists.{Chosen, Picks, AllPick, Put, Accepted, Reference, arrayAfter, logAfter, beforeAfter, isFlush, bookSays, fed, opened, ReadGives, After, Claim, Demand3}
 use Rattle.model.proofs.Soundness.{limits-of, facts-sound}
 use Rattle.model.proofs.Lookup.{block-lt}
@@ -26,7 +27,7 @@ use Rattle.model.proofs.Consistent.{Consistent, write-good}
 use Rattle.model.proofs.Steps.{Ready, due-elim, wornBy-length, steps-clean}
 use Rattle.model.proofs.Flush.{read-is, read-good, step-good, empty-flash, Moved, moved-none, step-moved, write-moves, flush-all}
 use Rattle.model.proofs.Opening.{opened-good, Accept, open-accepted, cached-once}
-use Rattle.model.proofs.EachPage.{written-each, step-each, flush-each}
+use Rattle.model.proofs.EachPage.{read-each, written-each, step-each, flush-each}
 use Rattle.model.proofs.Buffers.{OfS, zero-long, Whole, memory-of-buffers, lent-buffers, buffers-of-memory, memory-whole, memory-lengths, page-of-flat}
 
 -- ---- a refused outcome leaves the state alone
@@ -47,6 +48,12 @@ module _ (sz : Sizes) (k : State) where
       (λ e. rw (e, writeOutcome) (λ q. refl))
       (λ e. rw (e, writeOutcome) (λ q. clash q refl))
 
+  part-keeps : (first many : ℕ) (w : Outcome) → KeepsRefused k w → KeepsRefused k (partOutcome sz k first many w)
+  unfolding partOutcome
+  part-keeps first many w h = by-test (leb (first + many) (sz .S))
+      (λ e. rw (e, partOutcome) (by-test (eqb many 0) (λ e′. rw e′ (λ q. refl)) (λ e′. rw e′ h)))
+      (λ e. rw (e, partOutcome) (λ q. refl))
+
   step-keeps : (q : Due) → KeepsRefused k (stepOutcome sz k q)
   unfolding stepOutcome
   step-keeps clean = λ q. refl
@@ -60,6 +67,7 @@ module _ (sz : Sizes) (k : State) where
   unfolding decide readOutcome
   decide-keeps pick (read n long) = checked-keeps n long (readOutcome sz k n) (λ q. clash q refl)
   decide-keeps pick (write n long) = checked-keeps n long _ (write-keeps n _)
+  decide-keeps pick (part n first many long) = checked-keeps n long _ (part-keeps first many _ (write-keeps n _))
   decide-keeps pick step = step-keeps (dueOf pick sz (k .directory))
   decide-keeps pick flush = flush-keeps pick
 
@@ -75,19 +83,22 @@ array-kept : (a : List Page) (c : Call Page) → arrayAfter a c true ≡ a
 unfolding arrayAfter
 array-kept a (read n x) = refl
 array-kept a (write n x) = refl
+array-kept a (part n first x page) = refl
 array-kept a step = refl
 array-kept a flush = refl
 
-log-kept : (l : List Put) (c : Call Page) → logAfter l c true ≡ l
+log-kept : (a : List Page) (l : List Put) (c : Call Page) → logAfter a l c true ≡ l
 unfolding logAfter
-log-kept l (read n x) = refl
-log-kept l (write n x) = refl
-log-kept l step = refl
-log-kept l flush = refl
+log-kept a l (read n x) = refl
+log-kept a l (write n x) = refl
+log-kept a l (part n first x page) = refl
+log-kept a l step = refl
+log-kept a l flush = refl
 
 not-flushed : (c : Call Page) → (isFlush c && false) ≡ false
 not-flushed (read n x) = refl
 not-flushed (write n x) = refl
+not-flushed (part n first x page) = refl
 not-flushed step = refl
 not-flushed flush = refl
 
@@ -156,7 +167,7 @@ module _ (sz : Sizes) (o : List Page) where
       refused-next : (c : Call Page) (n b : ℕ) → Next c (turnedDown (r .book) n b)
       unfolding fed
       refused-next c n b = advance (fed sz r c (turnedDown (r .book) n b)) m (rw (array-kept (r .array) c) (i .good)) (i .whole) (i .wear-length) (moved-none blank sz _ m m _ refl) refl
-          (λ k x h. rw (log-kept (r .log) c) h) (λ k l. rw (array-kept (r .array) c, log-kept (r .log) c) (i .array-from k l)) (λ h. clash h (not-flushed c))
+          (λ k x h. rw (log-kept (r .array) (r .log) c) h) (λ k l. rw (array-kept (r .array) c, log-kept (r .array) (r .log) c) (i .array-from k l)) (λ h. clash h (not-flushed c))
 
       checked-next : (c : Call Page) (n long : ℕ) (u : Outcome) → (long ≡ sz .S → n < sz .N * sz .K → Next c u) → Next c (checked sz (r .book) n long u)
       unfolding checked
@@ -194,6 +205,40 @@ module _ (sz : Sizes) (o : List Page) where
       write-next n x = checked-next (write n x) n (length x) _ (λ s l. by-test (isWorn sz (r .book .wear) (erasedBy (r .book .directory) (plan pick sz (r .book .directory) (r .book .wear) n)))
           (λ e. rw (e, writeOutcome) (refused-next (write n x) 6 _))
           (λ e. rw (e, writeOutcome) (write-ok n x s l)))
+
+      -- the page that a part write reads is the array's
+      read-here : (n : ℕ) → n < sz .N * sz .K → readPage blank sz (r .book .directory) m n ≡ getD (r .array) n []
+      read-here n l = read-is blank sz (r .book .directory) m (r .array) (i .good) n l ∙ getD-any (r .array) n blank [] (let q = i .good .array-length in omega arith)
+
+      combined-here : (n first : ℕ) (x : Page) → n < sz .N * sz .K → combined blank sz (r .book .directory) m n first x ≡ laid first x (getD (r .array) n [])
+      unfolding combined
+      combined-here n first x l = ap (laid first x) (read-here n l)
+
+      combined-long : (n first : ℕ) (x : Page) → first + length x ≤ sz .S → length (combined blank sz (r .book .directory) m n first x) ≡ sz .S
+      unfolding combined
+      combined-long n first x h = let p = read-each blank (OfS sz) (zero-long sz) sz (r .book .directory) m n (i .whole) in length-laid first x _ (omega arith) ∙ p
+
+      -- a part write with bytes is the write of the combined page
+      part-ok : (n first : ℕ) (x page : Page) → noBytes x ≡ false → first + length x ≤ sz .S → n < sz .N * sz .K → Next (part n first x page) (wrote n (plan pick sz (r .book .directory) (r .book .wear) n))
+      unfolding fed arrayAfter logAfter callPages
+      part-ok n first x page e h l = rw (e, callPages, sym (combined-here n first x l)) (write-ok n (combined blank sz (r .book .directory) m n first x) (combined-long n first x h) l)
+
+      -- without bytes it is no call at all
+      nothing-ok : (n first : ℕ) (x page : Page) → noBytes x ≡ true → Next (part n first x page) (record { answer = writeDone 0 vacant 0; state = r .book })
+      unfolding fed arrayAfter logAfter callPages
+      nothing-ok n first x page e =
+          let r′ : Reference = record { book = r .book; array = r .array; log = r .log; before = beforeAfter sz (r .before) (r .log) (r .book .wear) (r .book .wear); flushed = false } in
+          rw (e, callPages) (advance r′ m (i .good) (i .whole) (i .wear-length) (moved-none blank sz _ m m _ refl) refl (λ a y q. q) (i .array-from) (λ q. clash q refl))
+
+      part-next : (n first : ℕ) (x page : Page) → Next (part n first x page) (decide pick sz (r .book) (part n first (length x) (length page)))
+      unfolding decide partOutcome writeOutcome
+      part-next n first x page = let c : Call Page = part n first x page in checked-next c n (length page) _ (λ s l. by-test (leb (first + length x) (sz .S))
+          (λ e. rw (e, partOutcome) (by-test (eqb (length x) 0)
+          (λ e′. rw e′ (nothing-ok n first x page e′))
+          (λ e′. rw e′ (by-test (isWorn sz (r .book .wear) (erasedBy (r .book .directory) (plan pick sz (r .book .directory) (r .book .wear) n)))
+          (λ q. rw (q, writeOutcome) (refused-next c 6 _))
+          (λ q. rw (q, writeOutcome) (part-ok n first x page e′ (leb-true _ _ e) l))))))
+          (λ e. rw (e, partOutcome) (refused-next c 2 vacant)))
 
       stepDue : ℕ → ℕ → Outcome
       stepDue b f = record {
@@ -246,6 +291,7 @@ module _ (sz : Sizes) (o : List Page) where
       next : (c : Call Page) → Next c (decide pick sz (r .book) (told c))
       next (read n x) = read-next n x
       next (write n x) = write-next n x
+      next (part n first x page) = part-next n first x page
       next step = step-next
       next flush = flush-next
 
@@ -282,18 +328,27 @@ module _ (sz : Sizes) (o : List Page) where
           (rw (lent-buffers sz m (i .whole) (g .flash-length) (g .pspace-length) (g .bspace-length) (r .book .wear) (i .wear-length))
           (carried-out c (decide pick sz (r .book) (told c)) (decide-keeps sz (r .book) pick (told c))))
 
+      -- a call that is accepted after the checks has a page number of the chip
+      checked-lt : (n long : ℕ) (u : Outcome) → isRefused (checked sz (r .book) n long u .answer) ≡ false → n < sz .N * sz .K
+      unfolding checked
+      checked-lt n long u = by-test (eqb long (sz .S))
+          (λ e. rw (e, checked) (by-test (ltb n (sz .N * sz .K)) (λ e′ h. ltb-true _ _ e′) (λ e′. rw e′ (λ h. clash refl h))))
+          (λ e. rw (e, checked) (λ h. clash refl h))
+
       -- an accepted read gives the array's page
       read-gives : (n : ℕ) (x : Page) → isRefused (decide pick sz (r .book) (read n (length x)) .answer) ≡ false → readPage blank sz (r .book .directory) m n ≡ getD (r .array) n []
-      unfolding decide checked
-      read-gives n x = by-test (eqb (length x) (sz .S))
-          (λ e. rw (e, checked) (by-test (ltb n (sz .N * sz .K))
-          (λ e′. rw e′ (λ h. let l = ltb-true _ _ e′ in read-is blank sz (r .book .directory) m (r .array) (i .good) n l ∙ getD-any (r .array) n blank [] (let q = i .good .array-length in omega arith)))
-          (λ e′. rw e′ (λ h. clash refl h))))
-          (λ e. rw (e, checked) (λ h. clash refl h))
+      unfolding decide
+      read-gives n x h = read-here n (checked-lt n (length x) _ h)
+
+      part-gives : (n first : ℕ) (x page : Page) → isRefused (decide pick sz (r .book) (part n first (length x) (length page)) .answer) ≡ false
+          → combined blank sz (r .book .directory) m n first x ≡ laid first x (getD (r .array) n [])
+      unfolding decide
+      part-gives n first x page h = combined-here n first x (checked-lt n (length page) _ h)
 
       reads : (c : Call Page) → ReadGives (r .array) c (resultOf c (decide pick sz (r .book) (told c)))
       reads (read n x) = λ h. rw h (read-gives n x h)
       reads (write n x) = tt
+      reads (part n first x page) = λ h. rw h (ap (λ (y : Page). cond (noBytes x) page y) (part-gives n first x page h))
       reads step = tt
       reads flush = tt
 

@@ -16,8 +16,8 @@ use Rattle.prelude.proofs.Tests.{by-test}
 use Rattle.prelude.proofs.Tab.{length-tab, getD-tab}
 use Rattle.model.specs.Sizes.{Sizes}
 use Rattle.model.specs.Directory.{Directory, frameAt, validAt}
-use Rattle.model.specs.Policy.{inBlock, slotOf, inSlots, Choice, Plan, slotHit, frameHit, freeSlot, join, fill, exchange, evict, Due, clean, due, dueOf}
-use Rattle.model.specs.Moves.{Memory, flashPage, programmed, putSlotPage, putFramePage, filled, joinedPages, taken, exchangedPages, vacated, merged, rewrittenPages, writtenPages, steppedPages}
+use Rattle.model.specs.Policy.{inBlock, slotOf, inSlots, frameWith, Choice, Plan, slotHit, frameHit, freeSlot, join, fill, exchange, evict, Due, clean, due, dueOf}
+use Rattle.model.specs.Moves.{Memory, flashPage, programmed, putSlotPage, putFramePage, filled, joinedPages, taken, exchangedPages, vacated, merged, rewrittenPages, readPage, writtenPages, steppedPages}
 use Rattle.model.specs.Calls.{stepsPages}
 
 due-cases : {X : Type 0} (e′ : Due) → (e′ ≡ clean → X) → ((b f : ℕ) → e′ ≡ due b f → X) → X
@@ -87,6 +87,12 @@ module _ {A : Type 0} (filler : A) (Q : A → Type 0) (q : Q filler) where
     frame-page-each : (m : Memory A) (i : ℕ) (x : A) → EachM m → Q x → EachM (putFramePage m i x)
     unfolding putFramePage
     frame-page-each m i x h hx = record { flash = h .flash; pspace = h .pspace; bspace = each-set (m .bspace) i x (h .bspace) hx }
+
+    pub read-each : (d : Directory) (m : Memory A) (n : ℕ) → EachM m → Q (readPage filler sz d m n)
+    unfolding readPage flashPage
+    read-each d m n h = by-test (inSlots sz d n)
+        (λ e. rw (e, readPage) (h .pspace (slotOf sz d n)))
+        (λ e. rw (e, readPage) (by-test (ltb (frameWith sz d n) (sz .B)) (λ e′. rw e′ (h .bspace _)) (λ e′. rw e′ (h .flash n))))
 
     pub written-each : (d : Directory) (m : Memory A) (n : ℕ) (x : A) (p : Plan) → EachM m → Q x → EachM (writtenPages filler sz d m n x p)
     unfolding writtenPages

@@ -1,13 +1,13 @@
 -- The calls: what each answers, and what it leaves in the record and in the lent buffers.
 use mathlib.Core.Path.{_≡_}
-use mathlib.Core.Bool.{Bool, true, false}
+use mathlib.Core.Bool.{Bool, true, false, cond}
 use mathlib.Core.List.{List, [], _∷_}
 use Prim.Native.Nat.{ℕ, zero, suc, _+_, _*_}
 use lib.Dec.{leb, ltb, eqb}
 use lib.ListN.{length, getD, replicate}
 use Rattle.prelude.specs.Tests.{every}
 use Rattle.prelude.specs.Scan.{all}
-use Rattle.prelude.specs.Pages.{pagesOf, flat}
+use Rattle.prelude.specs.Pages.{laid, pagesOf, flat}
 use Rattle.model.specs.Sizes.{Sizes, vacant, sizesOk}
 use Rattle.model.specs.Directory.{Directory, Cache, vacantDirectory, blankCache}
 use Rattle.model.specs.Soundness.{sound}
@@ -20,7 +20,7 @@ pub data Answer : Type 0 where
   openDone : Answer
   -- a read answers its way
   readDone : ℕ → Answer
-  -- a write answers its way, the block erased (vacant: none), and its merge reads
+  -- a write, of a page or of part of one, answers its way, the block erased (vacant: none), and its merge reads
   writeDone : ℕ → ℕ → ℕ → Answer
   -- a flush step answers the block and the merge reads, or "clean"
   stepDone : ℕ → ℕ → Answer
@@ -39,10 +39,13 @@ isRefused stepClean = false
 isRefused (flushDone r m) = false
 isRefused (refused n b) = true
 
--- A call with its arguments. A is what is told of the page buffer: its bytes to the store, its length alone to the rewrite book.
+-- A call with its arguments. A is what is told of the page buffer, and of the bytes of a part write: the bytes to the store, their number
+-- alone to the rewrite book.
 pub data Call (A : Type 0) : Type 0 where
   read : ℕ → A → Call A
   write : ℕ → A → Call A
+  -- request A1's part write: the page, its first byte, the bytes, the page buffer
+  part : ℕ → ℕ → A → A → Call A
   step : Call A
   flush : Call A
 
@@ -84,6 +87,13 @@ module _ (sz : Sizes) (k : State) where
     }
   ]
 
+  -- a part write of so many bytes: refusal 2 where they reach past S; way 0 with no bytes, which changes nothing; else it is the write w
+  unfoldable pub partOutcome : ℕ → ℕ → Outcome → Outcome
+  partOutcome first many w = elim (leb (first + many) (sz .S)) [
+    | false ↦ turnedDown k 2 vacant
+    | true ↦ elim (eqb many 0) [ true ↦ record { answer = writeDone 0 vacant 0; state = k } | false ↦ w ]
+  ]
+
   unfoldable pub stepOutcome : Due → Outcome
   stepOutcome clean = record { answer = stepClean; state = k }
   stepOutcome (due b f) = elim (isWorn sz (k .wear) b) [
@@ -121,10 +131,11 @@ module _ (pick : Choice) (sz : Sizes) where
         record { answer = flushDone (t .rewrites) (t .merges); state = t .state }
   ]
 
-  -- what becomes of a call, given the length of its page buffer
+  -- what becomes of a call, given the length of its page buffer, and of a part write's bytes
   unfoldable pub decide : State → Call ℕ → Outcome
   decide k (read n long) = checked sz k n long (readOutcome sz k n)
   decide k (write n long) = checked sz k n long (writeOutcome sz k n (plan pick sz (k .directory) (k .wear) n))
+  decide k (part n first many long) = checked sz k n long (partOutcome sz k first many (writeOutcome sz k n (plan pick sz (k .directory) (k .wear) n)))
   decide k step = stepOutcome sz k (dueOf pick sz (k .directory))
   decide k flush = flushOutcome k
 
@@ -138,16 +149,29 @@ module _ (pick : Choice) (sz : Sizes) {A : Type 0} (filler : A) where
     | due b f ↦ stepsPages c (stepped sz d (due b f)) (steppedPages filler sz d m (due b f))
   ]
 
-  unfoldable pub callPages : State → Memory A → Call A → Memory A
-  callPages k m (read n x) = m
-  callPages k m (write n x) = writtenPages filler sz (k .directory) m n x (plan pick sz (k .directory) (k .wear) n)
-  callPages k m step = steppedPages filler sz (k .directory) m (dueOf pick sz (k .directory))
-  callPages k m flush = stepsPages (sz .N) (k .directory) m
-
 -- ---- the calls over lent buffers of bytes
 
 abbrev pub Page : Type 0
 Page = List ℕ
+
+-- page n, read as no use, with the bytes x laid in from byte first on: what a part write writes
+unfoldable pub combined : Page → Sizes → Directory → Memory Page → ℕ → ℕ → Page → Page
+combined filler sz d m n first x = laid first x (readPage filler sz d m n)
+
+-- a part write without bytes is way 0
+abbrev pub noBytes : Page → Bool
+noBytes x = eqb (length x) 0
+
+module _ (pick : Choice) (sz : Sizes) (filler : Page) where
+  unfoldable pub callPages : State → Memory Page → Call Page → Memory Page
+  callPages k m (read n x) = m
+  callPages k m (write n x) = writtenPages filler sz (k .directory) m n x (plan pick sz (k .directory) (k .wear) n)
+  callPages k m (part n first x page) = elim (noBytes x) [
+    | true ↦ m
+    | false ↦ writtenPages filler sz (k .directory) m n (combined filler sz (k .directory) m n first x) (plan pick sz (k .directory) (k .wear) n)
+  ]
+  callPages k m step = steppedPages filler sz (k .directory) m (dueOf pick sz (k .directory))
+  callPages k m flush = stepsPages pick sz filler (sz .N) (k .directory) m
 
 pub record Buffers : Type 0 where
   pub flash : List ℕ
@@ -221,6 +245,7 @@ stateOf s = record { directory = s .cache .directory; wear = s .lent .wear }
 abbrev pub told : Call Page → Call ℕ
 told (read n x) = read n (length x)
 told (write n x) = write n (length x)
+told (part n first x page) = part n first (length x) (length page)
 told step = step
 told flush = flush
 
@@ -228,13 +253,15 @@ told flush = flush
 abbrev pub lentBuffer : Call Page → Page
 lentBuffer (read n x) = x
 lentBuffer (write n x) = x
+lentBuffer (part n first x page) = page
 lentBuffer step = []
 lentBuffer flush = []
 
--- the page buffer after an accepted call: a read fills it
+-- the page buffer after an accepted call: a read fills it, and a part write with bytes leaves the combined page in it
 abbrev pub filledBuffer : Sizes → Directory → Memory Page → Call Page → Page
 filledBuffer sz d m (read n x) = readPage (zeroPage sz) sz d m n
 filledBuffer sz d m (write n x) = x
+filledBuffer sz d m (part n first x page) = cond (noBytes x) page (combined (zeroPage sz) sz d m n first x)
 filledBuffer sz d m step = []
 filledBuffer sz d m flush = []
 
@@ -259,7 +286,7 @@ module _ (pick : Choice) where
         }
       ]
 
-  -- refusals 4 and 2, then 2 for the page buffer, 5 and 6
+  -- refusals 4 and 2, then 2 for the page buffer, 5, 2 for the reach of a part write, and 6
   unfoldable pub call : Store → Call Page → Result
   call s c = elim (sound (s .cache .sizes) (s .cache .directory)) [
     | false ↦ unaltered (refused 4 vacant) s c

@@ -7,12 +7,12 @@ use Prim.Native.Nat.{ℕ, _+_, _*_, _/_, _≤_, _<_}
 use lib.Dec.{ltb, eqb}
 use lib.ListN.{getD, set, replicate}
 use Rattle.prelude.specs.Scan.{count, tab}
-use Rattle.prelude.specs.Pages.{pageAt, pagesOf, flat}
+use Rattle.prelude.specs.Pages.{pageAt, laid, pagesOf, flat}
 use Rattle.model.specs.Sizes.{Sizes}
 use Rattle.model.specs.Directory.{Directory, slotAt, inFrame, vacantDirectory}
 use Rattle.model.specs.Soundness.{Listed}
 use Rattle.model.specs.Policy.{Choice}
-use Rattle.model.specs.Calls.{isRefused, Call, read, write, step, flush, State, Outcome, decide, Page, Buffers, Store, Result, told, openStore, openDone, call}
+use Rattle.model.specs.Calls.{isRefused, Call, read, write, part, step, flush, State, Outcome, decide, Page, noBytes, Buffers, Store, Result, told, openStore, openDone, call}
 
 -- ---- the list
 
@@ -54,20 +54,26 @@ pub record Reference : Type 0 where
   -- the last call was an accepted flush
   pub flushed : Bool
 
--- The array is fed a call with its page buffer, and whether the book turns it down: an accepted write of n puts the bytes lent at n.
+-- The array is fed a call with its page buffer, and whether the book turns it down: an accepted write of n puts the bytes lent at n, an
+-- accepted part write, unless it has none, its bytes into the page that the array has at n.
 unfoldable pub arrayAfter : List Page → Call Page → Bool → List Page
 arrayAfter a (read n x) down = a
 arrayAfter a (write n x) true = a
 arrayAfter a (write n x) false = set a n x
+arrayAfter a (part n first x page) true = a
+arrayAfter a (part n first x page) false = cond (noBytes x) a (set a n (laid first x (getD a n [])))
 arrayAfter a step down = a
 arrayAfter a flush down = a
 
-unfoldable pub logAfter : List Put → Call Page → Bool → List Put
-logAfter l (read n x) down = l
-logAfter l (write n x) true = l
-logAfter l (write n x) false = record { page = n; bytes = x } ∷ l
-logAfter l step down = l
-logAfter l flush down = l
+-- what was accepted, fed like the array, which is a as the call finds it
+unfoldable pub logAfter : List Page → List Put → Call Page → Bool → List Put
+logAfter a l (read n x) down = l
+logAfter a l (write n x) true = l
+logAfter a l (write n x) false = record { page = n; bytes = x } ∷ l
+logAfter a l (part n first x page) true = l
+logAfter a l (part n first x page) false = cond (noBytes x) l (record { page = n; bytes = laid first x (getD a n []) } ∷ l)
+logAfter a l step down = l
+logAfter a l flush down = l
 
 -- a block was rewritten in a call where its wear in the book, w before the call and w′ after it, grew
 unfoldable pub beforeAfter : Sizes → List (List Put) → List Put → List ℕ → List ℕ → List (List Put)
@@ -76,10 +82,11 @@ beforeAfter sz before log w w′ = tab (sz .N) (λ b. cond (ltb (getD w b 0) (ge
 abbrev pub isFlush : Call Page → Bool
 isFlush (read n x) = false
 isFlush (write n x) = false
+isFlush (part n first x page) = false
 isFlush step = false
 isFlush flush = true
 
--- The book is fed a call's arguments and the length of its page buffer, and nothing else.
+-- The book is fed a call's arguments and the length of its page buffer, of a part write's bytes their number, and nothing else.
 abbrev pub bookSays : Sizes → Reference → Chosen → Outcome
 bookSays sz r t = decide (t .choice) sz (r .book) (told (t .call))
 
@@ -87,7 +94,7 @@ unfoldable pub fed : Sizes → Reference → Call Page → Outcome → Reference
 fed sz r c o = record {
   book = o .state;
   array = arrayAfter (r .array) c (isRefused (o .answer));
-  log = logAfter (r .log) c (isRefused (o .answer));
+  log = logAfter (r .array) (r .log) c (isRefused (o .answer));
   before = beforeAfter sz (r .before) (r .log) (r .book .wear) (o .state .wear);
   flushed = isFlush c && not (isRefused (o .answer));
 }
@@ -108,10 +115,11 @@ opened sz u = record {
 unfoldable pub timesCached : Sizes → Directory → ℕ → ℕ
 timesCached sz d n = count (sz .P) (λ i. eqb (slotAt d i) n) + count (sz .B) (inFrame sz d n)
 
--- an accepted read leaves the array's page n in the page buffer
+-- an accepted read leaves the array's page n in the page buffer, an accepted part write with bytes that page with them laid in
 abbrev pub ReadGives : List Page → Call Page → Result → Type 0
 ReadGives a (read n x) r = isRefused (r .answer) ≡ false → r .page ≡ getD a n []
 ReadGives a (write n x) r = Unit {0}
+ReadGives a (part n first x page) r = isRefused (r .answer) ≡ false → r .page ≡ cond (noBytes x) page (laid first x (getD a n []))
 ReadGives a step r = Unit {0}
 ReadGives a flush r = Unit {0}
 

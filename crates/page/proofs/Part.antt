@@ -5,7 +5,7 @@ use Prim.Native.Nat.{ℕ, _+_, _-_, _*_, _≤_, _<_}
 use native.Mathlib.Omega.{arith}
 use lib.ListN.{length}
 use borrow.Rule.Slice.PartMut.{putMid, midOf, post-is}
-use Rattle.prelude.specs.Pages.{pageAt, putPage}
+use Rattle.prelude.specs.Pages.{pageAt, putPage, laid}
 use Rattle.prelude.proofs.Pages.{ends-before, length-pageAt, page-of-block, put-in-block}
 
 -- the part lent
@@ -35,3 +35,8 @@ module _ {A : Type 0} (s k : ℕ) (l : List A) (f o : ℕ) (inside : o < k) (fit
 
   pub put-in : (x pg : List A) → x ≡ putPage s (part (k * s) l f) o pg → putPart (k * s) l f x ≡ putPage s l (f * k + o) pg
   put-in x pg e = put (k * s) l f x ∙ ap (putPage (k * s) l f) (e ∙ ap (λ (y : List A). putPage s y o pg) (got (k * s) l f)) ∙ put-in-block s k l f o inside pg fits
+
+-- a part `&mut l[i..e]` with e = i + length x, which comes back as x
+pub put-laid : {A : Type 0} (i : ℕ) (l x : List A) → putMid i (i + length x - i) l x ≡ laid i x l
+unfolding laid
+put-laid i l x = rw (post-is i (i + length x) l (omega arith))

@@ -2,7 +2,7 @@
 ghost use mathlib.Core.Path.{_≡_};
 ghost use Prim.Native.Nat.{_+_, _*_, _≤_, _<_};
 ghost use lib.ListN.{length, replicate};
-ghost use Rattle.prelude.specs.Pages.{pageAt, putPage};
+ghost use Rattle.prelude.specs.Pages.{pageAt, putPage, laid};
 ghost use Rattle.page.specs.Page.{HasPage, Exchanged};
 
 // Page si of src goes to page di of dst.
@@ -78,6 +78,15 @@ pub fn fill_in_block(run: &mut [u8], f: usize, k: usize, o: usize, s: usize, b: 
     let a = f * size;
     let e = a + size;
     fill_page(&mut run[a..e], o, s, b);
+}
+
+// Lays src into dst, from index i on.
+pub fn lay(dst: &mut [u8], i: usize, src: &[u8])
+    requires { ⌜ (length (now src) ≤ 2048) × (i + length (now src) ≤ length (now dst)) ⌝ }
+    ensures { λ _. ⌜ now (dst .exit) ≡ laid i (now (src .entry)) (now (dst .entry)) ⌝ }
+{
+    let e = i + src.len();
+    move_bytes(&mut dst[i..e], src);
 }
 
 // Copies all of src over all of dst, which is as long, by way of a local buffer. So it becomes one call of memmove and the

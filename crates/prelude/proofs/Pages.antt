@@ -13,7 +13,7 @@ use lib.ListN.{length, getD, set, take, drop, length-append, length-take, length
 use lib.Seq.{take-append-le, drop-append-le, drop-append-add, take-at, drop-at, drop-drop, take-take, take-add, take-length, length-take-le, ext-getD, getD-set-same, getD-set-other}
 use borrow.Author.Tests.{eqb-true, eqb-false}
 use Rattle.prelude.specs.Scan.{tab, tabFrom}
-use Rattle.prelude.specs.Pages.{pageAt, putPage, pagesOf, flat}
+use Rattle.prelude.specs.Pages.{pageAt, putPage, laid, pagesOf, flat}
 use Rattle.prelude.proofs.Tests.{by-test}
 use Rattle.prelude.proofs.Tab.{length-tab, getD-tab, tab-ext}
 
@@ -47,6 +47,11 @@ module _ {A : Type 0} where
       let j : n ≡ length x + (n - e) = omega arith in
       let i : e + (n - e) ≡ n = omega arith in
       ap (λ (q : ℕ). drop q (x ++ drop e l)) j ∙ drop-append-add x (drop e l) (n - e) ∙ drop-drop (n - e) e l ∙ ap (λ (q : ℕ). drop q l) i
+
+-- laying in keeps the length
+pub length-laid : {A : Type 0} (i : ℕ) (x l : List A) → i + length x ≤ length l → length (laid i x l) ≡ length l
+unfolding laid
+length-laid i x l h = simp (length-append, length-take, length-drop) (omega arith)
 
 module _ {A : Type 0} (s : ℕ) (l : List A) (i : ℕ) (fits : i * s + s ≤ length l) where
   pub length-pageAt : length (pageAt s l i) ≡ s

@@ -1,7 +1,7 @@
 -- A list as a run of pages of s elements each: page i is the s elements from i * s on.
 use mathlib.Core.List.{List, [], _∷_, _++_}
 use Prim.Native.Nat.{ℕ, _+_, _*_}
-use lib.ListN.{take, drop}
+use lib.ListN.{length, take, drop}
 use Rattle.prelude.specs.Scan.{tab}
 
 module _ {A : Type 0} where
@@ -12,6 +12,10 @@ module _ {A : Type 0} where
   -- l with pg as page i
   unfoldable pub putPage : ℕ → List A → ℕ → List A → List A
   putPage s l i pg = take (i * s) l ++ (pg ++ drop (i * s + s) l)
+
+  -- l with x laid in, from index i on
+  unfoldable pub laid : ℕ → List A → List A → List A
+  laid i x l = take i l ++ (x ++ drop (i + length x) l)
 
   -- l cut into its first n pages
   unfoldable pub pagesOf : ℕ → ℕ → List A → List (List A)

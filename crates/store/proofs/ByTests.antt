@@ -1,14 +1,15 @@
--- The opening by its tests.
+-- The opening by its tests, and the tests of lengths.
 use mathlib.Core.Path.{_≡_, sym, ap, _∙_}
 use mathlib.Core.Bool.{Bool, true, false, and-true}
 use mathlib.Core.List.{List}
-use Prim.Native.Nat.{ℕ, _*_}
+use Prim.Native.Nat.{ℕ, _+_, _-_, _*_, _≤_}
+use native.Mathlib.Omega.{arith}
 use lib.Dec.{leb, eqb}
 use lib.ListN.{length, getD}
-use borrow.Author.Tests.{eqb-true}
+use borrow.Author.Tests.{eqb-true, leb-true, leb-false, le-leb, lt-leb}
 use Rattle.prelude.specs.Tests.{every}
 use Rattle.prelude.specs.Scan.{all}
-use Rattle.prelude.proofs.Tests.{each}
+use Rattle.prelude.proofs.Tests.{by-test, each}
 use Rattle.model.specs.Sizes.{Sizes, vacant, sizesOk}
 use Rattle.model.specs.Directory.{vacantDirectory, blankCache}
 use Rattle.model.specs.Calls.{Buffers, Opened, openDone, refused, lentOk, openStore}
@@ -23,6 +24,12 @@ lengths-lent sz flash wear pspace bspace = rw (and-true (eqb (length bspace) (sz
 pub wear-length : (sz : Sizes) (u : Buffers) → lentOk sz u ≡ true → length (u .wear) ≡ sz .N
 unfolding lentOk
 wear-length sz u h = eqb-true _ _ (each _ h .1 .0)
+
+-- bytes that end within what is left of a page from its first byte on
+pub reach-test : (s first many : ℕ) → first ≤ s → leb many (s - first) ≡ leb (first + many) s
+reach-test s first many h = by-test (leb (first + many) s)
+    (λ e. let l = leb-true (first + many) s e in le-leb many (s - first) (omega arith) ∙ sym e)
+    (λ e. let l = leb-false (first + many) s e in lt-leb many (s - first) (omega arith) ∙ sym e)
 
 module _ (sz : Sizes) (u : Buffers) where
   abbrev refusedAs : ℕ → Opened

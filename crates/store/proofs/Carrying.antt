@@ -2,17 +2,17 @@
 use mathlib.Core.Path.{_≡_, refl, sym, ap, _∙_}
 use mathlib.Core.Bool.{Bool, true, false, cond}
 use mathlib.Core.List.{[]}
-use Prim.Native.Nat.{ℕ, _*_, _≤_, _<_}
-use lib.Dec.{eqb}
+use Prim.Native.Nat.{ℕ, _+_, _*_, _≤_, _<_}
+use lib.Dec.{leb, eqb}
 use lib.ListN.{length}
-use borrow.Author.Tests.{eq-eqb, ne-eqb, lt-ltb, le-ltb}
+use borrow.Author.Tests.{leb-true, eq-eqb, ne-eqb, lt-ltb, le-ltb}
 use Rattle.prelude.proofs.Tests.{by-test}
 use Rattle.model.specs.Sizes.{Sizes, vacant}
 use Rattle.model.specs.Directory.{Directory}
 use Rattle.model.specs.Soundness.{sound}
 use Rattle.model.specs.Policy.{Choice, leastRecent, readWay, plan, dueOf}
 use Rattle.model.specs.Moves.{Memory, touched, readDirectory}
-use Rattle.model.specs.Calls.{Answer, readDone, refused, isRefused, Call, read, write, step, flush, State, Outcome, turnedDown, checked, readOutcome, writeOutcome, stepOutcome, flushOutcome, decide, callPages, Page, Buffers, lentOk, Fits, Store, zeroPage, memoryOf, buffersOf, stateOf, told, lentBuffer, filledBuffer, unaltered, carriedOut, call}
+use Rattle.model.specs.Calls.{Answer, readDone, writeDone, refused, isRefused, Call, read, write, part, step, flush, State, Outcome, turnedDown, checked, readOutcome, writeOutcome, partOutcome, stepOutcome, flushOutcome, decide, noBytes, callPages, Page, Buffers, lentOk, Fits, Store, zeroPage, memoryOf, buffersOf, stateOf, told, lentBuffer, filledBuffer, unaltered, carriedOut, call}
 use Rattle.model.proofs.Demand3.{decide-keeps}
 use Rattle.model.proofs.Buffers.{buffers-of-memory, fits-of}
 use Rattle.model.proofs.Soundness.{sound-facts}
@@ -22,6 +22,7 @@ use Rattle.reads.specs.declared.Done.{Done}
 use Rattle.reads.specs.Reads.{Readable, ReadOut}
 use Rattle.writes.specs.Writes.{Writable, Wrote}
 use Rattle.flushes.specs.Flushes.{StepCarried, FlushCarried}
+use Rattle.store.specs.Parts.{PartReady, PartWrote, combinedOf}
 
 -- a read changes no more than the order of use
 pub order-alone : (sz : Sizes) (d m : Directory) (n : ℕ) → m ≡ readDirectory sz d n → record { slots = d .slots; frames = d .frames; valid = d .valid; recency = m .recency } ≡ m
@@ -159,6 +160,59 @@ module _ (s : Store) (n : ℕ) (x : Page) where
         → record { answer = answer; store = record { cache = record { sizes = s .cache .sizes; directory = d′ }; lent = u′ }; page = x } ≡ call leastRecent s (write n x)
     unfolding callPages
     write-done u′ f′ answer d′ h = call-passed s (write n x) n (length x) (writeOutcome (s .cache .sizes) (stateOf s) n (plan leastRecent (s .cache .sizes) (s .cache .directory) (s .lent .wear) n)) write-checked a b e l u′ f′ answer d′ x h (same-either x (isRefused (writeOutcome (s .cache .sizes) (stateOf s) n (plan leastRecent (s .cache .sizes) (s .cache .directory) (s .lent .wear) n) .answer)))
+
+-- ---- a part write
+
+module _ (sz : Sizes) (k : State) (first many : ℕ) (w : Outcome) where
+  part-past : leb (first + many) (sz .S) ≡ false → partOutcome sz k first many w ≡ turnedDown k 2 vacant
+  unfolding partOutcome
+  part-past e = rw (e, partOutcome)
+
+  part-nothing : leb (first + many) (sz .S) ≡ true → eqb many 0 ≡ true → partOutcome sz k first many w ≡ record { answer = writeDone 0 vacant 0; state = k }
+  unfolding partOutcome
+  part-nothing e q = rw (e, partOutcome) (rw q)
+
+  part-some : leb (first + many) (sz .S) ≡ true → eqb many 0 ≡ false → partOutcome sz k first many w ≡ w
+  unfolding partOutcome
+  part-some e q = rw (e, partOutcome) (rw q)
+
+module _ (s : Store) (n first : ℕ) (x page : Page) where
+  abbrev asWrite : Outcome
+  asWrite = writeOutcome (s .cache .sizes) (stateOf s) n (plan leastRecent (s .cache .sizes) (s .cache .directory) (s .lent .wear) n)
+
+  pub part-checked : decide leastRecent (s .cache .sizes) (stateOf s) (told (part n first x page)) ≡ checked (s .cache .sizes) (stateOf s) n (length page) (partOutcome (s .cache .sizes) (stateOf s) first (length x) asWrite)
+  unfolding decide
+  part-checked = refl
+
+  module _ (a : sound (s .cache .sizes) (s .cache .directory) ≡ true) (b : lentOk (s .cache .sizes) (s .lent) ≡ true) (e : length page ≡ s .cache .sizes .S) (l : n < s .cache .sizes .N * s .cache .sizes .K) where
+    -- the checks passed, the outcome is o
+    passed-as : (o : Outcome) → partOutcome (s .cache .sizes) (stateOf s) first (length x) asWrite ≡ o → decide leastRecent (s .cache .sizes) (stateOf s) (told (part n first x page)) ≡ checked (s .cache .sizes) (stateOf s) n (length page) o
+    passed-as o h = part-checked ∙ ap (checked (s .cache .sizes) (stateOf s) n (length page)) h
+
+    pub call-reach : leb (first + length x) (s .cache .sizes .S) ≡ false → call leastRecent s (part n first x page) ≡ unaltered (refused 2 vacant) s (part n first x page)
+    call-reach h = let o : Outcome = turnedDown (stateOf s) 2 vacant in
+        turned-down s (part n first x page) n (length page) o (passed-as o (part-past (s .cache .sizes) (stateOf s) first (length x) asWrite h)) a b 2 (checked-passed (s .cache .sizes) (stateOf s) n (length page) o e l)
+
+    module _ (r : leb (first + length x) (s .cache .sizes .S) ≡ true) where
+      -- way 0
+      pub nothing-done : noBytes x ≡ true → record { answer = writeDone 0 vacant 0; store = s; page = page } ≡ call leastRecent s (part n first x page)
+      unfolding callPages
+      nothing-done q = let o : Outcome = record { answer = writeDone 0 vacant 0; state = stateOf s } in
+          call-passed s (part n first x page) n (length page) o (passed-as o (part-nothing (s .cache .sizes) (stateOf s) first (length x) asWrite r q)) a b e l (s .lent) (fits-of (s .cache .sizes) (s .lent) b) (writeDone 0 vacant 0) (s .cache .directory) page
+          (record { answer-is = refl; directory-is = refl; wear-is = refl; pages-are = rw (q, callPages) }) (rw q)
+
+      pub part-ready : PartReady (s .cache .sizes) (s .cache .directory) (s .lent) n first x page
+      part-ready = record { ready = record { sound = sound-facts (s .cache .sizes) (s .cache .directory) a; fits = fits-of (s .cache .sizes) (s .lent) b }; page-lt = l; page-length = e; reach = leb-true _ _ r }
+
+      pub part-done : noBytes x ≡ false → (u′ : Buffers) → Fits (s .cache .sizes) u′ → (answer : Answer) (d′ : Directory) (page′ : Page)
+          → PartWrote (s .cache .sizes) (s .cache .directory) (s .lent) n first x page answer d′ u′ page′
+          → record { answer = answer; store = record { cache = record { sizes = s .cache .sizes; directory = d′ }; lent = u′ }; page = page′ } ≡ call leastRecent s (part n first x page)
+      unfolding callPages
+      part-done q u′ f′ answer d′ page′ h =
+          let y : Page = combinedOf (s .cache .sizes) (s .cache .directory) (s .lent) n first x in
+          let p : page′ ≡ cond (isRefused (asWrite .answer)) page y = h .page-is ∙ ap (λ (t : Answer). cond (isRefused t) page y) (h .wrote .answer-is) in
+          call-passed s (part n first x page) n (length page) asWrite (passed-as asWrite (part-some (s .cache .sizes) (stateOf s) first (length x) asWrite r q)) a b e l u′ f′ answer d′ page′
+          (rw (q, callPages) (h .wrote)) (rw q p)
 
 -- ---- the calls without a page buffer
 

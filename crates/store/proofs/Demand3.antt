@@ -10,7 +10,7 @@ use Rattle.model.proofs.Demand3.{lru, demand-3-lru}
 use Rattle.cache.specs.View.{sizesOf}
 use Rattle.store.specs.declared.Cache.{Cache}
 use Rattle.store.specs.View.{storeOf}
-use Rattle.store.specs.Histories.{Made, read, write, step, flush, callOf, cacheAfter, buffersAfter, resultOf, AsContracted, leastRecentOf, Claim, Demand3}
+use Rattle.store.specs.Histories.{Made, read, write, part, step, flush, callOf, cacheAfter, buffersAfter, resultOf, AsContracted, leastRecentOf, Claim, Demand3}
 
 abbrev callsOf : List Made → List (Call Page)
 callsOf [] = []
@@ -20,6 +20,7 @@ callsOf (m ∷ ms) = callOf m ∷ callsOf ms
 store-after : (u : Buffers) (m : Made) → resultOf u m .store ≡ storeOf (cacheAfter m) (buffersAfter u m)
 store-after u (read n page out page′) = refl
 store-after u (write n page out u′) = refl
+store-after u (part n first x page out u′ page′) = refl
 store-after u (step out flash′ wear′ bspace′) = refl
 store-after u (flush out flash′ wear′ bspace′) = refl
 

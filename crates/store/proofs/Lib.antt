@@ -1,3 +1,4 @@
 pub mod ByTests
 pub mod Carrying
+pub mod Parts
 pub mod Demand3

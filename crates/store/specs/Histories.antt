@@ -23,6 +23,7 @@ use Rattle.store.specs.View.{openedOf, storeOf, readResult, writeResult,
 pub data Made : Type 0 where
   read : PageNo → Page → ReadOut → Page → Made
   write : PageNo → Page → WriteOut → Buffers → Made
+  part : PageNo → ℕ → Page → Page → WriteOut → Buffers → Page → Made
   step : StepOut → List ℕ → List ℕ → List ℕ → Made
   flush : FlushOut → List ℕ → List ℕ → List ℕ → Made
 
@@ -30,6 +31,7 @@ pub data Made : Type 0 where
 abbrev pub callOf : Made → Call Page
 callOf (read n page out page′) = calls.read (n .0) page
 callOf (write n page out u′) = calls.write (n .0) page
+callOf (part n first x page out u′ page′) = calls.part (n .0) first x page
 callOf (step out flash′ wear′ bspace′) = calls.step
 callOf (flush out flash′ wear′ bspace′) = calls.flush
 
@@ -37,12 +39,14 @@ callOf (flush out flash′ wear′ bspace′) = calls.flush
 abbrev pub cacheAfter : Made → Cache
 cacheAfter (read n page out page′) = out .cache
 cacheAfter (write n page out u′) = out .cache
+cacheAfter (part n first x page out u′ page′) = out .cache
 cacheAfter (step out flash′ wear′ bspace′) = out .cache
 cacheAfter (flush out flash′ wear′ bspace′) = out .cache
 
 abbrev pub buffersAfter : Buffers → Made → Buffers
 buffersAfter u (read n page out page′) = u
 buffersAfter u (write n page out u′) = u′
+buffersAfter u (part n first x page out u′ page′) = u′
 buffersAfter u (step out flash′ wear′ bspace′) = buffers flash′ wear′ (u .pspace) bspace′
 buffersAfter u (flush out flash′ wear′ bspace′) = buffers flash′ wear′ (u .pspace) bspace′
 
@@ -50,10 +54,11 @@ buffersAfter u (flush out flash′ wear′ bspace′) = buffers flash′ wear′
 abbrev pub resultOf : Buffers → Made → Result
 resultOf u (read n page out page′) = readResult out u page′
 resultOf u (write n page out u′) = writeResult out u′ page
+resultOf u (part n first x page out u′ page′) = writeResult out u′ page′
 resultOf u (step out flash′ wear′ bspace′) = stepResult out (buffers flash′ wear′ (u .pspace) bspace′)
 resultOf u (flush out flash′ wear′ bspace′) = flushResult out (buffers flash′ wear′ (u .pspace) bspace′)
 
--- the contract of the call, on record c and buffers u: the `ensures` of `Cache::read`, `write`, `flush_step`, `flush`
+-- the contract of the call, on record c and buffers u: the `ensures` of `Cache::read`, `write`, `write_part`, `flush_step`, `flush`
 abbrev pub Contract : Cache → Buffers → Made → Type 0
 Contract c u m = resultOf u m ≡ call leastRecent (storeOf c u) (callOf m)
 

@@ -1,7 +1,7 @@
 // Whether lent buffers have the lengths that the sizes ask for (refusal 2), and wear within its limit (refusal 3).
 use cache::Sizes;
 ghost use mathlib.Core.Path.{_≡_};
-ghost use Prim.Native.Nat.{_≤_};
+ghost use Prim.Native.Nat.{_+_, _≤_};
 ghost use lib.Dec.{leb};
 ghost use lib.ListN.{length, getD};
 ghost use Rattle.prelude.specs.Scan.{all};
@@ -20,6 +20,18 @@ pub fn lengths_ok(z: Sizes, flash: usize, wear: usize, pspace: usize, bspace: us
     let p = z.slots as usize;
     let b = z.frames as usize;
     (flash == n * k * s) & ((wear == n) & ((pspace == p * s) & (bspace == b * k * s)))
+}
+
+// So many bytes, from byte `first` of a page on, end within it.
+pub fn reach_ok(z: Sizes, first: u32, many: usize) -> bool
+    ensures { λ r. ⌜ r ≡ leb (first + many) (sizesOf z .S) ⌝ }
+{
+    let s = z.page_size;
+    if s < first {
+        return false;
+    }
+    let left = s - first;
+    many <= left as usize
 }
 
 // No wear entry is above the limit.

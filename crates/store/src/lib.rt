@@ -3,6 +3,7 @@
 mod flush; // flush.rt: a flush step, and a flush
 mod lent; // lent.rt: whether lent buffers are as the sizes ask
 mod open; // open.rt: the blank record, and opening a store
+mod part; // part.rt: writing part of a page
 mod read; // read.rt: reading a page
 mod write; // write.rt: writing a page
 
@@ -29,7 +30,7 @@ pub struct ReadOut {
     pub answer: answer::Read,
 }
 
-// The record after a write, and its answer.
+// The record after a write, of a page or of part of one, and its answer.
 pub struct WriteOut {
     pub cache: Cache,
     pub answer: answer::Write,

@@ -72,7 +72,7 @@ fn attempt(
 }
 
 // The directory handed back unaltered.
-fn refused(d: Directory, why: Refusal) -> Written
+pub fn refused(d: Directory, why: Refusal) -> Written
     ensures { λ r. ⌜ r ≡ record { directory = d; answer = Refused why } ⌝ }
 {
     Written {

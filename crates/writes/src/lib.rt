@@ -61,7 +61,7 @@ pub fn write(
 }
 
 // A write that rewrote nothing.
-fn done(d: Directory, way: u32) -> Written
+pub fn done(d: Directory, way: u32) -> Written
     ensures { λ r. ⌜ (writeOf (r .answer) ≡ writeDone way vacant 0) × (r .directory ≡ d) ⌝ }
 {
     Written {

@@ -28,6 +28,13 @@ pub enum Form {
         n: u32,
         len: Option<u32>,
     },
+    /// `len` bytes from byte `first` of the page on
+    Part {
+        n: u32,
+        first: u32,
+        seed: u32,
+        len: u32,
+    },
     Step,
     Flush,
     Dump,
@@ -51,6 +58,7 @@ const FORMS: &[Row] = &[
     Row { word: "writelen", since: 0, make: |w| Some(Form::Write { n: w.number()?, seed: w.number()?, len: Some(w.number()?) }) },
     Row { word: "read", since: 0, make: |w| Some(Form::Read { n: w.number()?, len: None }) },
     Row { word: "readlen", since: 0, make: |w| Some(Form::Read { n: w.number()?, len: Some(w.number()?) }) },
+    Row { word: "part", since: 1, make: |w| Some(Form::Part { n: w.number()?, first: w.number()?, seed: w.number()?, len: w.number()? }) },
     Row { word: "step", since: 0, make: |_| Some(Form::Step) },
     Row { word: "flush", since: 0, make: |_| Some(Form::Flush) },
     Row { word: "dump", since: 0, make: |_| Some(Form::Dump) },
@@ -173,9 +181,14 @@ mod tests {
 
     #[test]
     fn good_lines() {
-        for line in
-            ["(step)", "(write 0 4294967295)", "(spoil valid 7 18446744073709551615)", "(spoil s 9 1)", "(open 1 2 3 2 1 9 0 0 0 0)"]
-        {
+        for line in [
+            "(step)",
+            "(write 0 4294967295)",
+            "(part 0 4294967295 0 0)",
+            "(spoil valid 7 18446744073709551615)",
+            "(spoil s 9 1)",
+            "(open 1 2 3 2 1 9 0 0 0 0)",
+        ] {
             assert!(parse(line.as_bytes()).is_some(), "{line}");
         }
     }
@@ -210,7 +223,9 @@ mod tests {
             "(open 1 2 3 2 1 9)",
             "(open 1 2 3 2 1 9 1 0 0 0)",
             "(open 1 2 3 2 1 9 0 0 0 1)",
-            "(part 0 0 1 1)",
+            "(part 0 0 1)",
+            "(part 0 0 1 1 1)",
+            "(takeback)",
             "(report)",
         ];
         for line in reads.iter().map(String::as_str).chain(others) {

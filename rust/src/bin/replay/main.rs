@@ -8,7 +8,7 @@ mod print;
 use std::io::{self, BufWriter, Read, Write};
 
 /// How many of document 02's requests are in force.
-const RELEASE: u32 = 0;
+const RELEASE: u32 = 1;
 
 /// Whether what request `since` brings, or the base where it is 0, is in force.
 fn in_force(since: u32) -> bool {
@@ -79,6 +79,25 @@ mod tests {
             "(write (way 3) (erased none) (merged 0))",
             "(step (refused 6 0))",
             "(readlen (refused 4))",
+        ];
+        assert_eq!(replay(script), said);
+    }
+
+    #[test]
+    fn part_writes() {
+        let script = "(open 2 4 3 3 1 9 0 0 0 0)\n(part 0 1 10 1)\n(part 0 0 20 2)\n(part 0 2 0 0)\n(part 0 1 0 2)\n(part 0 3 0 0)\n(part 12 9 0 9)\n\
+                      (read 0)\n(part 0 0 0)\n(part 0 0 0 4294967295)\n";
+        let said = [
+            "(open (done))",
+            "(part (way 3) (erased none) (merged 0) (page 32280693))",
+            "(part (way 1) (erased none) (merged 0) (page e5120c46))",
+            "(part (way 0) (erased none) (merged 0) (page 34150d34))",
+            "(part (refused 2))",
+            "(part (refused 2))",
+            "(part (refused 5))",
+            "(read (way 1) (page e5120c46))",
+            "(bad 9)",
+            "(part (refused 2))",
         ];
         assert_eq!(replay(script), said);
     }

@@ -13,7 +13,7 @@ pub struct State {
 pub enum Said {
     Nothing,
     Opened(Result<(), Refusal>),
-    /// a call's answer, and the CRC-32 of the page that a read gave
+    /// a call's answer, and the CRC-32 of the page buffer that a read or a part write left
     Called(Result<Answer, Refusal>, Option<u32>),
     Dump,
 }
@@ -23,7 +23,8 @@ pub struct Bad;
 
 const MOST_FLASH: usize = 4 << 20;
 
-/// No sound record has pages of more than 2,048 bytes: a longer page buffer is refused whatever its length, so it need not be made.
+/// No sound record has pages of more than 2,048 bytes: a longer page buffer, or more bytes of a part write, are refused whatever their
+/// length, so they need not be made.
 const TOO_LONG: u32 = 2049;
 
 impl State {
@@ -44,6 +45,7 @@ impl State {
             }
             Form::Write { n, seed, len } => Ok(self.write(n, seed, len)),
             Form::Read { n, len } => Ok(self.read(n, len)),
+            Form::Part { n, first, seed, len } => Ok(self.part(n, first, seed, len)),
             Form::Step => Ok(Said::Called(self.cache.step(&mut self.memory.lend()), None)),
             Form::Flush => Ok(Said::Called(self.cache.flush(&mut self.memory.lend()), None)),
             Form::Dump => Ok(Said::Dump),
@@ -80,6 +82,13 @@ impl State {
     fn read(&mut self, n: u32, len: Option<u32>) -> Said {
         let mut page = vec![0xA5; self.page_len(len)];
         let answer = self.cache.read(&self.memory.lend(), n, &mut page);
+        Said::Called(answer, Some(crc32(&page)))
+    }
+
+    fn part(&mut self, n: u32, first: u32, seed: u32, len: u32) -> Said {
+        let bytes = pattern(seed, len.min(TOO_LONG) as usize);
+        let mut page = vec![0xA5; self.page_len(None)];
+        let answer = self.cache.part(&mut self.memory.lend(), n, first, &bytes, &mut page);
         Said::Called(answer, Some(crc32(&page)))
     }
 

@@ -1,0 +1,44 @@
+use borrow.Author.Needs.{needs}
+use Rattle.clash_c.proofs.clash_part.Statement.{statement}
+use Rattle.clash_c.proofs.clash_part.Tie as tie
+use Rattle.clash_c.proofs.clash_part.Reads as reads
+use Rattle.clash_c.proofs.clash_part.Lts as lts
+use Rattle.clash_c.proofs.write_answer.Reads as write-answer-reads
+use Rattle.store.proofs.Cache.write_part.Reads as write-part-reads
+
+write-part-requires : tie.Need-write-part-requires
+write-part-requires c κs = search needs
+
+write-answer-requires : tie.Need-write-answer-requires
+write-answer-requires c κs = search needs
+
+same-length : tie.Need-same-length
+same-length c = search needs
+
+same-length-2 : tie.Need-same-length-2
+same-length-2 c = search needs
+
+same-length-3 : tie.Need-same-length-3
+same-length-3 c = search needs
+
+same-length-4 : tie.Need-same-length-4
+same-length-4 c = search needs
+
+same-length-5 : tie.Need-same-length-5
+same-length-5 c = search needs
+
+returns : tie.Need-returns
+returns c = rw (c .write-answer .ensures) (c .before .before .before .before .before .before .before .before .before .before .before .before .write-part .ensures)
+
+pub clash-part-spec : {M : Type 1} → statement M
+clash-part-spec =
+    tie.close
+    (tie.spec
+    write-part-requires
+    write-answer-requires
+    same-length
+    same-length-2
+    same-length-3
+    same-length-4
+    same-length-5
+    returns)

@@ -1,0 +1,27 @@
+use borrow.Author.Needs.{needs}
+use native.Mathlib.Omega.{arith}
+use mathlib.Core.Path.{_∙_, ap}
+use Rattle.prelude.specs.Pages.{laid}
+use Rattle.model.specs.Calls.{combined}
+use Rattle.store.proofs.part.combine.Statement.{statement}
+use Rattle.store.proofs.part.combine.Tie as tie
+use Rattle.store.proofs.part.combine.Reads as reads
+use Rattle.store.proofs.part.combine.Lts as lts
+use Rattle.page.proofs.lay.Reads as lay-reads
+use Rattle.reads.proofs.peek.Reads as peek-reads
+
+peek-requires : tie.Need-peek-requires
+peek-requires c κs = c .before .before .before .before .before .before .pre .0
+
+lay-requires : tie.Need-lay-requires
+lay-requires c κs = let p = c .before .before .before .before .before .before .before .before .before .before .pre in let h = p .0 .sound .limits .S-high in let r = p .1 in let e = p .0 .page-length in let k = c .before .before .before .peek .kept .1 .1 .1 .1 .1 .1 .0 in (omega arith, omega arith)
+
+same-length : tie.Need-same-length
+same-length c = search needs
+
+returns : tie.Need-returns
+unfolding combined
+returns c = c .before .before .lay .ensures ∙ ap (laid (c .before .before .before .before .before .before .before .before .before .before .before .before .before .args .first) (c .before .before .before .before .before .before .before .before .before .before .before .before .before .args .bytes .now)) (c .before .before .before .before .before .before .peek .ensures .page-is)
+
+pub combine-spec : {M : Type 1} → statement M
+combine-spec = tie.close (tie.spec peek-requires lay-requires same-length returns)

@@ -1,0 +1,55 @@
+use borrow.Author.Needs.{needs}
+use native.Mathlib.Omega.{arith}
+use mathlib.Core.Path.{_≡_, sym, _∙_}
+use lib.ListN.{length-take}
+use Rattle.store.proofs.part.write_apart.Statement.{statement}
+use Rattle.store.proofs.part.write_apart.Tie as tie
+use Rattle.store.proofs.part.write_apart.Reads as reads
+use Rattle.store.proofs.part.write_apart.Lts as lts
+use Rattle.store.proofs.part.write_combined.Reads as write-combined-reads
+
+cast-s : tie.Need-cast-s
+cast-s c = search needs
+
+array-borrow-prefix-whole : tie.Need-array-borrow-prefix-whole
+array-borrow-prefix-whole c = let h = c .before .before .before .before .before .before .before .before .before .before .before .before .pre .ready .sound .limits .S-high in omega arith
+
+slice-aggregate-write-combined : tie.Need-slice-aggregate-write-combined
+slice-aggregate-write-combined c = let h = c .before .before .before .before .before .before .before .before .before .before .before .before .before .pre .ready .sound .limits .S-high in simp length-take (omega arith)
+
+write-combined-requires : tie.Need-write-combined-requires
+write-combined-requires c κs = let p = c .before .before .before .before .before .before .before .before .before .before .before .before .before .pre in let h = p .ready .sound .limits .S-high in
+    (record { ready = p .ready; page-lt = p .page-lt; page-length = p .page-length; reach = p .reach }, simp length-take (omega arith))
+
+same-length : tie.Need-same-length
+same-length c = search needs
+
+same-length-2 : tie.Need-same-length-2
+same-length-2 c = search needs
+
+same-length-3 : tie.Need-same-length-3
+same-length-3 c = search needs
+
+same-length-4 : tie.Need-same-length-4
+same-length-4 c = search needs
+
+same-length-5 : tie.Need-same-length-5
+same-length-5 c = search needs
+
+returns : tie.Need-returns
+returns c = c .before .before .before .before .before .before .before .before .before .before .before .write-combined .ensures
+
+pub write-apart-spec : {M : Type 1} → statement M
+write-apart-spec =
+    tie.close
+    (tie.spec
+    cast-s
+    array-borrow-prefix-whole
+    slice-aggregate-write-combined
+    write-combined-requires
+    same-length
+    same-length-2
+    same-length-3
+    same-length-4
+    same-length-5
+    returns)

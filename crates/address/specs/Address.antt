@@ -1,5 +1,5 @@
 -- The block-and-offset rule: page n lies in block n div k at offset n mod k.
-use Prim.Native.Nat.{ℕ, _+_, _*_, _/_, _%_, _≤_, _<_, _^_}
+use Prim.Native.Nat.{ℕ, _+_, _*_, _/_, _%_}
 use Rattle.address.specs.declared.PageNo.{PageNo}
 use Rattle.address.specs.declared.BlockNo.{BlockNo}
 
@@ -14,10 +14,3 @@ offsetOf n k = n .0 % k
 -- the page at offset o of block b
 abbrev pub pageOf : BlockNo → ℕ → ℕ → PageNo
 pageOf b o k = record { 0 = b .0 * k + o }
-
--- m is 2^32 divided by k, rounded up
-pub record ReciprocalOf (k m : ℕ) : Type 0 where
-  pub k-low : 2 ≤ k
-  pub k-high : k ≤ 64
-  pub enough : 2 ^ 32 ≤ m * k
-  pub close : m * k < 2 ^ 32 + k

@@ -1,21 +1,21 @@
--- The victim by a table of counts: what holds of table and leader after the first i slots.
+-- The victim by a table of counts: what holds of the table and of the highest rank after the first i slots.
 use mathlib.Core.Path.{_≡_, refl, sym, ap, _∙_}
-use mathlib.Core.Bool.{true, false, _&&_, _||_}
 use mathlib.Core.List.{List}
-use Prim.Native.Nat.{ℕ, _+_, _<_}
+use Prim.Native.Nat.{ℕ, _+_, _-_, _*_, _/_, _≤_, _<_}
 use native.Mathlib.Omega.{arith}
-use lib.Dec.{ltb, eqb}
+use lib.Dec.{eqb}
 use lib.ListN.{length, getD, set, replicate, length-set, length-replicate, getD-replicate}
 use lib.Seq.{getD-set-same, getD-set-other}
-use borrow.Author.Tests.{eqb-true, eqb-false, lt-ltb}
+use borrow.Author.Tests.{eqb-true, eqb-false}
 use Rattle.prelude.specs.Scan.{count}
-use Rattle.prelude.proofs.Tests.{by-test, clash, or-l}
-use Rattle.prelude.proofs.Scan.{count-hit, count-miss, Leads, leads-is, leads-none, leads-same, leads-taken, leads-kept}
+use Rattle.prelude.proofs.Tests.{by-test}
+use Rattle.prelude.proofs.Scan.{count-hit, count-miss, count-none, argmax-ge, leads-is}
 use Rattle.model.specs.Sizes.{Sizes, vacant}
 use Rattle.model.specs.Directory.{Directory, slotAt}
 use Rattle.model.specs.Soundness.{Sound}
 use Rattle.model.specs.Policy.{inBlock, slotCount, victim}
-use Rattle.model.proofs.Lookup.{in-block, not-in-block}
+use Rattle.model.proofs.Lookup.{in-block, not-in-block, some-pages}
+use Rattle.model.proofs.Plan.{slot-block}
 use Rattle.cache.specs.View.{blockNo}
 use Rattle.policy.specs.Views.{victimOf}
 use Rattle.policy.proofs.Held.{Held}
@@ -24,25 +24,36 @@ use Rattle.policy.proofs.Held.{Held}
 abbrev pub pages-to : Sizes → Directory → ℕ → ℕ → ℕ
 pages-to sz d i b = count i (inBlock sz d b)
 
--- table l has them for each block, and block r leads with m
-pub record Counted (sz : Sizes) (d : Directory) (i : ℕ) (l : List ℕ) (r m : ℕ) : Type 0 where
+-- table l has them for each block, and the highest rank is that of block `leader`: a rank is a count times 4,096 less the block
+pub record Counted (sz : Sizes) (d : Directory) (i : ℕ) (l : List ℕ) (lead : ℕ) : Type 0 where
   pub long : length l ≡ 4096
   pub each : (b : ℕ) → b < sz .N → getD l b 0 ≡ pages-to sz d i b
-  pub leads : Leads (sz .N) (pages-to sz d i) r
-  pub most : m ≡ pages-to sz d i r
+  pub leader : ℕ
+  pub low : leader < sz .N
+  pub leads : pages-to sz d i leader * 4096 ≡ lead + leader
+  pub top : (b : ℕ) → b < sz .N → pages-to sz d i b * 4096 ≤ lead + b
 
 module _ (sz : Sizes) (d : Directory) (s : Sound sz d) where
-  pub counted-none : Counted sz d 0 (replicate 4096 0) 0 0
+  pub counted-none : Counted sz d 0 (replicate 4096 0) 0
   unfolding count
-  counted-none = record { long = length-replicate {A = ℕ} 4096 0; each = λ b l. getD-replicate {A = ℕ} 4096 b 0 0 (let n = s .limits .N-high in omega arith); leads = leads-none (sz .N) (pages-to sz d 0) (s .limits .N-low) (λ j l. refl); most = refl }
+  counted-none = record {
+    long = length-replicate {A = ℕ} 4096 0;
+    each = λ b l. getD-replicate {A = ℕ} 4096 b 0 0 (let n = s .limits .N-high in omega arith);
+    leader = 0;
+    low = s .limits .N-low;
+    leads = refl;
+    top = λ b l. omega arith;
+  }
 
-  module _ (i : ℕ) (l : List ℕ) (r m : ℕ) (h : Counted sz d i l r m) where
-    pub counted-vacant : slotAt d i ≡ vacant → Counted sz d (i + 1) l r m
+  module _ (i : ℕ) (l : List ℕ) (lead : ℕ) (h : Counted sz d i l lead) where
+    pub counted-vacant : slotAt d i ≡ vacant → Counted sz d (i + 1) l lead
     counted-vacant e = record {
       long = h .long;
       each = λ b bl. h .each b bl ∙ same b;
-      leads = leads-same (sz .N) (pages-to sz d i) (pages-to sz d (i + 1)) r (h .leads) (λ j jl. sym (same j));
-      most = h .most ∙ same r;
+      leader = h .leader;
+      low = h .low;
+      leads = rw (← (same (h .leader))) (h .leads);
+      top = λ b bl. rw (← (same b)) (h .top b bl);
     }
       where
         same : (b : ℕ) → pages-to sz d i b ≡ pages-to sz d (i + 1) b
@@ -60,25 +71,45 @@ module _ (sz : Sizes) (d : Directory) (s : Sound sz d) where
           (λ t. rw (eqb-true c b t) (getD-set-same l b v 0 (let k = h .long in let n = s .limits .N-high in let q = p .low in omega arith) ∙ grown))
           (λ t. let ne = eqb-false c b t in getD-set-other l b c v 0 ne ∙ h .each c cl ∙ other c ne)
 
-      -- block b takes the lead, or r keeps it
-      pub counted-taken : (ltb m v || (eqb m v && ltb b r)) ≡ true → Counted sz d (i + 1) (set l b v) b v
-      counted-taken t = record {
-        long = length-set l b v ∙ h .long;
-        each = stored;
-        leads = leads-taken (sz .N) (pages-to sz d i) (pages-to sz d (i + 1)) r (h .leads) b (λ j jl ne. sym (other j ne)) (p .low) (rw (← (h .most), ← grown) t);
-        most = grown;
-      }
+      -- the ranks are as before, but for b's
+      ranks : (t : ℕ) → lead ≤ t → v * 4096 ≤ t + b → (j : ℕ) → j < sz .N → pages-to sz d (i + 1) j * 4096 ≤ t + j
+      ranks t o n j jl = by-test (eqb j b) (λ q. rw (eqb-true j b q, ← grown) n) (λ q. let a = h .top j jl in let e = other j (eqb-false j b q) in omega arith)
 
-      pub counted-kept : (ltb m v || (eqb m v && ltb b r)) ≡ false → Counted sz d (i + 1) (set l b v) r m
-      counted-kept t = record {
-        long = length-set l b v ∙ h .long;
-        each = stored;
-        leads = leads-kept (sz .N) (pages-to sz d i) (pages-to sz d (i + 1)) r (h .leads) b (λ j jl ne. sym (other j ne)) (let a = h .each b (p .low) in let c = grown in omega arith) (rw (← (h .most), ← grown) t);
-        most = h .most ∙ other r (λ q. let a = h .each b (p .low) in let c : m ≡ pages-to sz d i b = (rw q at (h .most)) in clash (or-l (eqb m v && ltb b r) (lt-ltb m v (omega arith))) t);
-      }
+      -- block b takes the lead, or it stays
+      pub counted-taken : lead < v * 4096 - b → Counted sz d (i + 1) (set l b v) (v * 4096 - b)
+      counted-taken t = record { long = length-set l b v ∙ h .long; each = stored; leader = b; low = p .low; leads = rw (← grown) (omega arith); top = ranks (v * 4096 - b) (omega arith) (omega arith) }
 
-  pub counted-all : (i : ℕ) (l : List ℕ) (r m : ℕ) → Counted sz d i l r m → i ≡ sz .P → record { block = blockNo r; pages = m } ≡ victimOf sz d
-  unfolding victimOf victim slotCount
-  counted-all i l r m h e =
-      let h2 : Counted sz d (sz .P) l r m = (rw e at h) in let k = leads-is (sz .N) (pages-to sz d (sz .P)) r (h2 .leads) in
-      λ j. record { block = blockNo (k j); pages = (h2 .most ∙ ap (pages-to sz d (sz .P)) k) j }
+      pub counted-kept : v * 4096 - b ≤ lead → Counted sz d (i + 1) (set l b v) lead
+      counted-kept t = record { long = length-set l b v ∙ h .long; each = stored; leader = h .leader; low = h .low; leads = rw (← (other (h .leader) ne)) (h .leads); top = ranks lead (omega arith) (omega arith) }
+        where
+          ne : h .leader ≡ b → ⊥
+          ne q = let e : pages-to sz d i b * 4096 ≡ lead + b = (rw q at (h .leads)) in let a = h .each b (p .low) in omega arith
+
+  module _ (l : List ℕ) (lead : ℕ) (h : Counted sz d (sz .P) l lead) where
+    leader-is : h .leader ≡ victim sz d
+    unfolding victim slotCount
+    leader-is = leads-is (sz .N) (pages-to sz d (sz .P)) (h .leader) (record {
+      low = h .low;
+      le = λ j jl. (let a = h .top j jl in let e = h .leads in let r = h .low in let n = s .limits .N-high in omega arith);
+      lt = λ j jl. (let r = h .low in let a = h .top j (omega arith) in let e = h .leads in omega arith);
+    })
+
+    -- the highest rank taken apart
+    pub counted-all : record { block = blockNo ((lead + 4095) / 4096 * 4096 - lead); pages = (lead + 4095) / 4096 } ≡ victimOf sz d
+    unfolding victimOf slotCount
+    counted-all =
+        let e = h .leads in let r = h .low in let n = s .limits .N-high in
+        let pages : (lead + 4095) / 4096 ≡ pages-to sz d (sz .P) (h .leader) = omega arith in
+        let block : (lead + 4095) / 4096 * 4096 - lead ≡ h .leader = omega arith in
+        λ j. record { block = blockNo ((block ∙ leader-is) j); pages = (pages ∙ ap (pages-to sz d (sz .P)) leader-is) j }
+
+-- "none" is 0 pages: exactly where no slot holds a page
+module _ (sz : Sizes) (d : Directory) where
+  pub no-victim : ((i : ℕ) → i < sz .P → slotAt d i ≡ vacant) → victimOf sz d .pages ≡ 0
+  unfolding victimOf slotCount
+  no-victim h = count-none (sz .P) (inBlock sz d (victim sz d)) (λ i l. not-in-block sz d (victim sz d) i (λ k q. let e = h i l in absurd (omega arith)))
+
+  pub some-victim : Sound sz d → (i : ℕ) → i < sz .P → slotAt d i < vacant → 0 < victimOf sz d .pages
+  unfolding victimOf victim
+  some-victim s i l h = let b : ℕ = slotAt d i / sz .K in
+      let most = argmax-ge (sz .N) (slotCount sz d) b (slot-block sz d s i l h) in let some = some-pages sz d b i l (in-block sz d b i h refl) in omega arith

@@ -18,7 +18,7 @@ use Rattle.policy.specs.declared.decision.Plan.the-variants.{SlotHit, Fr
 use Rattle.policy.specs.declared.decision.Due.{Due}
 use Rattle.policy.specs.declared.decision.Due.the-variants.{Clean, Block}
 
--- the victim, and how many of its pages stand in slots
+-- the victim, and how many of its pages stand in slots: none where no slot holds a page
 unfoldable pub victimOf : Sizes → Directory → Victim
 victimOf sz d = record { block = blockNo (victim sz d); pages = slotCount sz d (victim sz d) }
 

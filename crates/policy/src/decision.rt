@@ -2,6 +2,7 @@
 use address::BlockNo;
 
 // A block and how many of its pages stand in slots.
+#[repr(C)]
 pub struct Victim {
     pub block: BlockNo,
     pub pages: u32,

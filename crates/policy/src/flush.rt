@@ -91,13 +91,13 @@ fn worn_in_slots(z: Sizes, d: Directory, wear: &[u32]) -> u32
     requires { ⌜ WithWear (sizesOf z) (directoryOf d) (now wear) ⌝ }
     ensures { λ r. ⌜ r ≡ wornInSlots (sizesOf z) (directoryOf d) (now (wear .entry)) ⌝ }
 {
-    let m = address::reciprocal(z.pages_per_block);
+    let m = address::range::reciprocal(z.pages_per_block);
     let mut low = z.blocks;
     let mut i = 0;
     while i < z.slots as usize {
         let x = d.slots[i];
         if x.0 < VACANT {
-            let b = address::block_by(x, z.pages_per_block, m);
+            let b = address::range::block_by(x, z.pages_per_block, m);
             if (b.0 < low) & is_worn(z, wear, b) {
                 low = b.0;
             }

@@ -13,33 +13,37 @@ ghost use Rattle.model.specs.Policy.{validCount, leastRecent, fewestValid, evic
 ghost use Rattle.cache.specs.View.{sizesOf, directoryOf};
 ghost use Rattle.policy.specs.Views.{victimOf, SomeValid};
 
-// The block with the most pages in slots, the lowest among equals. The pages of each block are counted in a table.
+// The block with the most pages in slots, the lowest among equals; no pages where all slots are vacant. The pages of each block are
+// counted in a table. A rank is a count times 4,096 less the block, so that one comparison finds the leader.
 pub fn victim(z: Sizes, d: Directory) -> Victim
     requires { ⌜ Sound (sizesOf z) (directoryOf d) ⌝ }
     ensures { λ r. ⌜ r ≡ victimOf (sizesOf z) (directoryOf d) ⌝ }
 {
     let end = z.slots as usize;
-    let m = address::reciprocal(z.pages_per_block);
+    let m = address::range::reciprocal(z.pages_per_block);
     let mut counts = [0u8; 4096];
-    let mut best = BlockNo(0);
-    let mut most = 0u8;
+    let mut lead = 0;
     let mut i = 0;
     while i < end {
         let x = d.slots[i];
         if x.0 < VACANT {
-            let b = address::block_by(x, z.pages_per_block, m);
+            let b = address::range::block_by(x, z.pages_per_block, m);
             let at = b.0 as usize;
             let pages = counts[at] + 1;
             counts[at] = pages;
-            if (most < pages) | ((most == pages) & (b.0 < best.0)) {
-                best = b;
-                most = pages;
+            let rank = pages as u32 * 4096 - b.0;
+            if lead < rank {
+                lead = rank;
             }
         }
         i += 1;
     }
-    let pages = most as u32;
-    Victim { block: best, pages }
+    let pages = (lead + 4095) >> 12;
+    let block = pages * 4096 - lead;
+    Victim {
+        block: BlockNo(block),
+        pages,
+    }
 }
 
 // The fewest valid pages that a frame has.

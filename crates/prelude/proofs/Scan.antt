@@ -1,6 +1,5 @@
 -- Laws of the scans over numbers below a bound.
 use mathlib.Core.Path.{_≡_, refl, sym, ap, _∙_}
-use mathlib.Core.Logic.{inl, inr}
 use mathlib.Core.Bool.{Bool, true, false, not, cond, _&&_, _||_}
 use Prim.Native.Nat.{ℕ, zero, suc, _+_, _-_, _≤_, _<_}
 use native.Mathlib.Nat.{not-suc-le-zero}
@@ -9,7 +8,7 @@ use native.Mathlib.Omega.{arith}
 use lib.Dec.{ltb, eqb}
 use borrow.Author.Tests.{ltb-true, ltb-false, eqb-true, eqb-false, lt-ltb, le-ltb, eq-eqb, ne-eqb}
 use Rattle.prelude.specs.Scan.{firstFrom, first, count, all, allPairs, nth, argmax, least}
-use Rattle.prelude.proofs.Tests.{by-test, clash, and-l, and-r, and-i, not-i, same-test, or-l, or-r, or-cases}
+use Rattle.prelude.proofs.Tests.{by-test, clash, and-l, and-r, and-i, not-i, same-test, or-l, or-r}
 
 -- ---- all
 
@@ -357,52 +356,6 @@ leads-is n g r h = let l = h .low in let al = argmax-lt n g (omega arith) in
     (λ t. let t2 = ltb-false r (argmax n g) t in by-test (ltb (argmax n g) r)
     (λ u. absurd (let k = h .lt (argmax n g) (ltb-true (argmax n g) r u) in omega arith))
     (λ u. let u2 = ltb-false (argmax n g) r u in omega arith))
-
--- a loop that keeps the leader: all values are 0, none changes, or the value at b grows
-pub leads-none : (n : ℕ) (g : ℕ → ℕ) → 0 < n → ((j : ℕ) → j < n → g j ≡ 0) → Leads n g 0
-leads-none n g l z = let z0 = z 0 l in record { low = l; le = λ j k. (let y = z j k in omega arith); lt = λ j k. absurd (omega arith) }
-
-module _ (n : ℕ) (g h : ℕ → ℕ) (r : ℕ) (k : Leads n g r) where
-  pub leads-same : ((j : ℕ) → j < n → h j ≡ g j) → Leads n h r
-  leads-same e = let rl = k .low in let er = e r rl in record {
-    low = rl;
-    le = λ j l. (let a = k .le j l in let b = e j l in omega arith);
-    lt = λ j l. (let a = k .lt j l in let b = e j (omega arith) in omega arith);
-  }
-
-  module _ (b : ℕ) (others : (j : ℕ) → j < n → (j ≡ b → ⊥) → h j ≡ g j) where
-    -- it takes the lead
-    pub leads-taken : b < n → (ltb (g r) (h b) || (eqb (g r) (h b) && ltb b r)) ≡ true → Leads n h b
-    leads-taken bl t = record {
-      low = bl;
-      le = λ j l. by-test (eqb j b) (λ q. rw (eqb-true j b q) (omega arith)) (λ q. let a = k .le j l in let e = others j l (eqb-false j b q) in let f = ahead in omega arith);
-      lt = λ j l. let jl : j < n = omega arith in let a = k .le j jl in let e = others j jl (λ q. omega arith) in elim (or-cases (ltb (g r) (h b)) (eqb (g r) (h b) && ltb b r) t) [
-        | inl x ↦ let y = ltb-true (g r) (h b) x in omega arith
-        | inr x ↦ let y = eqb-true (g r) (h b) (and-l (eqb (g r) (h b)) (ltb b r) x) in
-            let w = ltb-true b r (and-r (eqb (g r) (h b)) (ltb b r) x) in let v = k .lt j (omega arith) in omega arith
-      ];
-    }
-      where
-        ahead : g r ≤ h b
-        ahead = elim (or-cases (ltb (g r) (h b)) (eqb (g r) (h b) && ltb b r) t) [
-          | inl x ↦ let y = ltb-true (g r) (h b) x in omega arith
-          | inr x ↦ let y = eqb-true (g r) (h b) (and-l (eqb (g r) (h b)) (ltb b r) x) in omega arith
-        ]
-
-    -- r keeps it
-    pub leads-kept : g b < h b → (ltb (g r) (h b) || (eqb (g r) (h b) && ltb b r)) ≡ false → Leads n h r
-    leads-kept m t = by-test (ltb (g r) (h b))
-        (λ x. clash (or-l (eqb (g r) (h b) && ltb b r) x) t)
-        (λ x. let y = ltb-false (g r) (h b) x in let rl = k .low in
-        let ne : r ≡ b → ⊥ = (λ q. let v : g r < h b = (rw q m) in omega arith) in let er = others r rl ne in record {
-          low = rl;
-          le = λ j l. by-test (eqb j b) (λ q. rw (eqb-true j b q) (omega arith)) (λ q. let a = k .le j l in let e = others j l (eqb-false j b q) in omega arith);
-          lt = λ j l. by-test (eqb j b)
-              (λ q. let e = eqb-true j b q in by-test (eqb (g r) (h b))
-              (λ u. clash (or-r (ltb (g r) (h b)) (and-i u (lt-ltb b r (omega arith)))) t)
-              (λ u. let v = eqb-false (g r) (h b) u in rw e (omega arith)))
-              (λ q. let a = k .lt j l in let e = others j (omega arith) (eqb-false j b q) in omega arith);
-        })
 
 -- ---- least
 

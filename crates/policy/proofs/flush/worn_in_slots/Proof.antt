@@ -9,6 +9,7 @@ use borrow.Author.Tests.{lt-ltb, le-ltb}
 use Rattle.prelude.specs.Scan.{least}
 use Rattle.model.specs.Sizes.{vacant}
 use Rattle.model.specs.Directory.{slotAt}
+use Rattle.model.proofs.Soundness.{K-pos}
 use Rattle.cache.specs.declared.Sizes.{Sizes}
 use Rattle.cache.specs.declared.Directory.{Directory}
 use Rattle.cache.specs.View.{sizesOf, directoryOf}
@@ -55,7 +56,7 @@ element-copy-out-x c = search needs
 block-by-requires : tie.Need-block-by-requires Inv-loop μ-loop
 block-by-requires c κs =
     let start = c .before .before .before .before .before .before .before .before in
-    (page-lt (start .args .z) (start .args .t2) (start .pre .sound) (c .before .before .before .before .before .loop .i) (omega arith) (c .if2 .taken), c .before .before .before .before .before .before .reciprocal .ensures)
+    (K-pos (sizesOf (start .args .z)) (start .pre .sound .limits), start .pre .sound .limits .K-high, page-lt (start .args .z) (start .args .t2) (start .pre .sound) (c .before .before .before .before .before .loop .i) (omega arith) (c .if2 .taken))
 
 is-worn-requires : tie.Need-is-worn-requires Inv-loop μ-loop
 is-worn-requires c κs = let k = found (c .before) .low in let e = c .before .before .before .before .before .before .before .before .before .before .pre .wear-length in omega arith

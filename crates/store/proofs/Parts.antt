@@ -1,17 +1,16 @@
 -- What a part write lays in and hands back.
 use mathlib.Core.Path.{_≡_, refl, sym, ap, _∙_}
 use mathlib.Core.Bool.{Bool, true, cond}
-use mathlib.Core.List.{List, [], append-nil}
-use Prim.Native.Nat.{ℕ, _+_}
+use mathlib.Core.List.{List, append-nil}
+use Prim.Native.Nat.{ℕ}
 use native.Mathlib.Nat.{zero-add}
-use lib.ListN.{length, drop}
+use lib.ListN.{length}
 use lib.Seq.{drop-length}
 use Rattle.prelude.specs.Pages.{laid}
 use Rattle.model.specs.Calls.{Answer, isRefused, combined, Page, Buffers, zeroPage, memoryOf}
 use Rattle.model.specs.Sizes.{Sizes}
 use Rattle.model.specs.Directory.{Directory}
 use Rattle.model.specs.Policy.{leastRecent, plan}
-use Rattle.answer.specs.Carried.{buffers}
 use Rattle.reads.specs.Reads.{Readable, pages}
 use Rattle.writes.specs.Writes.{Writable, Wrote}
 use Rattle.store.specs.Parts.{PartReady, PartWrote}

@@ -1,5 +1,4 @@
 use borrow.Author.Needs.{needs}
-use native.Mathlib.Omega.{arith}
 use mathlib.Core.Path.{_∙_}
 use Rattle.store.proofs.Parts.{laid-whole, stays}
 use Rattle.store.proofs.part.deliver.Statement.{statement}

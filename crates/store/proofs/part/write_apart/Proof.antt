@@ -1,6 +1,5 @@
 use borrow.Author.Needs.{needs}
 use native.Mathlib.Omega.{arith}
-use mathlib.Core.Path.{_≡_, sym, _∙_}
 use lib.ListN.{length-take}
 use Rattle.store.proofs.part.write_apart.Statement.{statement}
 use Rattle.store.proofs.part.write_apart.Tie as tie

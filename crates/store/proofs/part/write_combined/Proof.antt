@@ -1,9 +1,6 @@
 use borrow.Author.Needs.{needs}
 use native.Mathlib.Omega.{arith}
-use mathlib.Core.Path.{_≡_, sym, ap, _∙_}
-use mathlib.Core.Bool.{cond}
-use lib.ListN.{length}
-use Rattle.model.specs.Calls.{memoryOf}
+use mathlib.Core.Path.{_∙_}
 use Rattle.store.proofs.Parts.{part-readable, part-writable, part-wrote}
 use Rattle.store.proofs.part.write_combined.Statement.{statement}
 use Rattle.store.proofs.part.write_combined.Tie as tie

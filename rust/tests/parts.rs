@@ -35,7 +35,7 @@ fn each_way() {
     assert_eq!(b.part(6, 1, &[60]), (7, [255, 60]));
     assert_eq!(b.part(8, 1, &[70]), (3, [30, 70]));
     assert_eq!(b.part(1, 0, &[80]), (7, [80, 255]));
-    assert_eq!(b.part(2, 0, &[90, 91]), (4, [90, 91]));
+    assert_eq!(b.part(2, 0, &[90, 91]), (3, [90, 91]));
     assert_eq!(b.part(2, 1, &[92]), (1, [90, 92]));
     assert_eq!(b.part(0, 1, &[13]), (2, [10, 13]));
 }

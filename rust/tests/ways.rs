@@ -72,8 +72,9 @@ fn write_way_3_takes_the_first_vacant_slot() {
 #[test]
 fn write_way_4_joins_the_victims_frame() {
     let mut b = bench();
-    b.writes(&[0, 4, 8, 9, 5, 6, 8, 1]);
-    assert_eq!(b.write(2), (4, None, 0));
+    b.writes(&[2, 7, 11, 3]);
+    assert_eq!(b.write(6), (4, None, 0));
+    assert_eq!((b.slots(), b.frame()), (&[6, 7, 11][..], (0, 12)));
 }
 
 #[test]
@@ -100,8 +101,17 @@ fn write_way_7_rewrites_the_least_recent_frame() {
     assert_eq!(b.write(6), (7, Some(2), 2));
     assert_eq!(b.memory.flash[8..], [108, 109, 255, 255]);
     assert_eq!(b.memory.wear, [0, 0, 1]);
-    assert_eq!(b.write(8), (3, None, 0));
-    assert_eq!(b.write(1), (7, Some(1), 2));
+}
+
+/// P7 to its end: page 6 goes from its slot into block 1, and page 1 takes that slot.
+#[test]
+fn write_way_7_takes_the_blocks_pages_in_slots_along() {
+    let mut b = bench();
+    b.writes(&[0, 4, 8, 9, 5, 6, 8]);
+    assert_eq!(b.write(1), (7, Some(1), 1));
+    assert_eq!(b.memory.flash[4..8], [104, 105, 106, 255]);
+    assert_eq!(b.slots(), [1, 8, VACANT]);
+    assert_eq!(b.write(2), (3, None, 0));
 }
 
 #[test]

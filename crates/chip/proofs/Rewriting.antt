@@ -14,12 +14,12 @@ use Rattle.model.specs.Sizes.{Sizes}
 use Rattle.model.specs.Directory.{Directory, validAt}
 use Rattle.model.specs.Policy.{validCount}
 use Rattle.model.specs.Moves.{flashPage, programmed, merged, rewrittenPages}
-use Rattle.model.specs.Calls.{Page, zeroPage, flashPages, slotPages, framePages, memoryOf}
+use Rattle.model.specs.Calls.{Page, zeroPage, flashPages, framePages}
 use Rattle.model.proofs.Soundness.{K-pos}
 use Rattle.model.proofs.Lookup.{page-lt, offset-lt}
 use Rattle.page.specs.Page.{HasPage}
 use Rattle.page.proofs.Part.{part, putPart, got, put}
-use Rattle.chip.specs.Chip.{stretchPages, mergedPage, mergedPages, programmedPages, Erased, chipMemory, Rewritable, Rewritten}
+use Rattle.chip.specs.Chip.{stretchPages, mergedPage, mergedPages, programmedPages, Erased, chipMemory, Rewritable}
 
 -- what the chip reads of flash, whatever else is in memory
 pub flash-page : (sz : Sizes) (flash : List ℕ) (ps bs : List Page) (n : ℕ) → n < sz .N * sz .K
@@ -89,12 +89,3 @@ module _ (sz : Sizes) (d : Directory) (b f : ℕ) (flash wear bspace : List ℕ)
           let p = rw (erased .flash-is, back) at programs ∙ flash-is (replicate (sz .K * sz .S) 255) (length-replicate _ _) in
           let q = ap (framePages sz) (put-is stretch) ∙ bspace-is in
           λ i. record { flash = p i; pspace = []; bspace = q i }
-
--- the rewrite beside any p-space, which it leaves as it was
-pub rewritten-memory : (sz : Sizes) (d : Directory) (b f : ℕ) (flash wear bspace : List ℕ) (reads : ℕ) (flash′ wear′ bspace′ : List ℕ)
-    → Rewritten sz d b f flash wear bspace reads flash′ wear′ bspace′ → (pspace : List ℕ)
-    → memoryOf sz (record { flash = flash′; wear = wear′; pspace = pspace; bspace = bspace′ })
-    ≡ rewrittenPages (zeroPage sz) sz d (memoryOf sz (record { flash = flash; wear = wear; pspace = pspace; bspace = bspace })) b f
-unfolding memoryOf chipMemory rewrittenPages merged flashPage
-rewritten-memory sz d b f flash wear bspace reads flash′ wear′ bspace′ h pspace =
-    λ i. record { flash = h .pages-are i .flash; pspace = slotPages sz pspace; bspace = h .pages-are i .bspace }

@@ -17,7 +17,8 @@ use Rattle.model.proofs.Soundness.{pages-small}
 use Rattle.model.proofs.Steps.{Below, stepped-sound, cached-now, cached-less, stepped-below}
 use Rattle.model.proofs.Calls.{flush-below}
 use Rattle.answer.specs.Carried.{buffers, Ready}
-use Rattle.flushes.specs.Flushes.{stateIn, FlushCarried, Flushable, Cleanable, BlockCleaned}
+use Rattle.clean.specs.Clean.{Cleanable, BlockCleaned}
+use Rattle.flushes.specs.Flushes.{stateIn, FlushCarried, Flushable}
 use Rattle.flushes.proofs.Stepping.{block-ready}
 
 abbrev tally : Directory → Buffers → ℕ → ℕ → Tally

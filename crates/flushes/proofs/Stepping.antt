@@ -14,7 +14,8 @@ use Rattle.model.proofs.Plan.{leastRecent-picks}
 use Rattle.model.proofs.Steps as steps
 use Rattle.model.proofs.Calls.{not-worn}
 use Rattle.answer.specs.Carried.{Ready}
-use Rattle.flushes.specs.Flushes.{StepCarried, Cleanable, BlockCleaned}
+use Rattle.clean.specs.Clean.{Cleanable, BlockCleaned}
+use Rattle.flushes.specs.Flushes.{StepCarried}
 
 module _ {sz : Sizes} {d : Directory} {u : Buffers} (q : Ready sz d u) where
   -- nothing is cached

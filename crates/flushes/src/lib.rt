@@ -5,13 +5,11 @@ use answer::Refusal;
 use answer::Step;
 use cache::Directory;
 use cache::Sizes;
-use moves::join;
-use moves::numbers;
 use policy::decision::Due;
 ghost use Rattle.answer.specs.Numbers.{stepOf, flushOf};
 ghost use Rattle.answer.specs.Carried.{buffers, Ready};
 ghost use Rattle.cache.specs.View.{sizesOf, directoryOf};
-ghost use Rattle.flushes.specs.Flushes.{StepCarried, FlushCarried, Flushable, Cleanable, BlockCleaned};
+ghost use Rattle.flushes.specs.Flushes.{StepCarried, FlushCarried, Flushable};
 
 // The directory after a flush step, and the step's answer.
 pub struct Stepped {
@@ -23,12 +21,6 @@ pub struct Stepped {
 pub struct Flushed {
     pub directory: Directory,
     pub answer: Flush,
-}
-
-// The directory once a block is cleaned, and the merge reads of its rewrite.
-struct Cleaned {
-    directory: Directory,
-    merged: u32,
 }
 
 // One flush step: the block that is due is cleaned, unless it is worn.
@@ -56,7 +48,7 @@ pub fn step(
             answer: Step::Refused(Refusal::Worn(b)),
         };
     }
-    let cleaned = clean_block(z, d, flash, wear, pspace, bspace, b, f);
+    let cleaned = clean::clean_block(z, d, flash, wear, pspace, bspace, b, f);
     let directory = cleaned.directory;
     Stepped {
         directory,
@@ -111,29 +103,9 @@ fn clean_all(
                 answer: Flush::Done { rewrites, merged },
             };
         };
-        let cleaned = clean_block(z, d, flash, wear, pspace, bspace, b, f);
+        let cleaned = clean::clean_block(z, d, flash, wear, pspace, bspace, b, f);
         d = cleaned.directory;
         rewrites += 1;
         merged += cleaned.merged;
     }
-}
-
-// Block b's pages in slots join frame f, and the frame is rewritten and vacated.
-fn clean_block(
-    z: Sizes,
-    d: Directory,
-    flash: &mut [u8],
-    wear: &mut [u32],
-    pspace: &[u8],
-    bspace: &mut [u8],
-    b: BlockNo,
-    f: usize,
-) -> Cleaned
-    requires { ⌜ Cleanable (sizesOf z) (directoryOf d) (buffers (now flash) (now wear) (now pspace) (now bspace)) (b .0) f ⌝ }
-    ensures { λ r. ⌜ BlockCleaned (sizesOf z) (directoryOf d) (buffers (now (flash .entry)) (now (wear .entry)) (now (pspace .entry)) (now (bspace .entry))) (b .0) f (directoryOf (r .directory)) (r .merged) (buffers (now (flash .exit)) (now (wear .exit)) (now (pspace .entry)) (now (bspace .exit))) ⌝ }
-{
-    let joined = join::join(z, d, pspace, bspace, b, f);
-    let merged = chip::rewrite(z, joined, flash, wear, bspace, b, f);
-    let directory = numbers::vacated(joined, f);
-    Cleaned { directory, merged }
 }

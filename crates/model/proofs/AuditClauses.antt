@@ -11,9 +11,9 @@ use Rattle.model.specs.Directory.{inFrame, vacantDirectory, blankCache}
 use Rattle.model.specs.Soundness.{shapeOk, slotOk, frameOk, slotsDiffer, framesDiffer, cachedOnce, listedOnce, slotPast, framePast, sound}
 use Rattle.model.specs.Policy.{inBlock, slotOf, inSlots, frameWith, frameOf, validCount, slotCount, readWay, leastRecent, victim, fewestValid, evictable, evictionPlan, plan, occupied, lowestInSlots, dueOf, cached, isWorn, lowestWorn}
 use Rattle.model.specs.Moves.{flashPage, programmed, worn, wornBy, recencyAfter, touched, putSlot, entered, putSlotPage, putFramePage, joined, filled, joinedPages, unmet, spare, taken, givenSlot, exchanged, exchangedPages, vacated, merged, rewrittenPages, readDirectory, written, stepped, readPage, writtenPages, steppedPages}
-use Rattle.model.specs.Calls.{readDone, writeDone, flushDone, refused, Answer, Call, read, write, flush, checked, readOutcome, writeOutcome, stepOutcome, steps, flushOutcome, decide, stepsPages, callPages, Page, Buffers, lentOk, openStore, Store, zeroPage, memoryOf, buffersOf, carriedOut, call}
+use Rattle.model.specs.Calls.{readDone, writeDone, flushDone, refused, Answer, Call, read, write, flush, checked, readOutcome, writeOutcome, stepOutcome, steps, flushOutcome, decide, stepsPages, callPages, Page, Buffers, lentOk, openStore, Store, zeroPage, flashPages, memoryOf, buffersOf, carriedOut, call}
 use Rattle.model.specs.Calls.{told}
-use Rattle.model.specs.Lists.{Reference, opened, fed, arrayAfter, logAfter, beforeAfter, timesCached}
+use Rattle.model.specs.Lists.{Reference, opened, fed, arrayAfter, logAfter, beforeAfter, blockPages, timesCached}
 
 abbrev pub sizesA : Sizes
 sizesA = record { S = 1; K = 2; N = 3; P = 2; B = 1; W = 9 }
@@ -91,10 +91,20 @@ once : tab 6 (timesCached sizesA (wrote .store .cache .directory)) ≡ 0 ∷ 0 �
 unfolding start wrote ran both writesA restA timesCached opened fed arrayAfter logAfter beforeAfter openStore call carriedOut memoryOf buffersOf zeroPage lentOk callPages stepsPages decide flushOutcome steps stepOutcome writeOutcome readOutcome checked steppedPages writtenPages readPage stepped written readDirectory rewrittenPages merged vacated exchangedPages exchanged givenSlot taken spare unmet joinedPages filled joined putFramePage putSlotPage entered putSlot touched recencyAfter wornBy worn programmed flashPage lowestWorn isWorn cached dueOf lowestInSlots occupied plan evictionPlan evictable fewestValid victim leastRecent readWay slotCount validCount frameOf frameWith inSlots slotOf inBlock inFrame sound framePast slotPast listedOnce cachedOnce framesDiffer slotsDiffer frameOk slotOk shapeOk sizesOk vacantDirectory blankCache every first firstFrom count all allPairs tab tabFrom bit mask nth argmax least pageAt pagesOf flat
 once = refl
 
--- what is accepted for a block's pages before the call of its last rewrite: the fourth write made block 0's
-before : wrote .reference .before ≡ (record { page = 4; bytes = 30 ∷ [] } ∷ record { page = 2; bytes = 20 ∷ [] } ∷ record { page = 0; bytes = 10 ∷ [] } ∷ []) ∷ [] ∷ [] ∷ []
+-- array and log before the call of a block's last rewrite: the fourth write made block 0's
+arrays-before : wrote .reference .arrayBefore
+    ≡ ((10 ∷ []) ∷ (255 ∷ []) ∷ (20 ∷ []) ∷ (255 ∷ []) ∷ (30 ∷ []) ∷ (255 ∷ []) ∷ []) ∷ replicate 6 (255 ∷ []) ∷ replicate 6 (255 ∷ []) ∷ []
 unfolding start wrote ran both writesA restA opened fed arrayAfter logAfter beforeAfter openStore call carriedOut memoryOf buffersOf zeroPage lentOk callPages stepsPages decide flushOutcome steps stepOutcome writeOutcome readOutcome checked steppedPages writtenPages readPage stepped written readDirectory rewrittenPages merged vacated exchangedPages exchanged givenSlot taken spare unmet joinedPages filled joined putFramePage putSlotPage entered putSlot touched recencyAfter wornBy worn programmed flashPage lowestWorn isWorn cached dueOf lowestInSlots occupied plan evictionPlan evictable fewestValid victim leastRecent readWay slotCount validCount frameOf frameWith inSlots slotOf inBlock inFrame sound framePast slotPast listedOnce cachedOnce framesDiffer slotsDiffer frameOk slotOk shapeOk sizesOk vacantDirectory blankCache every first firstFrom count all allPairs tab tabFrom bit mask nth argmax least pageAt pagesOf flat
-before = refl
+arrays-before = refl
+
+logs-before : wrote .reference .logBefore ≡ (record { page = 4; bytes = 30 ∷ [] } ∷ record { page = 2; bytes = 20 ∷ [] } ∷ record { page = 0; bytes = 10 ∷ [] } ∷ []) ∷ [] ∷ [] ∷ []
+unfolding start wrote ran both writesA restA opened fed arrayAfter logAfter beforeAfter openStore call carriedOut memoryOf buffersOf zeroPage lentOk callPages stepsPages decide flushOutcome steps stepOutcome writeOutcome readOutcome checked steppedPages writtenPages readPage stepped written readDirectory rewrittenPages merged vacated exchangedPages exchanged givenSlot taken spare unmet joinedPages filled joined putFramePage putSlotPage entered putSlot touched recencyAfter wornBy worn programmed flashPage lowestWorn isWorn cached dueOf lowestInSlots occupied plan evictionPlan evictable fewestValid victim leastRecent readWay slotCount validCount frameOf frameWith inSlots slotOf inBlock inFrame sound framePast slotPast listedOnce cachedOnce framesDiffer slotsDiffer frameOk slotOk shapeOk sizesOk vacantDirectory blankCache every first firstFrom count all allPairs tab tabFrom bit mask nth argmax least pageAt pagesOf flat
+logs-before = refl
+
+-- every flash block is, as a whole, the array before the call of its last rewrite, or at opening
+blocks-whole : tab 3 (blockPages sizesA (flashPages sizesA (wrote .store .lent .flash))) ≡ ((10 ∷ []) ∷ (255 ∷ []) ∷ []) ∷ replicate 2 (255 ∷ []) ∷ replicate 2 (255 ∷ []) ∷ []
+unfolding blockPages start wrote ran both writesA restA opened fed arrayAfter logAfter beforeAfter openStore call carriedOut memoryOf buffersOf zeroPage lentOk callPages stepsPages decide flushOutcome steps stepOutcome writeOutcome readOutcome checked steppedPages writtenPages readPage stepped written readDirectory rewrittenPages merged vacated exchangedPages exchanged givenSlot taken spare unmet joinedPages filled joined putFramePage putSlotPage entered putSlot touched recencyAfter wornBy worn programmed flashPage lowestWorn isWorn cached dueOf lowestInSlots occupied plan evictionPlan evictable fewestValid victim leastRecent readWay slotCount validCount frameOf frameWith inSlots slotOf inBlock inFrame sound framePast slotPast listedOnce cachedOnce framesDiffer slotsDiffer frameOk slotOk shapeOk sizesOk vacantDirectory blankCache every first firstFrom count all allPairs tab tabFrom bit mask nth argmax least pageAt pagesOf flat
+blocks-whole = refl
 
 -- each block's wear is the book's
 wear : ran .store .lent .wear ≡ 1 ∷ 1 ∷ 1 ∷ []

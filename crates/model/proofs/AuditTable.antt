@@ -231,7 +231,7 @@ p6 = record {
   };
 }
 
--- P7: then 8 is way 3; 1 is way 7, block 1; 2 is way 4
+-- P7, with request A2: then 8 is way 3; 1 is way 7, block 1, with page 6 from its slot, which page 1 takes; 2 is way 3 (before A2: way 4)
 p7 : Row
 p7 = record {
   sizes = sizesB;
@@ -239,15 +239,15 @@ p7 = record {
   calls = write 0 (10 ∷ []) ∷ write 4 (20 ∷ []) ∷ write 8 (30 ∷ []) ∷ write 9 (40 ∷ []) ∷ write 5 (50 ∷ []) ∷ write 6 (60 ∷ []) ∷ write 8 (70 ∷ []) ∷ write 1 (80 ∷ []) ∷ write 2 (90 ∷ []) ∷ [];
   gives = record {
     opening = openDone;
-    answers = way 3 ∷ way 3 ∷ way 3 ∷ way 5 ∷ way 6 ∷ writeDone 7 2 2 ∷ way 3 ∷ writeDone 7 1 2 ∷ way 4 ∷ [];
+    answers = way 3 ∷ way 3 ∷ way 3 ∷ way 5 ∷ way 6 ∷ writeDone 7 2 2 ∷ way 3 ∷ writeDone 7 1 1 ∷ way 3 ∷ [];
     bytes = 10 ∷ 20 ∷ 30 ∷ 40 ∷ 50 ∷ 60 ∷ 70 ∷ 80 ∷ 90 ∷ [];
-    slots = 6 ∷ 8 ∷ 2 ∷ [];
+    slots = 1 ∷ 8 ∷ 2 ∷ [];
     frames = 0 ∷ [];
-    valid = 3 ∷ [];
+    valid = 1 ∷ [];
     recency = 0 ∷ [];
-    flash = 255 ∷ 255 ∷ 255 ∷ 255 ∷ 20 ∷ 50 ∷ 255 ∷ 255 ∷ 30 ∷ 40 ∷ 255 ∷ 255 ∷ [];
-    pspace = 60 ∷ 70 ∷ 90 ∷ [];
-    bspace = 10 ∷ 80 ∷ 255 ∷ 255 ∷ [];
+    flash = 255 ∷ 255 ∷ 255 ∷ 255 ∷ 20 ∷ 50 ∷ 60 ∷ 255 ∷ 30 ∷ 40 ∷ 255 ∷ 255 ∷ [];
+    pspace = 80 ∷ 70 ∷ 90 ∷ [];
+    bspace = 10 ∷ 50 ∷ 60 ∷ 255 ∷ [];
     wear = 0 ∷ 1 ∷ 1 ∷ [];
   };
 }
@@ -846,24 +846,48 @@ worn-of-three = record {
   };
 }
 
--- a history of the outside vectors, without its reads from flash: pages of two bytes, ways 1, 2, 3, 5, 7 and 6 over three frames
+-- a history of the outside vectors, without its reads from flash and with two writes more: pages of two bytes, ways 1, 2, 3, 5, 7 (with
+-- two pages from slots) and 6 over three frames
 of-vectors : Row
 of-vectors = record {
   sizes = record { S = 2; K = 6; N = 5; P = 6; B = 3; W = 3 };
   wear = 0 ∷ 0 ∷ 0 ∷ 0 ∷ 0 ∷ [];
-  calls = write 6 (page 244) ∷ write 23 (page 202) ∷ write 23 (page 43) ∷ write 18 (page 238) ∷ write 19 (page 242) ∷ write 11 (page 79) ∷ write 4 (page 10) ∷ write 23 (page 52) ∷ write 29 (page 71) ∷ write 27 (page 99) ∷ read 6 (page 0) ∷ write 6 (page 149) ∷ write 24 (page 166) ∷ write 13 (page 67) ∷ write 23 (page 181) ∷ write 28 (page 215) ∷ read 28 (page 0) ∷ write 17 (page 77) ∷ write 0 (page 225) ∷ read 19 (page 0) ∷ write 25 (page 76) ∷ write 15 (page 61) ∷ write 10 (page 247) ∷ write 8 (page 21) ∷ [];
+  calls = write 6 (page 244) ∷ write 23 (page 202) ∷ write 23 (page 43) ∷ write 18 (page 238) ∷ write 19 (page 242) ∷ write 11 (page 79) ∷ write 4 (page 10) ∷ write 23 (page 52) ∷ write 29 (page 71) ∷ write 27 (page 99) ∷ read 6 (page 0) ∷ write 6 (page 149) ∷ write 24 (page 166) ∷ write 13 (page 67) ∷ write 23 (page 181) ∷ write 28 (page 215) ∷ read 28 (page 0) ∷ write 17 (page 77) ∷ write 0 (page 225) ∷ read 19 (page 0) ∷ write 25 (page 76) ∷ write 15 (page 61) ∷ write 10 (page 247) ∷ write 8 (page 21) ∷ write 22 (page 33) ∷ write 29 (page 44) ∷ [];
   gives = record {
     opening = openDone;
-    answers = way 3 ∷ way 3 ∷ way 1 ∷ way 3 ∷ way 3 ∷ way 3 ∷ way 3 ∷ way 1 ∷ way 5 ∷ way 3 ∷ readDone 1 ∷ way 1 ∷ way 3 ∷ way 5 ∷ way 2 ∷ way 3 ∷ readDone 1 ∷ way 3 ∷ way 5 ∷ readDone 2 ∷ way 3 ∷ writeDone 7 4 3 ∷ way 3 ∷ way 6 ∷ [];
-    bytes = 244 ∷ 202 ∷ 43 ∷ 238 ∷ 242 ∷ 79 ∷ 10 ∷ 52 ∷ 71 ∷ 99 ∷ 244 ∷ 149 ∷ 166 ∷ 67 ∷ 181 ∷ 215 ∷ 215 ∷ 77 ∷ 225 ∷ 242 ∷ 76 ∷ 61 ∷ 247 ∷ 21 ∷ [];
-    slots = 6 ∷ 8 ∷ 28 ∷ 11 ∷ 25 ∷ 10 ∷ [];
+    answers = way 3 ∷ way 3 ∷ way 1 ∷ way 3 ∷ way 3 ∷ way 3 ∷ way 3 ∷ way 1 ∷ way 5 ∷ way 3 ∷ readDone 1 ∷ way 1 ∷ way 3 ∷ way 5 ∷ way 2 ∷ way 3 ∷ readDone 1 ∷ way 3 ∷ way 5 ∷ readDone 2 ∷ way 3 ∷ writeDone 7 4 1 ∷ way 3 ∷ way 3 ∷ way 3 ∷ way 6 ∷ [];
+    bytes = 244 ∷ 202 ∷ 43 ∷ 238 ∷ 242 ∷ 79 ∷ 10 ∷ 52 ∷ 71 ∷ 99 ∷ 244 ∷ 149 ∷ 166 ∷ 67 ∷ 181 ∷ 215 ∷ 215 ∷ 77 ∷ 225 ∷ 242 ∷ 76 ∷ 61 ∷ 247 ∷ 21 ∷ 33 ∷ 44 ∷ [];
+    slots = 6 ∷ 29 ∷ 10 ∷ 11 ∷ 8 ∷ 22 ∷ [];
     frames = 3 ∷ 0 ∷ 2 ∷ [];
     valid = 35 ∷ 17 ∷ 42 ∷ [];
     recency = 0 ∷ 1 ∷ 2 ∷ [];
-    flash = 255 ∷ 255 ∷ 255 ∷ 255 ∷ 255 ∷ 255 ∷ 255 ∷ 255 ∷ 255 ∷ 255 ∷ 255 ∷ 255 ∷ 255 ∷ 255 ∷ 255 ∷ 255 ∷ 255 ∷ 255 ∷ 255 ∷ 255 ∷ 255 ∷ 255 ∷ 255 ∷ 255 ∷ 255 ∷ 255 ∷ 255 ∷ 255 ∷ 255 ∷ 255 ∷ 255 ∷ 255 ∷ 255 ∷ 255 ∷ 255 ∷ 255 ∷ 255 ∷ 255 ∷ 255 ∷ 255 ∷ 255 ∷ 255 ∷ 255 ∷ 255 ∷ 255 ∷ 255 ∷ 255 ∷ 255 ∷ 166 ∷ 166 ∷ 255 ∷ 255 ∷ 255 ∷ 255 ∷ 99 ∷ 99 ∷ 255 ∷ 255 ∷ 71 ∷ 71 ∷ [];
-    pspace = 149 ∷ 149 ∷ 21 ∷ 21 ∷ 215 ∷ 215 ∷ 79 ∷ 79 ∷ 76 ∷ 76 ∷ 247 ∷ 247 ∷ [];
-    bspace = 238 ∷ 238 ∷ 242 ∷ 242 ∷ 0 ∷ 0 ∷ 0 ∷ 0 ∷ 0 ∷ 0 ∷ 181 ∷ 181 ∷ 225 ∷ 225 ∷ 255 ∷ 255 ∷ 255 ∷ 255 ∷ 99 ∷ 99 ∷ 10 ∷ 10 ∷ 71 ∷ 71 ∷ 149 ∷ 149 ∷ 67 ∷ 67 ∷ 0 ∷ 0 ∷ 61 ∷ 61 ∷ 0 ∷ 0 ∷ 77 ∷ 77 ∷ [];
+    flash = 255 ∷ 255 ∷ 255 ∷ 255 ∷ 255 ∷ 255 ∷ 255 ∷ 255 ∷ 255 ∷ 255 ∷ 255 ∷ 255 ∷ 255 ∷ 255 ∷ 255 ∷ 255 ∷ 255 ∷ 255 ∷ 255 ∷ 255 ∷ 255 ∷ 255 ∷ 255 ∷ 255 ∷ 255 ∷ 255 ∷ 255 ∷ 255 ∷ 255 ∷ 255 ∷ 255 ∷ 255 ∷ 255 ∷ 255 ∷ 255 ∷ 255 ∷ 255 ∷ 255 ∷ 255 ∷ 255 ∷ 255 ∷ 255 ∷ 255 ∷ 255 ∷ 255 ∷ 255 ∷ 255 ∷ 255 ∷ 166 ∷ 166 ∷ 76 ∷ 76 ∷ 255 ∷ 255 ∷ 99 ∷ 99 ∷ 215 ∷ 215 ∷ 71 ∷ 71 ∷ [];
+    pspace = 149 ∷ 149 ∷ 44 ∷ 44 ∷ 247 ∷ 247 ∷ 79 ∷ 79 ∷ 21 ∷ 21 ∷ 33 ∷ 33 ∷ [];
+    bspace = 238 ∷ 238 ∷ 242 ∷ 242 ∷ 0 ∷ 0 ∷ 0 ∷ 0 ∷ 0 ∷ 0 ∷ 181 ∷ 181 ∷ 225 ∷ 225 ∷ 76 ∷ 76 ∷ 255 ∷ 255 ∷ 99 ∷ 99 ∷ 10 ∷ 10 ∷ 71 ∷ 71 ∷ 149 ∷ 149 ∷ 67 ∷ 67 ∷ 0 ∷ 0 ∷ 61 ∷ 61 ∷ 0 ∷ 0 ∷ 77 ∷ 77 ∷ [];
     wear = 0 ∷ 0 ∷ 0 ∷ 0 ∷ 1 ∷ [];
+  };
+}
+
+-- ---- way 7 with stragglers (request A2); P7, `of-vectors` and `part-ways` show it too
+
+-- way 7 with two pages of the rewritten block in slots: no merge read is left, their slots are vacated, and flash has them
+stragglers : Row
+stragglers = record {
+  sizes = record { S = 1; K = 4; N = 4; P = 4; B = 2; W = 9 };
+  wear = 0 ∷ 0 ∷ 0 ∷ 0 ∷ [];
+  calls = write 6 (10 ∷ []) ∷ write 11 (20 ∷ []) ∷ write 4 (30 ∷ []) ∷ write 12 (40 ∷ []) ∷ write 9 (50 ∷ []) ∷ write 14 (60 ∷ []) ∷ write 10 (70 ∷ []) ∷ write 15 (80 ∷ []) ∷ write 8 (90 ∷ []) ∷ write 2 (100 ∷ []) ∷ read 10 (0 ∷ []) ∷ read 8 (0 ∷ []) ∷ [];
+  gives = record {
+    opening = openDone;
+    answers = way 3 ∷ way 3 ∷ way 3 ∷ way 3 ∷ way 5 ∷ way 3 ∷ way 5 ∷ way 3 ∷ way 6 ∷ writeDone 7 2 0 ∷ readDone 3 ∷ readDone 3 ∷ [];
+    bytes = 10 ∷ 20 ∷ 30 ∷ 40 ∷ 50 ∷ 60 ∷ 70 ∷ 80 ∷ 90 ∷ 100 ∷ 70 ∷ 90 ∷ [];
+    slots = 2 ∷ vacant ∷ vacant ∷ vacant ∷ [];
+    frames = 3 ∷ 1 ∷ [];
+    valid = 13 ∷ 5 ∷ [];
+    recency = 0 ∷ 1 ∷ [];
+    flash = 255 ∷ 255 ∷ 255 ∷ 255 ∷ 255 ∷ 255 ∷ 255 ∷ 255 ∷ 90 ∷ 50 ∷ 70 ∷ 20 ∷ 255 ∷ 255 ∷ 255 ∷ 255 ∷ [];
+    pspace = 100 ∷ 90 ∷ 10 ∷ 30 ∷ [];
+    bspace = 40 ∷ 0 ∷ 60 ∷ 80 ∷ 30 ∷ 50 ∷ 10 ∷ 20 ∷ [];
+    wear = 0 ∷ 0 ∷ 1 ∷ 0 ∷ [];
   };
 }
 
@@ -962,14 +986,14 @@ part-ways = record {
   calls = part 0 0 (10 ∷ 11 ∷ []) (7 ∷ 7 ∷ []) ∷ part 4 1 (20 ∷ []) (7 ∷ 7 ∷ []) ∷ part 8 0 (30 ∷ []) (7 ∷ 7 ∷ []) ∷ part 9 1 (40 ∷ []) (7 ∷ 7 ∷ []) ∷ part 5 0 (50 ∷ []) (7 ∷ 7 ∷ []) ∷ part 6 1 (60 ∷ []) (7 ∷ 7 ∷ []) ∷ part 8 1 (70 ∷ []) (7 ∷ 7 ∷ []) ∷ part 1 0 (80 ∷ []) (7 ∷ 7 ∷ []) ∷ part 2 0 (90 ∷ 91 ∷ []) (7 ∷ 7 ∷ []) ∷ part 2 1 (92 ∷ []) (7 ∷ 7 ∷ []) ∷ part 0 1 (13 ∷ []) (7 ∷ 7 ∷ []) ∷ part 9 0 (41 ∷ []) (7 ∷ 7 ∷ []) ∷ part 0 0 [] (7 ∷ 7 ∷ []) ∷ part 0 2 [] (7 ∷ 7 ∷ []) ∷ read 0 (0 ∷ 0 ∷ []) ∷ [];
   gives = record {
     opening = openDone;
-    answers = way 3 ∷ way 3 ∷ way 3 ∷ way 5 ∷ way 6 ∷ writeDone 7 2 2 ∷ way 3 ∷ writeDone 7 1 2 ∷ way 4 ∷ way 1 ∷ way 2 ∷ way 4 ∷ way 0 ∷ way 0 ∷ readDone 2 ∷ [];
+    answers = way 3 ∷ way 3 ∷ way 3 ∷ way 5 ∷ way 6 ∷ writeDone 7 2 2 ∷ way 3 ∷ writeDone 7 1 1 ∷ way 3 ∷ way 1 ∷ way 2 ∷ way 4 ∷ way 0 ∷ way 0 ∷ readDone 2 ∷ [];
     bytes = 10 ∷ 255 ∷ 30 ∷ 255 ∷ 50 ∷ 255 ∷ 30 ∷ 80 ∷ 90 ∷ 90 ∷ 10 ∷ 41 ∷ 7 ∷ 7 ∷ 10 ∷ [];
-    slots = 6 ∷ 8 ∷ 9 ∷ [];
+    slots = 9 ∷ 8 ∷ vacant ∷ [];
     frames = 0 ∷ [];
     valid = 7 ∷ [];
     recency = 0 ∷ [];
-    flash = 255 ∷ 255 ∷ 255 ∷ 255 ∷ 255 ∷ 255 ∷ 255 ∷ 255 ∷ 255 ∷ 20 ∷ 50 ∷ 255 ∷ 255 ∷ 255 ∷ 255 ∷ 255 ∷ 30 ∷ 255 ∷ 255 ∷ 40 ∷ 255 ∷ 255 ∷ 255 ∷ 255 ∷ [];
-    pspace = 255 ∷ 60 ∷ 30 ∷ 70 ∷ 41 ∷ 40 ∷ [];
+    flash = 255 ∷ 255 ∷ 255 ∷ 255 ∷ 255 ∷ 255 ∷ 255 ∷ 255 ∷ 255 ∷ 20 ∷ 50 ∷ 255 ∷ 255 ∷ 60 ∷ 255 ∷ 255 ∷ 30 ∷ 255 ∷ 255 ∷ 40 ∷ 255 ∷ 255 ∷ 255 ∷ 255 ∷ [];
+    pspace = 41 ∷ 40 ∷ 30 ∷ 70 ∷ 90 ∷ 92 ∷ [];
     bspace = 10 ∷ 13 ∷ 80 ∷ 255 ∷ 90 ∷ 92 ∷ 255 ∷ 255 ∷ [];
     wear = 0 ∷ 1 ∷ 1 ∷ [];
   };
@@ -1085,11 +1109,11 @@ table =
     p1 ∷ p2 ∷ p3 ∷ p4 ∷ p5 ∷ p6 ∷ p7 ∷ p8 ∷ p9 ∷ p10 ∷ p10-worn ∷ p11
     ∷ read-hit ∷ write-hit ∷ slot-hit ∷ join-recent ∷ tie-frames ∷ tie-blocks ∷ slot-order ∷ exchange-bytes ∷ step-order
     ∷ merge-count ∷ flush-all ∷ worn-blocks ∷ read-miss ∷ one-frame ∷ merge-first
-    ∷ first-used ∷ middle-used ∷ tie-of-three ∷ fewest-of-three ∷ steps-of-three ∷ flush-of-three ∷ vacant-of-three ∷ worn-of-three ∷ of-vectors
+    ∷ first-used ∷ middle-used ∷ tie-of-three ∷ fewest-of-three ∷ steps-of-three ∷ flush-of-three ∷ vacant-of-three ∷ worn-of-three ∷ of-vectors ∷ stragglers
     ∷ blank-record ∷ short-wear ∷ overworn ∷ page-buffer
     ∷ part-ways ∷ part-buffers ∷ part-worn ∷ part-no-use ∷ part-hit ∷ part-unsound ∷ []
 
 -- every row holds, by computing with the definitions
 rows : map gave table ≡ map gives table
-unfolding p1 p2 p3 p4 p5 p6 p7 p8 p9 p10 p10-worn p11 read-hit write-hit slot-hit join-recent tie-frames tie-blocks slot-order exchange-bytes step-order merge-count flush-all worn-blocks read-miss one-frame merge-first first-used middle-used tie-of-three fewest-of-three steps-of-three flush-of-three vacant-of-three worn-of-three of-vectors blank-record short-wear overworn page-buffer part-ways part-buffers part-worn part-no-use part-hit part-unsound table gives gave runs erased openStore call carriedOut memoryOf buffersOf zeroPage lentOk callPages stepsPages decide flushOutcome steps stepOutcome partOutcome writeOutcome readOutcome checked combined laid steppedPages writtenPages readPage stepped written readDirectory rewrittenPages merged vacated exchangedPages exchanged givenSlot taken spare unmet joinedPages filled joined putFramePage putSlotPage entered putSlot touched recencyAfter wornBy worn programmed flashPage lowestWorn isWorn cached dueOf lowestInSlots occupied plan evictionPlan evictable fewestValid victim leastRecent readWay slotCount validCount frameOf frameWith inSlots slotOf inBlock inFrame sound framePast slotPast listedOnce cachedOnce framesDiffer slotsDiffer frameOk slotOk shapeOk sizesOk vacantDirectory blankCache every first firstFrom count all allPairs tab tabFrom bit mask nth argmax least pageAt pagesOf flat
+unfolding p1 p2 p3 p4 p5 p6 p7 p8 p9 p10 p10-worn p11 read-hit write-hit slot-hit join-recent tie-frames tie-blocks slot-order exchange-bytes step-order merge-count flush-all worn-blocks read-miss one-frame merge-first first-used middle-used tie-of-three fewest-of-three steps-of-three flush-of-three vacant-of-three worn-of-three of-vectors stragglers blank-record short-wear overworn page-buffer part-ways part-buffers part-worn part-no-use part-hit part-unsound table gives gave runs erased openStore call carriedOut memoryOf buffersOf zeroPage lentOk callPages stepsPages decide flushOutcome steps stepOutcome partOutcome writeOutcome readOutcome checked combined laid steppedPages writtenPages readPage stepped written readDirectory rewrittenPages merged vacated exchangedPages exchanged givenSlot taken spare unmet joinedPages filled joined putFramePage putSlotPage entered putSlot touched recencyAfter wornBy worn programmed flashPage lowestWorn isWorn cached dueOf lowestInSlots occupied plan evictionPlan evictable fewestValid victim leastRecent readWay slotCount validCount frameOf frameWith inSlots slotOf inBlock inFrame sound framePast slotPast listedOnce cachedOnce framesDiffer slotsDiffer frameOk slotOk shapeOk sizesOk vacantDirectory blankCache every first firstFrom count all allPairs tab tabFrom bit mask nth argmax least pageAt pagesOf flat
 rows = refl

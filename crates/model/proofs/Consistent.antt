@@ -14,14 +14,15 @@ use Rattle.prelude.proofs.Tab.{length-tab}
 use Rattle.model.specs.Sizes.{Sizes, vacant}
 use Rattle.model.specs.Directory.{Directory, slotAt, frameAt, validAt, inFrame}
 use Rattle.model.specs.Soundness.{Sound}
-use Rattle.model.specs.Policy.{inBlock, slotOf, inSlots, frameWith, frameOf, validCount, slotCount, Choice, victim, Plan, frameHit, exchange, evict, evictionPlan, plan}
-use Rattle.model.specs.Moves.{Memory, programmed, touched, putSlot, entered, putSlotPage, putFramePage, joined, filled, joinedPages, exchanged, exchangedPages, vacated, rewrittenPages, written, writtenPages}
+use Rattle.model.specs.Policy.{slotOf, inSlots, frameWith, frameOf, validCount, slotCount, Choice, victim, Plan, frameHit, exchange, evict, evictionPlan, plan, due}
+use Rattle.model.specs.Moves.{Memory, programmed, touched, putSlot, entered, putSlotPage, putFramePage, joined, filled, joinedPages, exchanged, exchangedPages, vacated, rewrittenPages, stepped, written, steppedPages, writtenPages}
 use Rattle.model.specs.Lists.{Picks}
 use Rattle.model.proofs.Soundness.{pages-small}
 use Rattle.model.proofs.Lookup.{NoSlot, NoFrame, block-vacant, block-lt, found-slot, not-in-slots, frame-has, frame-is, no-frame, no-frame-with}
-use Rattle.model.proofs.Reflects.{Reflects, joined-reflects, exchanged-reflects, rewritten-reflects, vacated-frame′, vacated-bits, put-slot-reflects, put-frame-reflects}
-use Rattle.model.proofs.Kept.{exchanged-vacant, enough, touched-sound, joined-sound, exchanged-sound, vacated-sound, put-sound, joined-absent, exchanged-absent, vacated-absent}
+use Rattle.model.proofs.Reflects.{Reflects, joined-frame, joined-reflects, exchanged-reflects, rewritten-reflects, put-slot-reflects, put-frame-reflects}
+use Rattle.model.proofs.Kept.{exchanged-vacant, enough, touched-sound, joined-sound, exchanged-sound, vacated-sound, put-sound, joined-absent, exchanged-absent}
 use Rattle.model.proofs.Plan.{victim-lt, victim-pos, some-bit, joined-vacant, sole-own, occupied-all, vacant-bits, fewest-pick, evict-pick, eviction-elim, plan-elim}
+use Rattle.model.proofs.Steps.{Ready, ready-frame, stepped-frame′, stepped-bits, stepped-count, stepped-absent}
 
 put-same : (d : Directory) (i n : ℕ) → slotAt d i ≡ n → putSlot d i n ≡ d
 unfolding putSlot
@@ -52,7 +53,7 @@ module _ {A : Type 0} (filler : A) where
       array-length = g .array-length;
     }
 
-    pub joined-good : (b f : ℕ) → f < sz .B → b < sz .N → ((frameAt d f ≡ b) ⊎ (validAt d f ≡ 0)) → ((h : ℕ) → h < sz .B → (h ≡ f → ⊥) → frameAt d h ≡ b → ⊥)
+    joined-good : (b f : ℕ) → f < sz .B → b < sz .N → ((frameAt d f ≡ b) ⊎ (validAt d f ≡ 0)) → ((h : ℕ) → h < sz .B → (h ≡ f → ⊥) → frameAt d h ≡ b → ⊥)
         → ((o : ℕ) × (o < sz .K) × ((bit (validAt d f) o || inSlots sz d (b * sz .K + o)) ≡ true)) → Consistent sz (joined sz d b f) (joinedPages filler sz d m b f) v
     unfolding joinedPages filled
     joined-good b f fl bl own sole some = let u = g .numbers in record {
@@ -77,7 +78,7 @@ module _ {A : Type 0} (filler : A) where
     }
 
     -- frame f of block b is rewritten and vacated
-    pub rewritten-good : (b f : ℕ) → f < sz .B → frameAt d f ≡ b → Consistent sz (vacated d f) (rewrittenPages filler sz d m b f) v
+    rewritten-good : (b f : ℕ) → f < sz .B → frameAt d f ≡ b → Consistent sz (vacated d f) (rewrittenPages filler sz d m b f) v
     unfolding rewrittenPages programmed
     rewritten-good b f fl e = let u = g .numbers in record {
       numbers = vacated-sound sz d u f fl;
@@ -129,6 +130,16 @@ module _ {A : Type 0} (filler : A) where
       array-length = length-set v n x ∙ g .array-length;
     }
 
+    joined-ready : (b f : ℕ) → Ready sz d b f → Consistent sz (joined sz d b f) (joinedPages filler sz d m b f) v
+    joined-ready b f y = joined-good b f (y .f-lt) (y .b-lt) (y .own) (y .sole) (y .some)
+
+  -- a flush step of block b through frame f
+  pub step-good : (sz : Sizes) (d : Directory) (m : Memory A) (v : List A) → Consistent sz d m v → (b f : ℕ) → Ready sz d b f
+      → Consistent sz (stepped sz d (due b f)) (steppedPages filler sz d m (due b f)) v
+  unfolding stepped steppedPages
+  step-good sz d m v g b f y = rewritten-good sz (joined sz d b f) (joinedPages filler sz d m b f) v (joined-ready sz d m v g b f y) b f (y .f-lt)
+      (joined-frame sz (g .numbers .limits) d (g .numbers .shape) b f (y .f-lt))
+
   -- n goes into the first vacant slot, after frame f became recent
   module _ (sz : Sizes) (d : Directory) (m : Memory A) (v : List A) (g : Consistent sz d m v) (n : ℕ) (n-lt : n < sz .N * sz .K) (np : NoSlot sz d n) (nf : NoFrame sz d n) where
     entered-good : (x : A) (f : ℕ) → f < sz .B → inSlots sz d vacant ≡ true → Consistent sz (entered sz (touched sz d f) n) (putSlotPage m (slotOf sz d vacant) x) (set v n x)
@@ -146,22 +157,19 @@ module _ {A : Type 0} (filler : A) where
 
 -- ---- the write
 
-pub vacated-count : (sz : Sizes) (d : Directory) (b f : ℕ) → slotCount sz (vacated d f) b ≡ slotCount sz d b
-unfolding vacated slotCount inBlock
-vacated-count sz d b f = refl
-
 module _ {A : Type 0} (filler : A) (pick : Choice) (picks : Picks pick) (sz : Sizes) (d : Directory) (w : List ℕ) (m : Memory A) (v : List A) (g : Consistent filler sz d m v) (n : ℕ) (n-lt : n < sz .N * sz .K) (x : A) where
   abbrev Wrote : Plan → Type 0
   Wrote p = Consistent filler sz (written sz d n p) (writtenPages filler sz d m n x p) (set v n x)
 
-  evict-wrote : (b f : ℕ) → f < sz .B → b < sz .N → 0 < slotCount sz d b → ((h : ℕ) → h < sz .B → frameAt d h ≡ b → ⊥) → NoSlot sz d n → NoFrame sz d n → Wrote (evict b f)
+  evict-wrote : (b f : ℕ) → f < sz .B → frameAt d f < sz .N → b < sz .N → 0 < slotCount sz d b → ((h : ℕ) → h < sz .B → frameAt d h ≡ b → ⊥) → NoSlot sz d n → NoFrame sz d n → Wrote (evict b f)
   unfolding written writtenPages
-  evict-wrote b f fl bl pos sole np nf =
-      let u = g .numbers in
-      let g1 = rewritten-good filler sz d m v g (frameAt d f) f fl refl in
-      let ab = vacated-absent sz d u n n-lt np nf f fl in
-      joined-entered filler sz (vacated d f) (rewrittenPages filler sz d m (frameAt d f) f) v g1 n n-lt (ab .0) (ab .1) x b f fl bl (rw (vacated-count sz d b f) pos)
-      (inr (vacated-bits sz (u .limits) d (u .shape) f fl)) (λ h hl ne e. sole h hl (sym (vacated-frame′ sz (u .limits) d (u .shape) f fl h ne) ∙ e))
+  evict-wrote b f fl al bl pos sole np nf =
+      let u = g .numbers in let a : ℕ = frameAt d f in
+      let y = ready-frame sz d u f fl (block-vacant sz (u .limits) a al) in
+      let ab = stepped-absent sz d u a f y n n-lt np nf in
+      joined-entered filler sz (stepped sz d (due a f)) (steppedPages filler sz d m (due a f)) v (step-good filler sz d m v g a f y) n n-lt (ab .0) (ab .1) x b f fl bl
+      (rw (stepped-count sz d u a f y b (λ e. sole f fl (sym e))) pos)
+      (inr (stepped-bits sz d u a f y)) (λ h hl ne e. sole h hl (sym (stepped-frame′ sz d u a f y h ne) ∙ e))
 
   exchange-wrote : (b f : ℕ) → f < sz .B → b < sz .N → validCount sz d f < slotCount sz d b → frameAt d f < sz .N → ((h : ℕ) → h < sz .B → frameAt d h ≡ b → ⊥) → NoSlot sz d n → NoFrame sz d n → Wrote (exchange b f)
   unfolding written writtenPages inSlots
@@ -184,7 +192,7 @@ module _ {A : Type 0} (filler : A) (pick : Choice) (picks : Picks pick) (sz : Si
       (λ q. let e = frame-is sz d b q in joined-entered filler sz d m v g n n-lt np nf x b (frameOf sz d b) q bl pos (inl e) (sole-own sz d u b (frameOf sz d b) bl q e))
       (λ s q. joined-entered filler sz d m v g n n-lt np nf x b (frameOf sz d vacant) q bl pos (inr (vacant-bits sz d u _ q (frame-is sz d vacant q))) (λ h hl ne e. no-frame sz d b s h hl e))
       (λ s o q. let p = fewest-pick sz d u pick picks _ refl in exchange-wrote b _ (p .0) bl (rw (p .1) q) (occupied-all sz d u o _ (p .0)) (no-frame sz d b s) np nf)
-      (λ s o q. evict-wrote b _ (evict-pick sz d u pick picks w) bl pos (no-frame sz d b s) np nf)
+      (λ s o q. let fl = evict-pick sz d u pick picks w in evict-wrote b _ fl (occupied-all sz d u o _ fl) bl pos (no-frame sz d b s) np nf)
 
   pub write-good : Wrote (plan pick sz d w n)
   unfolding written writtenPages

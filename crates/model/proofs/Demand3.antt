@@ -7,25 +7,26 @@ use Prim.Native.Nat.{ℕ, zero, suc, _+_, _-_, _*_, _/_, _≤_, _<_}
 use native.Mathlib.Nat.{not-suc-le-zero}
 use native.Mathlib.Omega.{arith}
 use lib.Dec.{leb, ltb, eqb}
+use lib.Arith.{digits-lt}
 use lib.ListN.{length, getD, set, replicate, getD-replicate}
 use lib.Seq.{getD-set-same, getD-set-other}
-use borrow.Author.Tests.{leb-true, ltb-true, eqb-true, eqb-false, lt-ltb}
+use borrow.Author.Tests.{leb-true, ltb-true, eqb-true, eqb-false, lt-ltb, le-ltb}
 use Rattle.prelude.specs.Pages.{pageAt, laid, pagesOf, flat}
 use Rattle.prelude.proofs.Tests.{by-test, clash, each}
 use Rattle.prelude.proofs.Scan.{count-le}
-use Rattle.prelude.proofs.Tab.{getD-tab}
+use Rattle.prelude.proofs.Tab.{getD-tab, tab-ext}
 use Rattle.prelude.proofs.Pages.{length-laid}
 use Rattle.model.specs.Sizes.{Sizes, vacant}
-use Rattle.model.specs.Policy.{leastRecent, Choice, Plan, plan, wayOf, erasedBy, mergeReads, mergedBy, Due, clean, due, dueOf, isWorn, lowestWorn}
-use Rattle.model.specs.Moves.{Memory, wornBy, joined, written, stepped, readPage, steppedPages}
-use Rattle.model.specs.Calls.{openDone, writeDone, stepDone, stepClean, flushDone, isRefused, Call, read, write, part, step, flush, State, Outcome, turnedDown, checked, readOutcome, writeOutcome, partOutcome, stepOutcome, Tally, steps, flushOutcome, decide, stepsPages, combined, noBytes, callPages, Page, Buffers, lentOk, openStore, Store, Result, zeroPage, memoryOf, buffersOf, told, lentBuffer, filledBuffer, carriedOut, call}
-use Rattle.model.specs.Lists.{Chosen, Picks, AllPick, Put, Accepted, Reference, arrayAfter, logAfter, beforeAfter, isFlush, bookSays, fed, opened, ReadGives, After, Claim, Demand3}
+use Rattle.model.specs.Policy.{leastRecent, Choice, Plan, plan, wayOf, erasedBy, mergeReads, Due, clean, due, dueOf, isWorn, lowestWorn}
+use Rattle.model.specs.Moves.{Memory, wornBy, joined, written, mergedBy, stepped, readPage, steppedPages}
+use Rattle.model.specs.Calls.{openDone, writeDone, stepDone, stepClean, flushDone, isRefused, Call, read, write, part, step, flush, State, Outcome, turnedDown, checked, readOutcome, writeOutcome, partOutcome, stepOutcome, Tally, steps, flushOutcome, decide, stepsPages, combined, noBytes, callPages, Page, Buffers, lentOk, openStore, Store, Result, zeroPage, flashPages, memoryOf, buffersOf, told, lentBuffer, filledBuffer, carriedOut, call}
+use Rattle.model.specs.Lists.{Chosen, Picks, AllPick, Put, Accepted, Reference, arrayAfter, logAfter, beforeAfter, isFlush, bookSays, fed, opened, blockPages, ReadGives, After, Claim, Demand3}
 use Rattle.model.proofs.Soundness.{limits-of, facts-sound}
-use Rattle.model.proofs.Lookup.{block-lt}
+use Rattle.model.proofs.Lookup.{block-lt, page-div}
 use Rattle.model.proofs.Plan.{leastRecent-picks}
-use Rattle.model.proofs.Consistent.{Consistent, write-good}
+use Rattle.model.proofs.Consistent.{Consistent, write-good, step-good}
 use Rattle.model.proofs.Steps.{Ready, due-elim, wornBy-length, steps-clean}
-use Rattle.model.proofs.Flush.{read-is, read-good, step-good, empty-flash, Moved, moved-none, step-moved, write-moves, flush-all}
+use Rattle.model.proofs.Flush.{read-is, read-good, empty-flash, Moved, moved-none, step-moved, write-moves, flush-all}
 use Rattle.model.proofs.Opening.{opened-good, Accept, open-accepted, cached-once}
 use Rattle.model.proofs.EachPage.{read-each, written-each, step-each, flush-each}
 use Rattle.model.proofs.Buffers.{OfS, zero-long, Whole, memory-of-buffers, lent-buffers, buffers-of-memory, memory-whole, memory-lengths, page-of-flat}
@@ -102,7 +103,7 @@ not-flushed (part n first x page) = refl
 not-flushed step = refl
 not-flushed flush = refl
 
-before-at : (sz : Sizes) (k : List (List Put)) (l : List Put) (w w′ : List ℕ) (b : ℕ) → b < sz .N
+before-at : {A : Type 0} (sz : Sizes) (k : List (List A)) (l : List A) (w w′ : List ℕ) (b : ℕ) → b < sz .N
     → getD (beforeAfter sz k l w w′) b [] ≡ cond (ltb (getD w b 0) (getD w′ b 0)) l (getD k b [])
 unfolding beforeAfter
 before-at sz k l w w′ b bl = getD-tab (sz .N) _ [] b bl
@@ -113,48 +114,53 @@ module _ (sz : Sizes) (o : List Page) where
   abbrev blank : Page
   blank = zeroPage sz
 
+  -- each page of an array is that of the opening, or was accepted for it
+  abbrev Accords : List Page → List Put → Type 0
+  Accords a log = (n : ℕ) → n < sz .N * sz .K → (getD a n blank ≡ getD o n blank) ⊎ Accepted n (getD a n blank) log
+
   record Inv (r : Reference) (m : Memory Page) : Type 0 where
     good : Consistent blank sz (r .book .directory) m (r .array)
     whole : Whole sz m
     wear-length : length (r .book .wear) ≡ sz .N
-    flash-from : (n : ℕ) → n < sz .N * sz .K
-        → (getD (m .flash) n blank ≡ getD o n blank) ⊎ Accepted n (getD (m .flash) n blank) (getD (r .before) (n / sz .K) [])
-    array-from : (n : ℕ) → n < sz .N * sz .K → (getD (r .array) n blank ≡ getD o n blank) ⊎ Accepted n (getD (r .array) n blank) (r .log)
-    before-in : (b : ℕ) → b < sz .N → (n : ℕ) (x : Page) → Accepted n x (getD (r .before) b []) → Accepted n x (r .log)
+    flash-is : (n : ℕ) → n < sz .N * sz .K → getD (m .flash) n blank ≡ getD (getD (r .arrayBefore) (n / sz .K) []) n blank
+    array-from : Accords (r .array) (r .log)
+    before-from : (b : ℕ) → b < sz .N → Accords (getD (r .arrayBefore) b []) (getD (r .logBefore) b [])
+    before-length : (b : ℕ) → b < sz .N → length (getD (r .arrayBefore) b []) ≡ sz .N * sz .K
     flushed-is : r .flushed ≡ true → m .flash ≡ r .array
 
   module _ (r : Reference) (m : Memory Page) (i : Inv r m) where
     -- from one call to the next
     advance : (r′ : Reference) (m′ : Memory Page) → Consistent blank sz (r′ .book .directory) m′ (r′ .array) → Whole sz m′ → length (r′ .book .wear) ≡ sz .N
         → Moved blank sz (r .array) m (r .book .wear) m′ (r′ .book .wear)
-        → r′ .before ≡ beforeAfter sz (r .before) (r .log) (r .book .wear) (r′ .book .wear)
-        → ((n : ℕ) (x : Page) → Accepted n x (r .log) → Accepted n x (r′ .log))
-        → ((n : ℕ) → n < sz .N * sz .K → (getD (r′ .array) n blank ≡ getD o n blank) ⊎ Accepted n (getD (r′ .array) n blank) (r′ .log))
+        → r′ .arrayBefore ≡ beforeAfter sz (r .arrayBefore) (r .array) (r .book .wear) (r′ .book .wear)
+        → r′ .logBefore ≡ beforeAfter sz (r .logBefore) (r .log) (r .book .wear) (r′ .book .wear)
+        → Accords (r′ .array) (r′ .log)
         → (r′ .flushed ≡ true → m′ .flash ≡ r′ .array) → Inv r′ m′
-    advance r′ m′ g wh wl mv bf lg af fl = record {
+    advance r′ m′ g wh wl mv ea el af fl = record {
       good = g;
       whole = wh;
       wear-length = wl;
       array-from = af;
       flushed-is = fl;
-      flash-from = λ n l. let b : ℕ = n / sz .K in let bl = block-lt sz (g .numbers .limits) n l in elim (mv .page n l) [
-        | inl e ↦ rw (e, before-is b bl) (elim (i .flash-from n l) [
-          | inl q ↦ inl q
-          | inr q ↦ inr (by-test (ltb (getD (r .book .wear) b 0) (getD (r′ .book .wear) b 0))
-              (λ t. rw t (i .before-in b bl n _ q))
-              (λ t. rw t q))
-        ])
-        | inr e ↦ rw (e .1, before-is b bl, lt-ltb _ _ (e .0)) (i .array-from n l)
+      flash-is = λ n l. let b : ℕ = n / sz .K in let bl = block-lt sz (g .numbers .limits) n l in elim (mv .page n l) [
+        | inl e ↦ let w = e .0 in e .1 ∙ i .flash-is n l ∙ ap (λ (a : List Page). getD a n blank) (sym (arrays-are b bl ∙ ap (arrayIf b) (le-ltb (getD (r .book .wear) b 0) (getD (r′ .book .wear) b 0) (omega arith))))
+        | inr e ↦ e .1 ∙ ap (λ (a : List Page). getD a n blank) (sym (arrays-are b bl ∙ ap (arrayIf b) (lt-ltb _ _ (e .0))))
       ];
-      before-in = λ b bl n x h. let t = (rw (before-is b bl) at h) in lg n x (earlier b bl n x (ltb (getD (r .book .wear) b 0) (getD (r′ .book .wear) b 0)) t);
+      before-from = λ b bl. rw (arrays-are b bl, logs-are b bl) (by-test (grown b) (λ t. rw t (i .array-from)) (λ t. rw t (i .before-from b bl)));
+      before-length = λ b bl. rw (arrays-are b bl) (by-test (grown b) (λ t. rw t (i .good .array-length)) (λ t. rw t (i .before-length b bl)));
     }
       where
-        before-is : (b : ℕ) → b < sz .N → getD (r′ .before) b [] ≡ cond (ltb (getD (r .book .wear) b 0) (getD (r′ .book .wear) b 0)) (r .log) (getD (r .before) b [])
-        before-is b bl = ap (λ (l : List (List Put)). getD l b []) bf ∙ before-at sz (r .before) (r .log) (r .book .wear) (r′ .book .wear) b bl
+        grown : ℕ → Bool
+        grown b = ltb (getD (r .book .wear) b 0) (getD (r′ .book .wear) b 0)
 
-        earlier : (b : ℕ) → b < sz .N → (n : ℕ) (x : Page) (t : Bool) → Accepted n x (cond t (r .log) (getD (r .before) b [])) → Accepted n x (r .log)
-        earlier b bl n x true h = h
-        earlier b bl n x false h = i .before-in b bl n x h
+        arrayIf : ℕ → Bool → List Page
+        arrayIf b t = cond t (r .array) (getD (r .arrayBefore) b [])
+
+        arrays-are : (b : ℕ) → b < sz .N → getD (r′ .arrayBefore) b [] ≡ cond (grown b) (r .array) (getD (r .arrayBefore) b [])
+        arrays-are b bl = ap (λ (l : List (List Page)). getD l b []) ea ∙ before-at sz (r .arrayBefore) (r .array) (r .book .wear) (r′ .book .wear) b bl
+
+        logs-are : (b : ℕ) → b < sz .N → getD (r′ .logBefore) b [] ≡ cond (grown b) (r .log) (getD (r .logBefore) b [])
+        logs-are b bl = ap (λ (l : List (List Put)). getD l b []) el ∙ before-at sz (r .logBefore) (r .log) (r .book .wear) (r′ .book .wear) b bl
 
     module _ (pick : Choice) (picks : Picks pick) where
       -- the pages after a call, by its outcome
@@ -166,8 +172,8 @@ module _ (sz : Sizes) (o : List Page) where
 
       refused-next : (c : Call Page) (n b : ℕ) → Next c (turnedDown (r .book) n b)
       unfolding fed
-      refused-next c n b = advance (fed sz r c (turnedDown (r .book) n b)) m (rw (array-kept (r .array) c) (i .good)) (i .whole) (i .wear-length) (moved-none blank sz _ m m _ refl) refl
-          (λ k x h. rw (log-kept (r .array) (r .log) c) h) (λ k l. rw (array-kept (r .array) c, log-kept (r .array) (r .log) c) (i .array-from k l)) (λ h. clash h (not-flushed c))
+      refused-next c n b = advance (fed sz r c (turnedDown (r .book) n b)) m (rw (array-kept (r .array) c) (i .good)) (i .whole) (i .wear-length) (moved-none blank sz _ m m _ refl) refl refl
+          (λ k l. rw (array-kept (r .array) c, log-kept (r .array) (r .log) c) (i .array-from k l)) (λ h. clash h (not-flushed c))
 
       checked-next : (c : Call Page) (n long : ℕ) (u : Outcome) → (long ≡ sz .S → n < sz .N * sz .K → Next c u) → Next c (checked sz (r .book) n long u)
       unfolding checked
@@ -178,7 +184,7 @@ module _ (sz : Sizes) (o : List Page) where
       read-next : (n : ℕ) (x : Page) → Next (read n x) (decide pick sz (r .book) (read n (length x)))
       unfolding decide readOutcome fed arrayAfter logAfter callPages
       read-next n x = checked-next (read n x) n (length x) _ (λ s l. advance (fed sz r (read n x) (readOutcome sz (r .book) n)) m
-          (read-good blank sz (r .book .directory) m (r .array) (i .good) n) (i .whole) (i .wear-length) (moved-none blank sz _ m m _ refl) refl (λ k y h. h) (i .array-from) (λ h. clash h refl))
+          (read-good blank sz (r .book .directory) m (r .array) (i .good) n) (i .whole) (i .wear-length) (moved-none blank sz _ m m _ refl) refl refl (i .array-from) (λ h. clash h refl))
 
       abbrev wrote : ℕ → Plan → Outcome
       wrote n p = record {
@@ -194,7 +200,7 @@ module _ (sz : Sizes) (o : List Page) where
           (written-each blank (OfS sz) (zero-long sz) sz d m n x p (i .whole) xl)
           (wornBy-length w _ ∙ i .wear-length)
           (write-moves blank sz d m (r .array) (i .good) w (i .wear-length) pick picks n x)
-          refl (λ a y h. inr h)
+          refl refl
           (λ a al. by-test (eqb a n)
           (λ e. let e2 = eqb-true a n e in inr (inl (sym e2, sym (ap (λ (j : ℕ). getD (set (r .array) n x) j blank) e2 ∙ getD-set-same (r .array) n x blank (let h = i .good .array-length in omega arith)))))
           (λ e. rw (getD-set-other (r .array) n a x blank (eqb-false a n e)) (elim (i .array-from a al) [ inl q ↦ inl q | inr q ↦ inr (inr q) ])))
@@ -227,8 +233,8 @@ module _ (sz : Sizes) (o : List Page) where
       nothing-ok : (n first : ℕ) (x page : Page) → noBytes x ≡ true → Next (part n first x page) (record { answer = writeDone 0 vacant 0; state = r .book })
       unfolding fed arrayAfter logAfter callPages
       nothing-ok n first x page e =
-          let r′ : Reference = record { book = r .book; array = r .array; log = r .log; before = beforeAfter sz (r .before) (r .log) (r .book .wear) (r .book .wear); flushed = false } in
-          rw (e, callPages) (advance r′ m (i .good) (i .whole) (i .wear-length) (moved-none blank sz _ m m _ refl) refl (λ a y q. q) (i .array-from) (λ q. clash q refl))
+          let r′ : Reference = record { book = r .book; array = r .array; log = r .log; arrayBefore = beforeAfter sz (r .arrayBefore) (r .array) (r .book .wear) (r .book .wear); logBefore = beforeAfter sz (r .logBefore) (r .log) (r .book .wear) (r .book .wear); flushed = false } in
+          rw (e, callPages) (advance r′ m (i .good) (i .whole) (i .wear-length) (moved-none blank sz _ m m _ refl) refl refl (i .array-from) (λ q. clash q refl))
 
       part-next : (n first : ℕ) (x page : Page) → Next (part n first x page) (decide pick sz (r .book) (part n first (length x) (length page)))
       unfolding decide partOutcome writeOutcome
@@ -253,11 +259,11 @@ module _ (sz : Sizes) (o : List Page) where
           (step-each blank (OfS sz) (zero-long sz) sz d m (due b f) (i .whole))
           (wornBy-length w b ∙ i .wear-length)
           (step-moved blank sz d m (r .array) (i .good) w (i .wear-length) b f y)
-          refl (λ a x h. h) (i .array-from) (λ h. clash h refl))
+          refl refl (i .array-from) (λ h. clash h refl))
 
       clean-ok : dueOf pick sz (r .book .directory) ≡ clean → Next step (record { answer = stepClean; state = r .book })
       unfolding fed arrayAfter logAfter callPages steppedPages
-      clean-ok e = rw e (advance (fed sz r step (record { answer = stepClean; state = r .book })) m (i .good) (i .whole) (i .wear-length) (moved-none blank sz _ m m _ refl) refl (λ a x h. h) (i .array-from) (λ h. clash h refl))
+      clean-ok e = rw e (advance (fed sz r step (record { answer = stepClean; state = r .book })) m (i .good) (i .whole) (i .wear-length) (moved-none blank sz _ m m _ refl) refl refl (i .array-from) (λ h. clash h refl))
 
       step-next : Next step (decide pick sz (r .book) step)
       unfolding decide stepOutcome stepDue
@@ -279,7 +285,7 @@ module _ (sz : Sizes) (o : List Page) where
       flush-ok = let m′ = stepsPages pick sz blank (sz .N) (r .book .directory) m in
           let h = flush-all blank pick picks sz (r .array) (sz .N) start m (i .good) (i .wear-length) in
           let c = steps-clean pick picks sz (sz .N) start (i .good .numbers) (i .wear-length) (count-le (sz .N) _) in
-          advance (fed sz r flush flushOk) m′ (h .good) (flush-each blank (OfS sz) (zero-long sz) sz pick (sz .N) (r .book .directory) m (i .whole)) (c .wear-length) (h .moved) refl (λ a x q. q) (i .array-from)
+          advance (fed sz r flush flushOk) m′ (h .good) (flush-each blank (OfS sz) (zero-long sz) sz pick (sz .N) (r .book .directory) m (i .whole)) (c .wear-length) (h .moved) refl refl (i .array-from)
           (λ q. empty-flash blank sz (steps pick sz (sz .N) start .state .directory) m′ (r .array) (h .good) (c .void))
 
       flush-next : Next flush (decide pick sz (r .book) flush)
@@ -352,13 +358,30 @@ module _ (sz : Sizes) (o : List Page) where
       reads step = tt
       reads flush = tt
 
-  -- at the end of the list
+  -- ---- at the end of the list
+
+  module _ (r : Reference) (m : Memory Page) (i : Inv r m) where
+    pages-at : (n : ℕ) → n < sz .N * sz .K → pageAt (sz .S) (flat (m .flash)) n ≡ getD (m .flash) n blank
+    pages-at n l = page-of-flat sz (m .flash) (i .whole .flash) n (let q = i .good .flash-length in omega arith)
+
+    blocks-are : (b : ℕ) → b < sz .N → blockPages sz (flashPages sz (flat (m .flash))) b ≡ blockPages sz (getD (r .arrayBefore) b []) b
+    unfolding blockPages pagesOf
+    blocks-are b bl = tab-ext [] (sz .K) _ _ (λ k kl. let limits = i .good .numbers .limits in let n : ℕ = b * sz .K + k in let l : n < sz .N * sz .K = digits-lt bl kl in
+        getD-tab (sz .N * sz .K) (pageAt (sz .S) (flat (m .flash))) [] n l ∙ pages-at n l ∙ i .flash-is n l
+        ∙ ap (λ (c : ℕ). getD (getD (r .arrayBefore) c []) n blank) (page-div sz limits b k kl)
+        ∙ getD-any (getD (r .arrayBefore) b []) n blank [] (rw (i .before-length b bl) l))
+
+    -- the weaker clause follows from the whole blocks
+    flash-from : (n : ℕ) → n < sz .N * sz .K → (getD (m .flash) n blank ≡ getD o n blank) ⊎ Accepted n (getD (m .flash) n blank) (getD (r .logBefore) (n / sz .K) [])
+    flash-from n l = rw (i .flash-is n l) (i .before-from (n / sz .K) (block-lt sz (i .good .numbers .limits) n l) n l)
+
   after : (u : Buffers) → ((n : ℕ) → n < sz .N * sz .K → pageAt (sz .S) (u .flash) n ≡ getD o n blank) → (r : Reference) (m : Memory Page) → Inv r m
       → After sz u (record { cache = record { sizes = sz; directory = r .book .directory }; lent = buffersOf m (r .book .wear) }) r
   unfolding buffersOf
   after u h r m i = record {
     cached-once = λ n l. cached-once sz (r .book .directory) (i .good .numbers) n l;
-    flash-from = λ n l. rw (page-of-flat sz (m .flash) (i .whole .flash) n (let q = i .good .flash-length in omega arith), h n l) (i .flash-from n l);
+    block-whole = blocks-are r m i;
+    flash-from = λ n l. rw (pages-at r m i n l, h n l) (flash-from r m i n l);
     wear-is = refl;
     flushed-is = λ q. ap flat (i .flushed-is q);
   }
@@ -375,8 +398,8 @@ module _ (sz : Sizes) (o : List Page) where
 
 -- ---- from an accepted opening
 
-none-before : (sz : Sizes) (b : ℕ) → b < sz .N → _≡_ {A = List Put} (getD (replicate (sz .N) []) b []) []
-none-before sz b l = getD-replicate (sz .N) b [] [] l
+at-opening : (sz : Sizes) (a : List Page) (b : ℕ) → b < sz .N → getD (replicate (sz .N) a) b [] ≡ a
+at-opening sz a b l = getD-replicate (sz .N) b a [] l
 
 module _ (sz : Sizes) (u : Buffers) (a : Accept sz u) where
   lengths : (length (u .flash) ≡ sz .N * sz .K * sz .S) × (length (u .wear) ≡ sz .N) × (length (u .pspace) ≡ sz .P * sz .S) × (length (u .bspace) ≡ sz .B * sz .K * sz .S)
@@ -392,9 +415,10 @@ module _ (sz : Sizes) (u : Buffers) (a : Accept sz u) where
     good = opened-good sz (limits-of sz (a .sizes-ok)) (zeroPage sz) (memoryOf sz u) (ls .0) (ls .1) (ls .2);
     whole = memory-whole sz u (l .0) (l .2) (l .3);
     wear-length = l .1;
-    flash-from = λ n q. inl refl;
+    flash-is = λ n q. let bl = block-lt sz (limits-of sz (a .sizes-ok)) n q in rw (at-opening sz pages (n / sz .K) bl);
     array-from = λ n q. inl refl;
-    before-in = λ b bl n x h. (rw (none-before sz b bl) at h);
+    before-from = λ b bl n q. rw (at-opening sz pages b bl) (inl refl);
+    before-length = λ b bl. rw (at-opening sz pages b bl) (ls .0);
     flushed-is = λ h. clash h refl;
   }
 

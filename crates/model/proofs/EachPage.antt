@@ -17,7 +17,7 @@ use Rattle.prelude.proofs.Tab.{length-tab, getD-tab}
 use Rattle.model.specs.Sizes.{Sizes}
 use Rattle.model.specs.Directory.{Directory, frameAt, validAt}
 use Rattle.model.specs.Policy.{inBlock, slotOf, inSlots, frameWith, Choice, Plan, slotHit, frameHit, freeSlot, join, fill, exchange, evict, Due, clean, due, dueOf}
-use Rattle.model.specs.Moves.{Memory, flashPage, programmed, putSlotPage, putFramePage, filled, joinedPages, taken, exchangedPages, vacated, merged, rewrittenPages, readPage, writtenPages, steppedPages}
+use Rattle.model.specs.Moves.{Memory, flashPage, programmed, putSlotPage, putFramePage, filled, joinedPages, taken, exchangedPages, merged, rewrittenPages, stepped, readPage, writtenPages, steppedPages}
 use Rattle.model.specs.Calls.{stepsPages}
 
 due-cases : {X : Type 0} (e′ : Due) → (e′ ≡ clean → X) → ((b f : ℕ) → e′ ≡ due b f → X) → X
@@ -94,6 +94,11 @@ module _ {A : Type 0} (filler : A) (Q : A → Type 0) (q : Q filler) where
         (λ e. rw (e, readPage) (h .pspace (slotOf sz d n)))
         (λ e. rw (e, readPage) (by-test (ltb (frameWith sz d n) (sz .B)) (λ e′. rw e′ (h .bspace _)) (λ e′. rw e′ (h .flash n))))
 
+    pub step-each : (d : Directory) (m : Memory A) (e′ : Due) → EachM m → EachM (steppedPages filler sz d m e′)
+    unfolding steppedPages
+    step-each d m clean h = h
+    step-each d m (due b f) h = rewritten-each _ _ b f (joined-each d m b f h)
+
     pub written-each : (d : Directory) (m : Memory A) (n : ℕ) (x : A) (p : Plan) → EachM m → Q x → EachM (writtenPages filler sz d m n x p)
     unfolding writtenPages
     written-each d m n x (slotHit i) h hx = put-each m i x h hx
@@ -102,12 +107,7 @@ module _ {A : Type 0} (filler : A) (Q : A → Type 0) (q : Q filler) where
     written-each d m n x (join v f) h hx = put-each _ _ x (joined-each d m v f h) hx
     written-each d m n x (fill v f) h hx = put-each _ _ x (joined-each d m v f h) hx
     written-each d m n x (exchange v f) h hx = put-each _ _ x (exchanged-each d m v f h) hx
-    written-each d m n x (evict v f) h hx = put-each _ _ x (joined-each (vacated d f) _ v f (rewritten-each d m (frameAt d f) f h)) hx
-
-    pub step-each : (d : Directory) (m : Memory A) (e′ : Due) → EachM m → EachM (steppedPages filler sz d m e′)
-    unfolding steppedPages
-    step-each d m clean h = h
-    step-each d m (due b f) h = rewritten-each _ _ b f (joined-each d m b f h)
+    written-each d m n x (evict v f) h hx = put-each _ _ x (joined-each (stepped sz d (due (frameAt d f) f)) _ v f (step-each d m (due (frameAt d f) f) h)) hx
 
     pub flush-each : (pick : Choice) (c : ℕ) (d : Directory) (m : Memory A) → EachM m → EachM (stepsPages pick sz filler c d m)
     unfolding stepsPages

@@ -1,29 +1,28 @@
 -- Reads, flush steps and flushes of a consistent store, and what rewrites do to flash and wear.
 use mathlib.Core.Path.{_≡_, refl, sym, ap, _∙_}
 use mathlib.Core.Logic.{_⊎_, inl, inr}
+use mathlib.Core.Bool.{false}
 use mathlib.Core.List.{List}
-use Prim.Native.Nat.{ℕ, zero, suc, _+_, _-_, _*_, _/_, _%_, _≤_, _<_}
+use Prim.Native.Nat.{ℕ, zero, suc, _+_, _-_, _*_, _/_, _%_, _<_}
 use native.Mathlib.Omega.{arith}
 use lib.Dec.{ltb, eqb}
 use lib.ListN.{length, getD}
 use lib.Seq.{ext-getD}
-use borrow.Author.Tests.{ltb-true, ltb-false, eqb-true}
-use Rattle.prelude.specs.Bits.{bit}
+use borrow.Author.Tests.{ltb-true, ltb-false, eqb-true, eqb-false}
 use Rattle.prelude.proofs.Tests.{by-test}
 use Rattle.prelude.proofs.Scan.{first-hit}
-use Rattle.model.specs.Sizes.{Sizes, InLimits}
-use Rattle.model.specs.Directory.{Directory, frameAt, validAt, inFrame}
-use Rattle.model.specs.Soundness.{Shape}
+use Rattle.prelude.proofs.Tab.{getD-tab}
+use Rattle.model.specs.Sizes.{Sizes}
+use Rattle.model.specs.Directory.{Directory, frameAt, inFrame}
 use Rattle.model.specs.Policy.{inSlots, frameWith, readWay, Choice, victim, Plan, evict, plan, erasedBy, mergeReads, due, dueOf}
-use Rattle.model.specs.Moves.{Memory, flashPage, worn, wornBy, putSlotPage, putFramePage, joined, joinedPages, exchangedPages, merged, rewrittenPages, readDirectory, stepped, readPage, writtenPages, steppedPages}
+use Rattle.model.specs.Moves.{Memory, flashPage, programmed, wornBy, putSlotPage, putFramePage, joined, joinedPages, exchangedPages, rewrittenPages, readDirectory, stepped, readPage, writtenPages, steppedPages}
 use Rattle.model.specs.Calls.{Tally, steps, stepsPages}
 use Rattle.model.specs.Lists.{Picks}
 use Rattle.model.proofs.Soundness.{pages-small}
 use Rattle.model.proofs.Lookup.{block-vacant, block-lt, offset-lt, page-split, found-slot, not-in-slots, in-block, frame-has, no-frame-with, some-pages}
-use Rattle.model.proofs.Reflects.{Reflects, joined-frame, rewritten-flash}
 use Rattle.model.proofs.Plan.{occupied-all, evict-pick, eviction-elim, plan-elim}
-use Rattle.model.proofs.Consistent.{Consistent, touched-good, joined-good, rewritten-good}
-use Rattle.model.proofs.Steps.{Ready, Empty, due-elim, worn-at, worn-le, wornBy-length, wornBy-is}
+use Rattle.model.proofs.Consistent.{Consistent, touched-good, step-good}
+use Rattle.model.proofs.Steps.{Ready, Empty, ready-frame, due-elim, stepped-gone, worn-at, worn-other, wornBy-length, wornBy-is}
 
 module _ {A : Type 0} (filler : A) (sz : Sizes) (d : Directory) (m : Memory A) (v : List A) (g : Consistent filler sz d m v) where
   -- a read gives the array's page
@@ -46,14 +45,6 @@ module _ {A : Type 0} (filler : A) (sz : Sizes) (d : Directory) (m : Memory A) (
       (λ e′. rw e′ (touched-good filler sz d m v g (frameWith sz d n) (ltb-true (frameWith sz d n) (sz .B) e′)))
       (λ e′. rw e′ g)))
 
-  module _ (b f : ℕ) (y : Ready sz d b f) where
-    joined-ready : Consistent filler sz (joined sz d b f) (joinedPages filler sz d m b f) v
-    joined-ready = joined-good filler sz d m v g b f (y .f-lt) (y .b-lt) (y .own) (y .sole) (y .some)
-
-    pub step-good : Consistent filler sz (stepped sz d (due b f)) (steppedPages filler sz d m (due b f)) v
-    unfolding stepped steppedPages
-    step-good = rewritten-good filler sz (joined sz d b f) (joinedPages filler sz d m b f) v joined-ready b f (y .f-lt) (joined-frame sz (g .numbers .limits) d (g .numbers .shape) b f (y .f-lt))
-
   -- with nothing cached, flash is the array
   pub empty-flash : Empty sz d → m .flash ≡ v
   empty-flash e = let u = g .numbers in ext-getD filler (m .flash) v (g .flash-length ∙ sym (g .array-length)) (λ n l.
@@ -66,43 +57,36 @@ module _ {A : Type 0} (filler : A) (sz : Sizes) (d : Directory) (m : Memory A) (
 -- ---- what calls do to flash and wear
 
 module _ {A : Type 0} (filler : A) (sz : Sizes) (v : List A) where
-  -- each page of flash is as it was, or is the array's and its block's wear has grown
+  -- each block's wear has stayed and its pages of flash are as they were, or its wear has grown and they are the array's
   pub record Moved (m : Memory A) (w : List ℕ) (m′ : Memory A) (w′ : List ℕ) : Type 0 where
-    pub wear-le : (b : ℕ) → getD w b 0 ≤ getD w′ b 0
     pub page : (n : ℕ) → n < sz .N * sz .K
-        → (getD (m′ .flash) n filler ≡ getD (m .flash) n filler) ⊎ ((getD w (n / sz .K) 0 < getD w′ (n / sz .K) 0) × (getD (m′ .flash) n filler ≡ getD v n filler))
+        → ((getD w′ (n / sz .K) 0 ≡ getD w (n / sz .K) 0) × (getD (m′ .flash) n filler ≡ getD (m .flash) n filler))
+        ⊎ ((getD w (n / sz .K) 0 < getD w′ (n / sz .K) 0) × (getD (m′ .flash) n filler ≡ getD v n filler))
 
   pub moved-none : (m m′ : Memory A) (w : List ℕ) → m′ .flash ≡ m .flash → Moved m w m′ w
-  moved-none m m′ w e = record { wear-le = λ b. omega arith; page = λ n l. inl (ap (λ (x : List A). getD x n filler) e) }
+  moved-none m m′ w e = record { page = λ n l. inl (refl, ap (λ (x : List A). getD x n filler) e) }
 
   pub moved-then : {m m′ m″ : Memory A} {w w′ w″ : List ℕ} → Moved m w m′ w′ → Moved m′ w′ m″ w″ → Moved m w m″ w″
   moved-then {m} {m′} {m″} {w} {w′} {w″} p q = record {
-    wear-le = λ b. let x = p .wear-le b in let y = q .wear-le b in omega arith;
-    page = λ n l. let x = p .wear-le (n / sz .K) in let y = q .wear-le (n / sz .K) in elim (q .page n l) [
-      | inl e ↦ elim (p .page n l) [ inl e′ ↦ inl (e ∙ e′) | inr e′ ↦ inr ((let e0 = e′ .0 in omega arith), e ∙ e′ .1) ]
-      | inr e ↦ inr ((let e0 = e .0 in omega arith), e .1)
+    page = λ n l. elim (q .page n l) [
+      | inl e ↦ elim (p .page n l) [ inl e′ ↦ inl (e .0 ∙ e′ .0, e .1 ∙ e′ .1) | inr e′ ↦ inr ((let x = e .0 in let y = e′ .0 in omega arith), e .1 ∙ e′ .1) ]
+      | inr e ↦ inr ((let x = e .0 in elim (p .page n l) [ inl e′ ↦ (let y = e′ .0 in omega arith) | inr e′ ↦ (let y = e′ .0 in omega arith) ]), e .1)
     ];
   }
 
-  pub rewritten-moved : (d : Directory) (m : Memory A) (f : ℕ) → InLimits sz → Shape d → Reflects filler sz d m v → f < sz .B → (w : List ℕ) → length w ≡ sz .N → frameAt d f < sz .N
-      → Moved m w (rewrittenPages filler sz d m (frameAt d f) f) (worn w (frameAt d f))
-  unfolding merged flashPage
-  rewritten-moved d m f limits shape s fl w wl bl = record {
-    wear-le = λ c. worn-le w (frameAt d f) c (omega arith);
-    page = λ n l. let h = rewritten-flash sz limits d shape f fl filler m v s n l in by-test (eqb (n / sz .K) (frameAt d f))
-        (λ e. let e′ = eqb-true (n / sz .K) (frameAt d f) e in let h2 = (rw e at h) in by-test (bit (validAt d f) (n % sz .K))
-        (λ q. inr (rw (e′, worn-at w (frameAt d f) (omega arith)) (omega arith), (rw q at h2) ∙ s .in-frame f (n % sz .K) fl (offset-lt sz limits n) q ∙ ap (λ (x : ℕ). getD v x filler) (page-split sz limits n (frameAt d f) e′)))
-        (λ q. inl ((rw q at h2) ∙ ap (λ (x : ℕ). getD (m .flash) x filler) (page-split sz limits n (frameAt d f) e′))))
-        (λ e. inl (rw e at h));
-  }
-
 module _ {A : Type 0} (filler : A) (sz : Sizes) (d : Directory) (m : Memory A) (v : List A) (g : Consistent filler sz d m v) (w : List ℕ) (wl : length w ≡ sz .N) where
+  -- a step programs the pages of one block
+  stepped-flash : (b f n : ℕ) → n < sz .N * sz .K → eqb (n / sz .K) b ≡ false → getD (steppedPages filler sz d m (due b f) .flash) n filler ≡ getD (m .flash) n filler
+  unfolding steppedPages rewrittenPages programmed joinedPages
+  stepped-flash b f n l e = getD-tab (sz .N * sz .K) _ filler n l ∙ rw e
+
   pub step-moved : (b f : ℕ) → Ready sz d b f → Moved filler sz v m w (steppedPages filler sz d m (due b f)) (wornBy w b)
-  unfolding steppedPages joinedPages
-  step-moved b f y = let u = g .numbers in let q = joined-ready filler sz d m v g b f y in
-      let e = joined-frame sz (u .limits) d (u .shape) b f (y .f-lt) in
-      let k = (rw e at (rewritten-moved filler sz v (joined sz d b f) (joinedPages filler sz d m b f) f (u .limits) (q .numbers .shape) (q .reflects) (y .f-lt) w wl (rw e (y .b-lt)))) in
-      rw (wornBy-is sz (u .limits) w b (y .b-lt)) (record { wear-le = k .wear-le; page = k .page })
+  step-moved b f y = record {
+    page = λ n l. let limits = g .numbers .limits in let bl = y .b-lt in by-test (eqb (n / sz .K) b)
+        (λ e. let e′ = eqb-true (n / sz .K) b e in let gone = stepped-gone sz d (g .numbers) b f y n l e′ in
+        inr (rw (e′, wornBy-is sz limits w b bl, worn-at w b (omega arith)) (omega arith), step-good filler sz d m v g b f y .reflects .in-flash n l (gone .0) (gone .1)))
+        (λ e. inl (rw (wornBy-is sz limits w b bl) (worn-other w b (n / sz .K) (eqb-false (n / sz .K) b e)), stepped-flash b f n l e));
+  }
 
   module _ (pick : Choice) (picks : Picks pick) (n : ℕ) (x : A) where
     abbrev Moves : Plan → Type 0
@@ -110,8 +94,7 @@ module _ {A : Type 0} (filler : A) (sz : Sizes) (d : Directory) (m : Memory A) (
 
     evict-moves : (b f : ℕ) → f < sz .B → frameAt d f < sz .N → Moves (evict b f)
     unfolding writtenPages putSlotPage joinedPages
-    evict-moves b f fl bl = let u = g .numbers in let k = rewritten-moved filler sz v d m f (u .limits) (u .shape) (g .reflects) fl w wl bl in
-        rw (wornBy-is sz (u .limits) w (frameAt d f) bl) (record { wear-le = k .wear-le; page = k .page })
+    evict-moves b f fl al = record { page = step-moved (frameAt d f) f (ready-frame sz d (g .numbers) f fl (block-vacant sz (g .numbers .limits) (frameAt d f) al)) .page }
 
     pub write-moves : Moves (plan pick sz d w n)
     unfolding writtenPages putSlotPage putFramePage joinedPages exchangedPages wornBy

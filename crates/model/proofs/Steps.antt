@@ -1,7 +1,7 @@
 -- The flush over numbers: what a step's block and frame are, that each step cleans one cached block, and that wear stays within W.
 use mathlib.Core.Path.{_≡_, refl, sym, ap, _∙_}
 use mathlib.Core.Logic.{_⊎_, inl, inr}
-use mathlib.Core.Bool.{true, not, cond, _&&_, _||_}
+use mathlib.Core.Bool.{true, false, not, cond, _&&_, _||_}
 use mathlib.Core.List.{List}
 use Prim.Native.Nat.{ℕ, zero, suc, _+_, _-_, _*_, _/_, _≤_, _<_}
 use native.Mathlib.Omega.{arith}
@@ -21,9 +21,10 @@ use Rattle.model.specs.Policy.{inBlock, inSlots, frameOf, slotCount, Cho
 use Rattle.model.specs.Moves.{worn, wornBy, joined, vacated, stepped}
 use Rattle.model.specs.Calls.{Tally, steps}
 use Rattle.model.specs.Lists.{Picks}
-use Rattle.model.proofs.Lookup.{page-div, page-vacant, block-vacant, found-slot, block-of, in-block, own-block, frame-is, page-of, some-pages}
-use Rattle.model.proofs.Reflects.{joined-slot, joined-frame′, vacated-frame, vacated-frame′}
-use Rattle.model.proofs.Kept.{joined-sound, vacated-sound}
+use Rattle.model.proofs.Soundness.{pages-small}
+use Rattle.model.proofs.Lookup.{NoSlot, NoFrame, frame-has, page-div, page-vacant, block-vacant, found-slot, block-of, in-block, own-block, frame-is, page-of, some-pages}
+use Rattle.model.proofs.Reflects.{joined-slot, joined-frame′, vacated-frame, vacated-frame′, vacated-bits}
+use Rattle.model.proofs.Kept.{joined-sound, vacated-sound, joined-absent, vacated-absent}
 use Rattle.model.proofs.Plan.{some-bit, sole-own}
 
 -- what holds of a step's block and frame
@@ -41,7 +42,7 @@ pub record Empty (sz : Sizes) (d : Directory) : Type 0 where
 
 module _ (sz : Sizes) (d : Directory) (s : Sound sz d) where
   -- frame f is occupied
-  ready-frame : (f : ℕ) → f < sz .B → frameAt d f < vacant → Ready sz d (frameAt d f) f
+  pub ready-frame : (f : ℕ) → f < sz .B → frameAt d f < vacant → Ready sz d (frameAt d f) f
   ready-frame f l h = elim (s .entries .frame-in f l) [
     | inl e ↦ absurd (let k = e .0 in omega arith)
     | inr e ↦ record {
@@ -119,9 +120,34 @@ module _ (sz : Sizes) (d : Directory) (s : Sound sz d) (b f : ℕ) (y : Ready sz
   unfolding stepped
   after-frame = vacated-frame sz (s .limits) (joined sz d b f) (joined-ready .shape) f (y .f-lt)
 
-  after-frame′ : (h : ℕ) → (h ≡ f → ⊥) → frameAt after h ≡ frameAt d h
+  pub stepped-frame′ : (h : ℕ) → (h ≡ f → ⊥) → frameAt after h ≡ frameAt d h
   unfolding stepped
-  after-frame′ h ne = vacated-frame′ sz (s .limits) (joined sz d b f) (joined-ready .shape) f (y .f-lt) h ne ∙ joined-frame′ sz (s .limits) d (s .shape) b f (y .f-lt) h ne
+  stepped-frame′ h ne = vacated-frame′ sz (s .limits) (joined sz d b f) (joined-ready .shape) f (y .f-lt) h ne ∙ joined-frame′ sz (s .limits) d (s .shape) b f (y .f-lt) h ne
+
+  pub stepped-bits : validAt after f ≡ 0
+  unfolding stepped
+  stepped-bits = vacated-bits sz (s .limits) (joined sz d b f) (joined-ready .shape) f (y .f-lt)
+
+  -- the slots that hold pages of another block
+  slot-back : (c i : ℕ) → i < sz .P → inBlock sz after c i ≡ true → (inBlock sz d c i ≡ true) × (inBlock sz d b i ≡ false)
+  slot-back c i l h = let w = block-of sz after c i h in by-test (inBlock sz d b i)
+      (λ e. absurd (let q : slotAt after i ≡ vacant = after-slot i l ∙ rw e in let x = w .0 in omega arith))
+      (λ e. let q : slotAt after i ≡ slotAt d i = after-slot i l ∙ rw e in (in-block sz d c i (rw q at (w .0)) (rw q at (w .1)), e))
+
+  slot-on : (c i : ℕ) → i < sz .P → (c ≡ b → ⊥) → inBlock sz d c i ≡ true → inBlock sz after c i ≡ true
+  slot-on c i l ne h = let w = block-of sz d c i h in by-test (inBlock sz d b i)
+      (λ e. absurd (ne (sym (w .1) ∙ block-of sz d b i e .1)))
+      (λ e. let q : slotAt after i ≡ slotAt d i = after-slot i l ∙ rw e in in-block sz after c i (rw q (w .0)) (rw q (w .1)))
+
+  pub stepped-count : (c : ℕ) → (c ≡ b → ⊥) → slotCount sz after c ≡ slotCount sz d c
+  unfolding slotCount
+  stepped-count c ne = count-same (sz .P) (inBlock sz after c) (inBlock sz d c) (λ i l. same-test (λ h. slot-back c i l h .0) (slot-on c i l ne))
+
+  -- a page that is cached nowhere is cached nowhere after the step
+  pub stepped-absent : (n : ℕ) → n < sz .N * sz .K → NoSlot sz d n → NoFrame sz d n → (NoSlot sz after n) × (NoFrame sz after n)
+  unfolding stepped
+  stepped-absent n l np nf = let a = joined-absent sz d s n l np nf b f (y .f-lt) (y .b-lt) (y .own) in
+      vacated-absent sz (joined sz d b f) joined-ready n l (a .0) (a .1) f (y .f-lt)
 
   pub cached-now : cached sz d b ≡ true
   cached-now = let t = y .some in elim (or-cases (bit (validAt d f) (t .0)) (inSlots sz d (b * sz .K + t .0)) (t .2)) [
@@ -131,23 +157,16 @@ module _ (sz : Sizes) (d : Directory) (s : Sound sz d) (b f : ℕ) (y : Ready sz
 
   pub cached-back : (c : ℕ) → c < sz .N → cached sz after c ≡ true → (cached sz d c ≡ true) × (c ≡ b → ⊥)
   cached-back c l h = elim (cached-why sz after c h) [
-    | inl k ↦ let w = block-of sz after c (k .0) (k .2) in by-test (inBlock sz d b (k .0))
-        (λ e. absurd (let q : slotAt after (k .0) ≡ vacant = after-slot (k .0) (k .1) ∙ rw e in let x = w .0 in omega arith))
-        (λ e. let q : slotAt after (k .0) ≡ slotAt d (k .0) = after-slot (k .0) (k .1) ∙ rw e in
-        let t : inBlock sz d c (k .0) ≡ true = in-block sz d c (k .0) (rw q at (w .0)) (rw q at (w .1)) in
-        (cached-slot sz d c (k .0) (k .1) t, λ e′. clash (rw e′ at t) e))
+    | inl k ↦ let w = slot-back c (k .0) (k .1) (k .2) in (cached-slot sz d c (k .0) (k .1) (w .0), λ e′. clash (rw e′ at (w .0)) (w .1))
     | inr k ↦ by-test (eqb (k .0) f)
         (λ e. absurd (let q : c ≡ vacant = sym (k .2) ∙ rw (eqb-true _ f e) after-frame in let t = block-vacant sz (s .limits) c l in omega arith))
-        (λ e. let e2 = eqb-false _ f e in let q : frameAt d (k .0) ≡ c = sym (after-frame′ (k .0) e2) ∙ k .2 in
+        (λ e. let e2 = eqb-false _ f e in let q : frameAt d (k .0) ≡ c = sym (stepped-frame′ (k .0) e2) ∙ k .2 in
         (cached-frame sz d c (k .0) (k .1) q, λ e′. y .sole (k .0) (k .1) e2 (q ∙ e′)))
   ]
 
   cached-on : (c : ℕ) → c < sz .N → cached sz d c ≡ true → (c ≡ b → ⊥) → cached sz after c ≡ true
   cached-on c l h ne = elim (cached-why sz d c h) [
-    | inl k ↦ let w = block-of sz d c (k .0) (k .2) in by-test (inBlock sz d b (k .0))
-        (λ e. absurd (ne (sym (w .1) ∙ block-of sz d b (k .0) e .1)))
-        (λ e. let q : slotAt after (k .0) ≡ slotAt d (k .0) = after-slot (k .0) (k .1) ∙ rw e in
-        cached-slot sz after c (k .0) (k .1) (in-block sz after c (k .0) (rw q (w .0)) (rw q (w .1))))
+    | inl k ↦ cached-slot sz after c (k .0) (k .1) (slot-on c (k .0) (k .1) ne (k .2))
     | inr k ↦ by-test (eqb (k .0) f)
         (λ e. let q : frameAt d f ≡ c = (rw (eqb-true _ f e) at (k .2)) in absurd (elim (y .own) [
           | inl t ↦ ne (sym q ∙ t)
@@ -156,8 +175,18 @@ module _ (sz : Sizes) (d : Directory) (s : Sound sz d) (b f : ℕ) (y : Ready sz
             | inr p ↦ (let p1 = p .1 in omega arith)
           ]
         ]))
-        (λ e. cached-frame sz after c (k .0) (k .1) (after-frame′ (k .0) (eqb-false _ f e) ∙ k .2))
+        (λ e. cached-frame sz after c (k .0) (k .1) (stepped-frame′ (k .0) (eqb-false _ f e) ∙ k .2))
   ]
+
+  -- no page of block b is cached any more
+  pub stepped-gone : (n : ℕ) → n < sz .N * sz .K → n / sz .K ≡ b → (NoSlot sz after n) × (NoFrame sz after n)
+  stepped-gone n l e = (
+    (λ i il q. gone (cached-slot sz after b i il (in-block sz after b i (let h = pages-small sz (s .limits) in omega arith) (ap (λ (x : ℕ). x / sz .K) q ∙ e)))),
+    (λ h hl q. gone (cached-frame sz after b h hl (frame-has sz after n h q .0 ∙ e))),
+  )
+    where
+      gone : cached sz after b ≡ true → ⊥
+      gone h = cached-back b (y .b-lt) h .1 refl
 
   pub cached-less : count (sz .N) (cached sz d) ≡ suc (count (sz .N) (cached sz after))
   cached-less = count-remove (sz .N) (cached sz d) b (y .b-lt) cached-now ∙ ap suc (count-same (sz .N) (λ i. cached sz d i && not (eqb i b)) (cached sz after)
@@ -194,11 +223,6 @@ worn-at w b l = getD-set-same w b _ 0 l
 pub worn-other : (w : List ℕ) (b c : ℕ) → (c ≡ b → ⊥) → getD (worn w b) c 0 ≡ getD w c 0
 unfolding worn
 worn-other w b c ne = getD-set-other w b c _ 0 ne
-
-pub worn-le : (w : List ℕ) (b c : ℕ) → b < length w → getD w c 0 ≤ getD (worn w b) c 0
-worn-le w b c l = by-test (eqb c b)
-    (λ e. let e2 = eqb-true c b e in rw (e2, worn-at w b l) (omega arith))
-    (λ e. rw (worn-other w b c (eqb-false c b e)) (omega arith))
 
 pub wornBy-length : (w : List ℕ) (b : ℕ) → length (wornBy w b) ≡ length w
 unfolding wornBy worn

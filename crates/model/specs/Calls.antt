@@ -11,8 +11,8 @@ use Rattle.prelude.specs.Pages.{laid, pagesOf, flat}
 use Rattle.model.specs.Sizes.{Sizes, vacant, sizesOk}
 use Rattle.model.specs.Directory.{Directory, Cache, vacantDirectory, blankCache}
 use Rattle.model.specs.Soundness.{sound}
-use Rattle.model.specs.Policy.{Choice, Plan, readWay, plan, wayOf, erasedBy, mergedBy, mergeReads, Due, clean, due, dueOf, isWorn, lowestWorn}
-use Rattle.model.specs.Moves.{Memory, wornBy, readDirectory, written, joined, stepped, readPage, writtenPages, steppedPages}
+use Rattle.model.specs.Policy.{Choice, Plan, readWay, plan, wayOf, erasedBy, mergeReads, Due, clean, due, dueOf, isWorn, lowestWorn}
+use Rattle.model.specs.Moves.{Memory, wornBy, readDirectory, written, mergedBy, joined, stepped, readPage, writtenPages, steppedPages}
 
 -- ---- answers
 

@@ -12,7 +12,7 @@ use Rattle.model.specs.Sizes.{Sizes}
 use Rattle.model.specs.Directory.{Directory, slotAt, inFrame, vacantDirectory}
 use Rattle.model.specs.Soundness.{Listed}
 use Rattle.model.specs.Policy.{Choice}
-use Rattle.model.specs.Calls.{isRefused, Call, read, write, part, step, flush, State, Outcome, decide, Page, noBytes, Buffers, Store, Result, told, openStore, openDone, call}
+use Rattle.model.specs.Calls.{isRefused, Call, read, write, part, step, flush, State, Outcome, decide, Page, noBytes, Buffers, Store, Result, flashPages, told, openStore, openDone, call}
 
 -- ---- the list
 
@@ -49,8 +49,9 @@ pub record Reference : Type 0 where
   pub array : List Page
   -- what was accepted in the list so far, latest first
   pub log : List Put
-  -- for each block, the log as it stood before the call of its last rewrite
-  pub before : List (List Put)
+  -- for each block, array and log as they stood before the call of its last rewrite, or at opening
+  pub arrayBefore : List (List Page)
+  pub logBefore : List (List Put)
   -- the last call was an accepted flush
   pub flushed : Bool
 
@@ -75,9 +76,9 @@ logAfter a l (part n first x page) false = cond (noBytes x) l (record { page = n
 logAfter a l step down = l
 logAfter a l flush down = l
 
--- a block was rewritten in a call where its wear in the book, w before the call and w′ after it, grew
-unfoldable pub beforeAfter : Sizes → List (List Put) → List Put → List ℕ → List ℕ → List (List Put)
-beforeAfter sz before log w w′ = tab (sz .N) (λ b. cond (ltb (getD w b 0) (getD w′ b 0)) log (getD before b []))
+-- a block was rewritten in a call where its wear in the book, w before the call and w′ after it, grew; l is what the call finds
+unfoldable pub beforeAfter : {A : Type 0} → Sizes → List (List A) → List A → List ℕ → List ℕ → List (List A)
+beforeAfter sz before l w w′ = tab (sz .N) (λ b. cond (ltb (getD w b 0) (getD w′ b 0)) l (getD before b []))
 
 abbrev pub isFlush : Call Page → Bool
 isFlush (read n x) = false
@@ -95,7 +96,8 @@ fed sz r c o = record {
   book = o .state;
   array = arrayAfter (r .array) c (isRefused (o .answer));
   log = logAfter (r .array) (r .log) c (isRefused (o .answer));
-  before = beforeAfter sz (r .before) (r .log) (r .book .wear) (o .state .wear);
+  arrayBefore = beforeAfter sz (r .arrayBefore) (r .array) (r .book .wear) (o .state .wear);
+  logBefore = beforeAfter sz (r .logBefore) (r .log) (r .book .wear) (o .state .wear);
   flushed = isFlush c && not (isRefused (o .answer));
 }
 
@@ -105,7 +107,8 @@ opened sz u = record {
   book = record { directory = vacantDirectory; wear = u .wear };
   array = pagesOf (sz .S) (sz .N * sz .K) (u .flash);
   log = [];
-  before = replicate (sz .N) [];
+  arrayBefore = replicate (sz .N) (pagesOf (sz .S) (sz .N * sz .K) (u .flash));
+  logBefore = replicate (sz .N) [];
   flushed = false;
 }
 
@@ -114,6 +117,10 @@ opened sz u = record {
 -- how often page n is cached: once for each slot that holds it, once for each frame that has it valid
 unfoldable pub timesCached : Sizes → Directory → ℕ → ℕ
 timesCached sz d n = count (sz .P) (λ i. eqb (slotAt d i) n) + count (sz .B) (inFrame sz d n)
+
+-- the K pages of block b in a list of pages
+unfoldable pub blockPages : Sizes → List Page → ℕ → List Page
+blockPages sz l b = tab (sz .K) (λ o. getD l (b * sz .K + o) [])
 
 -- an accepted read leaves the array's page n in the page buffer, an accepted part write with bytes that page with them laid in
 abbrev pub ReadGives : List Page → Call Page → Result → Type 0
@@ -128,10 +135,12 @@ module _ (sz : Sizes) (u : Buffers) where
   pub record After (s : Store) (r : Reference) : Type 0 where
     -- no page is cached twice
     pub cached-once : (n : ℕ) → n < sz .N * sz .K → timesCached sz (s .cache .directory) n ≤ 1
-    -- each flash page holds its opening contents or something accepted for it before the call of its block's last rewrite
+    -- every flash block is, as a whole, the page array at opening or just before the call of its last rewrite
+    pub block-whole : (b : ℕ) → b < sz .N → blockPages sz (flashPages sz (s .lent .flash)) b ≡ blockPages sz (getD (r .arrayBefore) b []) b
+    -- hence each flash page holds its opening contents or something accepted for it before the call of its block's last rewrite
     pub flash-from : (n : ℕ) → n < sz .N * sz .K
         → (pageAt (sz .S) (s .lent .flash) n ≡ pageAt (sz .S) (u .flash) n)
-        ⊎ Accepted n (pageAt (sz .S) (s .lent .flash) n) (getD (r .before) (n / sz .K) [])
+        ⊎ Accepted n (pageAt (sz .S) (s .lent .flash) n) (getD (r .logBefore) (n / sz .K) [])
     -- each block's wear is the book's: its wear at opening plus the rewrites that the book prescribes
     pub wear-is : s .lent .wear ≡ r .book .wear
     -- if the last call was an accepted flush, the flash is the page array

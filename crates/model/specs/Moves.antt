@@ -8,7 +8,7 @@ use Rattle.prelude.specs.Scan.{first, count, nth, tab}
 use Rattle.prelude.specs.Bits.{bit, mask}
 use Rattle.model.specs.Sizes.{Sizes, vacant}
 use Rattle.model.specs.Directory.{Directory, slotAt, frameAt, validAt, recencyAt}
-use Rattle.model.specs.Policy.{inBlock, slotOf, inSlots, frameWith, readWay, Plan, slotHit, frameHit, freeSlot, join, fill, exchange, evict, Due, clean, due}
+use Rattle.model.specs.Policy.{inBlock, slotOf, inSlots, frameWith, readWay, Plan, slotHit, frameHit, freeSlot, join, fill, exchange, evict, mergeReads, Due, clean, due}
 
 -- flash of N×K pages, p-space of P, b-space of B×K
 pub record Memory (A : Type 0) : Type 0 where
@@ -60,7 +60,7 @@ module _ {A : Type 0} where
   unfoldable pub putFramePage : Memory A → ℕ → A → Memory A
   putFramePage m k x = record { flash = m .flash; pspace = m .pspace; bspace = set (m .bspace) k x }
 
--- ---- the pages of block b in slots join frame f, which is b's or vacant (ways 4, 5, 7, and a flush step)
+-- ---- the pages of block b in slots join frame f, which is b's or vacant (ways 4, 5, twice in way 7, and a flush step)
 
 unfoldable pub joined : Sizes → Directory → ℕ → ℕ → Directory
 joined sz d b f = record {
@@ -136,12 +136,18 @@ module _ {A : Type 0} (filler : A) where
     bspace = tab (sz .B * sz .K) (λ k. cond (eqb (k / sz .K) f) (merged sz d m b f (k % sz .K)) (getD (m .bspace) k filler));
   }
 
--- ---- the read, the write, the flush step
+-- ---- the read, the flush step, the write
 
 -- a read by way 2 makes the frame most recent
 unfoldable pub readDirectory : Sizes → Directory → ℕ → Directory
 readDirectory sz d n = elim (eqb (readWay sz d n) 2) [ true ↦ touched sz d (frameWith sz d n) | false ↦ d ]
 
+-- the block's pages in slots join its frame, and the frame is rewritten and vacated; the order of use does not change
+unfoldable pub stepped : Sizes → Directory → Due → Directory
+stepped sz d clean = d
+stepped sz d (due b f) = vacated (joined sz d b f) f
+
+-- way 7 begins as a flush step of the frame's block does
 unfoldable pub written : Sizes → Directory → ℕ → Plan → Directory
 written sz d n (slotHit i) = d
 written sz d n (frameHit f) = touched sz d f
@@ -149,12 +155,17 @@ written sz d n (freeSlot i) = putSlot d i n
 written sz d n (join v f) = entered sz (touched sz (joined sz d v f) f) n
 written sz d n (fill v f) = entered sz (touched sz (joined sz d v f) f) n
 written sz d n (exchange v f) = entered sz (touched sz (exchanged sz d v f) f) n
-written sz d n (evict v f) = entered sz (touched sz (joined sz (vacated d f) v f) f) n
+written sz d n (evict v f) = entered sz (touched sz (joined sz (stepped sz d (due (frameAt d f) f)) v f) f) n
 
--- the block's pages in slots join its frame, and the frame is rewritten and vacated; the order of use does not change
-unfoldable pub stepped : Sizes → Directory → Due → Directory
-stepped sz d clean = d
-stepped sz d (due b f) = vacated (joined sz d b f) f
+-- the merge reads of a write: way 7 counts them after the block's pages in slots have joined the frame
+abbrev pub mergedBy : Sizes → Directory → Plan → ℕ
+mergedBy sz d (slotHit i) = 0
+mergedBy sz d (frameHit f) = 0
+mergedBy sz d (freeSlot i) = 0
+mergedBy sz d (join v f) = 0
+mergedBy sz d (fill v f) = 0
+mergedBy sz d (exchange v f) = 0
+mergedBy sz d (evict v f) = mergeReads sz (joined sz d (frameAt d f) f) f
 
 module _ {A : Type 0} (filler : A) where
   -- the page that a reader is given
@@ -167,6 +178,10 @@ module _ {A : Type 0} (filler : A) where
     ]
   ]
 
+  unfoldable pub steppedPages : Sizes → Directory → Memory A → Due → Memory A
+  steppedPages sz d m clean = m
+  steppedPages sz d m (due b f) = rewrittenPages filler sz (joined sz d b f) (joinedPages filler sz d m b f) b f
+
   unfoldable pub writtenPages : Sizes → Directory → Memory A → ℕ → A → Plan → Memory A
   writtenPages sz d m n x (slotHit i) = putSlotPage m i x
   writtenPages sz d m n x (frameHit f) = putFramePage m (f * sz .K + n % sz .K) x
@@ -175,8 +190,5 @@ module _ {A : Type 0} (filler : A) where
   writtenPages sz d m n x (fill v f) = putSlotPage (joinedPages filler sz d m v f) (slotOf sz (joined sz d v f) vacant) x
   writtenPages sz d m n x (exchange v f) = putSlotPage (exchangedPages filler sz d m v f) (slotOf sz (exchanged sz d v f) vacant) x
   writtenPages sz d m n x (evict v f) =
-      putSlotPage (joinedPages filler sz (vacated d f) (rewrittenPages filler sz d m (frameAt d f) f) v f) (slotOf sz (joined sz (vacated d f) v f) vacant) x
-
-  unfoldable pub steppedPages : Sizes → Directory → Memory A → Due → Memory A
-  steppedPages sz d m clean = m
-  steppedPages sz d m (due b f) = rewrittenPages filler sz (joined sz d b f) (joinedPages filler sz d m b f) b f
+      let e = stepped sz d (due (frameAt d f) f) in
+      putSlotPage (joinedPages filler sz e (steppedPages sz d m (due (frameAt d f) f)) v f) (slotOf sz (joined sz e v f) vacant) x

@@ -80,7 +80,7 @@ pub data Plan : Type 0 where
   fill : ℕ → ℕ → Plan
   -- way 6: they exchange with the fewer pages of frame f
   exchange : ℕ → ℕ → Plan
-  -- way 7: frame f is rewritten, vacated and filled
+  -- way 7: frame f is cleaned as by a flush step, and filled
   evict : ℕ → ℕ → Plan
 
 module _ (pick : Choice) (sz : Sizes) (d : Directory) (w : List ℕ) where
@@ -111,7 +111,7 @@ module _ (pick : Choice) (sz : Sizes) (d : Directory) (w : List ℕ) where
         ]
       ]
 
--- what a write answers: its way, the block erased (vacant: none), and its merge reads
+-- what a write answers: its way, and the block erased (vacant: none)
 abbrev pub wayOf : Plan → ℕ
 wayOf (slotHit i) = 1
 wayOf (frameHit f) = 2
@@ -133,15 +133,6 @@ erasedBy d (evict v f) = frameAt d f
 -- a rewrite of frame f reads each offset that is not valid from flash
 abbrev pub mergeReads : Sizes → Directory → ℕ → ℕ
 mergeReads sz d f = sz .K - validCount sz d f
-
-abbrev pub mergedBy : Sizes → Directory → Plan → ℕ
-mergedBy sz d (slotHit i) = 0
-mergedBy sz d (frameHit f) = 0
-mergedBy sz d (freeSlot i) = 0
-mergedBy sz d (join v f) = 0
-mergedBy sz d (fill v f) = 0
-mergedBy sz d (exchange v f) = 0
-mergedBy sz d (evict v f) = mergeReads sz d f
 
 -- ---- a flush step
 

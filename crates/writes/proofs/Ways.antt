@@ -10,23 +10,19 @@ use Rattle.prelude.proofs.Tests.{by-test}
 use Rattle.model.specs.Sizes.{Sizes, vacant}
 use Rattle.model.specs.Directory.{Directory, frameAt}
 use Rattle.model.specs.Soundness.{Sound}
-use Rattle.model.specs.Policy.{Choice, slotOf, frameOf, validCount, slotCount, isWorn, Plan, slotHit, frameHit, freeSlot, join, fill, exchange, evict, plan, victim, leastRecent}
-use Rattle.model.specs.Moves.{Memory, worn, wornBy, touched, putSlot, entered, vacated, written, writtenPages, putSlotPage, putFramePage, joined, joinedPages, filled, exchangedPages, rewrittenPages}
+use Rattle.model.specs.Policy.{Choice, slotOf, frameOf, validCount, slotCount, isWorn, Plan, slotHit, frameHit, freeSlot, join, fill, exchange, evict, plan, victim, leastRecent, mergeReads, due}
+use Rattle.model.specs.Moves.{Memory, wornBy, touched, putSlot, entered, stepped, written, steppedPages, writtenPages, putSlotPage, putFramePage, joined, joinedPages, filled, exchangedPages}
 use Rattle.model.specs.Calls.{Answer, writeDone, refused, writeOutcome, Page, Buffers, zeroPage, flashPages, slotPages, framePages, memoryOf}
 use Rattle.model.specs.Lists.{Picks}
 use Rattle.model.proofs.Lookup.{block-vacant, found-slot, frame-is, no-frame}
-use Rattle.model.proofs.Kept.{vacated-sound}
-use Rattle.model.proofs.Reflects.{vacated-frame′}
-use Rattle.model.proofs.Steps.{wornBy-is}
-use Rattle.model.proofs.Consistent.{vacated-count}
+use Rattle.model.proofs.Steps as steps
 use Rattle.model.proofs.Plan.{leastRecent-picks, victim-lt, victim-pos, sole-own, occupied-all, fewest-pick, evict-pick, plan-elim, eviction-elim}
 use Rattle.moves.specs.Spaces.{spaces}
 use Rattle.policy.specs.declared.decision.Plan as code
 use Rattle.policy.specs.Views.{planOf}
 use Rattle.cache.specs.declared.Directory as cache
 use Rattle.cache.specs.View.{directoryOf}
-use Rattle.chip.specs.Chip.{Rewritable, Rewritten}
-use Rattle.chip.proofs.Rewriting.{rewritten-memory}
+use Rattle.clean.specs.Clean.{Cleanable, BlockCleaned}
 use Rattle.answer.specs.Carried.{Carried, buffers}
 use Rattle.writes.specs.Writes.{Writable, state, Wrote, Evicts}
 use Rattle.writes.specs.Enter.{Joining, Changing, Spaced, JoinEnters, JoinEntered, ExchangeEntered}
@@ -90,42 +86,40 @@ module _ (sz : Sizes) (d : Directory) (flash wear pspace bspace : List ℕ) (v f
   worn-way n b e l = let t : isWorn sz wear (frameAt d f) ≡ true = rw (lt-ltb (frameAt d f) vacant block-below) (le-leb (sz .W) (getD wear (frameAt d f) 0) (rw e at l)) in
       rw (t, writeOutcome) (record { answer-is = ap (refused 6) e; directory-is = refl; wear-is = refl; pages-are = refl })
 
-  pub rewritable : (b : ℕ) → b ≡ frameAt d f → getD wear b 0 < sz .W → Rewritable sz d b f flash wear bspace
-  rewritable b e l = let t = q .ready .fits in record {
-    sound = q .ready .sound;
-    b-lt = rw e (q .changing .block-lt);
-    f-lt = q .changing .frame-lt;
-    flash-length = t .flash-length;
-    wear-length = t .wear-length;
-    bspace-length = t .bspace-length;
-    unworn = l;
-  }
+  -- the frame's block may be cleaned as by a flush step
+  block-ready : steps.Ready sz d (frameAt d f) f
+  block-ready = steps.ready-frame sz d (q .ready .sound) f (q .changing .frame-lt) block-below
 
-  pub vacated-joins : (e : Directory) (bspace₁ : List ℕ) → e ≡ vacated d f → length bspace₁ ≡ sz .B * sz .K * sz .S → JoinEnters sz e v f pspace bspace₁ page
-  vacated-joins e bspace₁ h l = let s = q .ready .sound in let g = q .changing in rw h (record {
-    spaced = record { sound = vacated-sound sz d s f (g .frame-lt); pspace-length = q .ready .fits .pspace-length; bspace-length = l; page-length = q .page-length };
+  pub cleanable : (b : ℕ) → b ≡ frameAt d f → getD wear b 0 < sz .W → Cleanable sz d evicting b f
+  cleanable b e l = record { ready = q .ready; block = rw e block-ready; unworn = l }
+
+  -- and the victim's pages may join the frame then
+  pub cleaned-joins : (b : ℕ) (e : Directory) (bspace₁ : List ℕ) → b ≡ frameAt d f → e ≡ stepped sz d (due b f) → length bspace₁ ≡ sz .B * sz .K * sz .S → JoinEnters sz e v f pspace bspace₁ page
+  cleaned-joins b e bspace₁ eb h l = let s = q .ready .sound in let g = q .changing in let a : ℕ = frameAt d f in rw (h, eb) (record {
+    spaced = record { sound = steps.stepped-sound sz d s a f block-ready; pspace-length = q .ready .fits .pspace-length; bspace-length = l; page-length = q .page-length };
     joining = record {
       victim-lt = g .victim-lt;
-      victim-pos = rw (vacated-count sz d v f) (q .victim-pos);
+      victim-pos = rw (steps.stepped-count sz d s a f block-ready v (λ t. g .victim-out f (g .frame-lt) (sym t))) (q .victim-pos);
       frame-lt = g .frame-lt;
-      sole = λ k kl ne t. g .victim-out k kl (sym (vacated-frame′ sz (s .limits) d (s .shape) f (g .frame-lt) k ne) ∙ t);
+      sole = λ k kl ne t. g .victim-out k kl (sym (steps.stepped-frame′ sz d s a f block-ready k ne) ∙ t);
     };
   })
 
-  pub way-7 : (n b reads : ℕ) (e d′ : Directory) (flash′ wear′ pspace′ bspace₁ bspace′ : List ℕ) → b ≡ frameAt d f → getD wear b 0 < sz .W → e ≡ vacated d f
-      → Rewritten sz d b f flash wear bspace reads flash′ wear′ bspace₁ → JoinEntered sz e v f pspace bspace₁ n page d′ pspace′ bspace′
+  pub way-7 : (n b reads : ℕ) (e d′ : Directory) (flash′ wear′ pspace′ bspace₁ bspace′ : List ℕ) → b ≡ frameAt d f → getD wear b 0 < sz .W
+      → BlockCleaned sz d evicting b f e reads (buffers flash′ wear′ pspace bspace₁) → JoinEntered sz e v f pspace bspace₁ n page d′ pspace′ bspace′
       → Wrote sz d evicting n page (evict v f) (writeDone 7 b reads) d′ (buffers flash′ wear′ pspace′ bspace′)
   unfolding writeOutcome isWorn written writtenPages
-  way-7 n b reads e d′ flash′ wear′ pspace′ bspace₁ bspace′ eb l ee w j =
+  way-7 n b reads e d′ flash′ wear′ pspace′ bspace₁ bspace′ eb l w j =
       let t : isWorn sz wear (frameAt d f) ≡ false = by-test (ltb (frameAt d f) vacant) (λ a. rw (a, lt-leb (sz .W) (getD wear (frameAt d f) 0) (rw eb at l))) (λ a. rw a) in
+      let ee : e ≡ stepped sz d (due (frameAt d f) f) = w .directory-is ∙ ap (λ (x : ℕ). stepped sz d (due x f)) eb in
       rw (t, writeOutcome) (record {
-        answer-is = ap (λ (x : ℕ). writeDone 7 x reads) eb ∙ ap (writeDone 7 (frameAt d f)) (w .reads-are);
+        answer-is = ap (λ (x : ℕ). writeDone 7 x reads) eb ∙ ap (writeDone 7 (frameAt d f)) (w .reads-are ∙ ap (λ (x : ℕ). mergeReads sz (joined sz d x f) f) eb);
         directory-is = j .directory-is ∙ ap (λ (x : Directory). entered sz (touched sz (joined sz x v f) f) n) ee;
-        wear-is = w .wear-is ∙ ap (worn wear) eb ∙ sym (wornBy-is sz (q .ready .sound .limits) wear (frameAt d f) (q .changing .block-lt));
+        wear-is = w .wear-is ∙ ap (wornBy wear) eb;
         pages-are = joined-beside sz e d′ flash′ wear′ pspace bspace₁ pspace′ bspace′ v f n page j
             ∙ ap (λ (x : Memory Page). putSlotPage (joinedPages (zeroPage sz) sz e x v f) (slotOf sz (joined sz e v f) vacant) page)
-            (rewritten-memory sz d b f flash wear bspace reads flash′ wear′ bspace₁ w pspace ∙ ap (λ (x : ℕ). rewrittenPages (zeroPage sz) sz d (memoryOf sz evicting) x f) eb)
-            ∙ ap (λ (x : Directory). putSlotPage (joinedPages (zeroPage sz) sz x (rewrittenPages (zeroPage sz) sz d (memoryOf sz evicting) (frameAt d f) f) v f) (slotOf sz (joined sz x v f) vacant) page) ee;
+            (w .pages-are ∙ ap (λ (x : ℕ). steppedPages (zeroPage sz) sz d (memoryOf sz evicting) (due x f)) eb)
+            ∙ ap (λ (x : Directory). putSlotPage (joinedPages (zeroPage sz) sz x (steppedPages (zeroPage sz) sz d (memoryOf sz evicting) (due (frameAt d f) f)) v f) (slotOf sz (joined sz x v f) vacant) page) ee;
       })
 
 -- ---- what holds of the plan

@@ -1,4 +1,4 @@
-// Way 7: the frame is rewritten and vacated, and the victim's pages fill it.
+// Way 7: the frame's block is cleaned as by a flush step, and the victim's pages fill the frame.
 use crate::Written;
 use crate::enter;
 use address::BlockNo;
@@ -8,7 +8,6 @@ use answer::Refusal;
 use answer::Write;
 use cache::Directory;
 use cache::Sizes;
-use moves::numbers;
 ghost use Rattle.model.specs.Policy.{evict};
 ghost use Rattle.cache.specs.View.{sizesOf, directoryOf};
 ghost use Rattle.answer.specs.Numbers.{writeOf};
@@ -38,15 +37,14 @@ pub fn evict(
             answer: Write::Refused(Refusal::Worn(b)),
         };
     }
-    let merged = chip::rewrite(z, d, flash, wear, bspace, b, f);
-    let e = numbers::vacated(d, f);
-    let r = enter::join(z, e, pspace, bspace, v, f, n, page);
+    let cleaned = clean::clean_block(z, d, flash, wear, pspace, bspace, b, f);
+    let r = enter::join(z, cleaned.directory, pspace, bspace, v, f, n, page);
     Written {
         directory: r,
         answer: Write::Done {
             way: 7,
             erased: Erased::Block(b),
-            merged: merged,
+            merged: cleaned.merged,
         },
     }
 }

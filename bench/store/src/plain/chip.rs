@@ -1,12 +1,9 @@
 //! The rewrite of a block: merge reads, erasure, programs.
 use super::{page_at, page_at_mut};
-use clash::{Buffers, Cache, Refusal};
+use clash::{Buffers, Cache};
 
-/// Rewrites a block from frame f, unless it is worn, and gives the number of merge reads.
-pub fn rewrite(c: &Cache, lent: &mut Buffers, block: u32, f: usize) -> Result<u32, Refusal> {
-    if lent.wear[block as usize] >= c.sizes.wear_limit {
-        return Err(Refusal::Worn(block));
-    }
+/// Rewrites a block, which is not worn, from frame f, and gives the number of merge reads.
+pub fn rewrite(c: &Cache, lent: &mut Buffers, block: u32, f: usize) -> u32 {
     let (s, k) = (c.sizes.page_size as usize, c.sizes.pages_per_block as usize);
     let stretch = page_at_mut(lent.bspace, f, k * s);
     let flash = page_at_mut(lent.flash, block as usize, k * s);
@@ -19,5 +16,5 @@ pub fn rewrite(c: &Cache, lent: &mut Buffers, block: u32, f: usize) -> Result<u3
     for offset in 0..k {
         page_at_mut(flash, offset, s).copy_from_slice(page_at(stretch, offset, s));
     }
-    Ok(k as u32 - valid.count_ones())
+    k as u32 - valid.count_ones()
 }

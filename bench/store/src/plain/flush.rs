@@ -9,7 +9,7 @@ impl Plain {
         match self.due() {
             None => Ok(Answer::Clean),
             Some((block, _)) if self.is_worn(lent, block) => Err(Refusal::Worn(block)),
-            Some((block, f)) => Ok(Answer::Step { block, merged: self.clean(lent, block, f)? }),
+            Some((block, f)) => Ok(Answer::Step { block, merged: self.clean(lent, block, f) }),
         }
     }
 
@@ -21,7 +21,7 @@ impl Plain {
         }
         let (mut rewrites, mut merged) = (0, 0);
         while let Some((block, f)) = self.due() {
-            merged += self.clean(lent, block, f)?;
+            merged += self.clean(lent, block, f);
             rewrites += 1;
         }
         Ok(Answer::Flush { rewrites, merged })
@@ -39,14 +39,14 @@ impl Plain {
     }
 
     /// The block's pages in slots join the frame, which is rewritten and vacated.
-    fn clean(&mut self, lent: &mut Buffers, block: u32, f: usize) -> Result<u32, Refusal> {
+    pub(super) fn clean(&mut self, lent: &mut Buffers, block: u32, f: usize) -> u32 {
         self.join(lent, block, f);
-        let merged = chip::rewrite(&self.0, lent, block, f)?;
+        let merged = chip::rewrite(&self.0, lent, block, f);
         self.vacate(f);
-        Ok(merged)
+        merged
     }
 
-    fn is_worn(&self, lent: &Buffers, block: u32) -> bool {
+    pub(super) fn is_worn(&self, lent: &Buffers, block: u32) -> bool {
         lent.wear[block as usize] >= self.0.sizes.wear_limit
     }
 

@@ -1,5 +1,5 @@
 //! Ways 4 to 7 of a write: the pages of the victim block leave the slots.
-use super::{chip, page_at, page_at_mut, Plain};
+use super::{page_at, page_at_mut, Plain};
 use clash::{Answer, Buffers, Refusal, VACANT};
 
 impl Plain {
@@ -13,9 +13,11 @@ impl Plain {
             6 => self.exchange(lent, victim, f),
             _ => {
                 let block = self.0.directory.frames[f];
-                merged = chip::rewrite(&self.0, lent, block, f)?;
+                if self.is_worn(lent, block) {
+                    return Err(Refusal::Worn(block));
+                }
+                merged = self.clean(lent, block, f);
                 erased = Some(block);
-                self.vacate(f);
                 self.join(lent, victim, f);
             }
         }

@@ -2,14 +2,9 @@ use borrow.Author.Needs.{needs}
 use native.Mathlib.Omega.{arith}
 use mathlib.Core.Path.{sym, _∙_}
 use Rattle.cache.proofs.View.{frame-of}
-use Rattle.writes.proofs.Ways.{worn-way, rewritable, vacated-joins, way-7}
+use Rattle.writes.proofs.Ways.{worn-way, cleanable, cleaned-joins, way-7}
 use Rattle.writes.proofs.evict.evict.Statement.{statement}
 use Rattle.writes.proofs.evict.evict.Tie as tie
-use Rattle.writes.proofs.evict.evict.Reads as reads
-use Rattle.writes.proofs.evict.evict.Lts as lts
-use Rattle.chip.proofs.rewrite.Reads as rewrite-reads
-use Rattle.moves.proofs.numbers.vacated.Reads as vacated-reads
-use Rattle.writes.proofs.enter.join.Reads as join-reads
 
 mul-b : tie.Need-mul-b
 mul-b c = search needs
@@ -29,14 +24,11 @@ slice-read-if1 c = let q = c .before .before .before .before .before .before .be
 returns : tie.Need-returns
 returns c = worn-way _ _ _ _ _ _ _ _ _ (c .before .before .before .before .before .before .before .before .before .before .pre) _ _ (sym (frame-of (c .before .before .before .before .before .before .before .before .before .before .args .t2) (c .before .before .before .before .before .before .before .before .before .before .args .f))) (c .if1 .taken)
 
-rewrite-requires : tie.Need-rewrite-requires
-rewrite-requires c κs = rewritable _ _ _ _ _ _ _ _ _ (c .before .before .before .before .before .before .before .before .before .before .before .before .before .pre) _ (sym (frame-of (c .before .before .before .before .before .before .before .before .before .before .before .before .before .args .t2) (c .before .before .before .before .before .before .before .before .before .before .before .before .before .args .f))) (c .before .before .before .if1 .left)
-
-vacated-requires : tie.Need-vacated-requires
-vacated-requires c κs = search needs
+clean-block-requires : tie.Need-clean-block-requires
+clean-block-requires c κs = cleanable _ _ _ _ _ _ _ _ _ (c .before .before .before .before .before .before .before .before .before .before .before .before .before .before .pre) _ (sym (frame-of (c .before .before .before .before .before .before .before .before .before .before .before .before .before .before .args .t2) (c .before .before .before .before .before .before .before .before .before .before .before .before .before .before .args .f))) (c .before .before .before .before .if1 .left)
 
 join-requires : tie.Need-join-requires
-join-requires c κs = vacated-joins _ _ _ _ _ _ _ _ _ (c .before .before .before .before .before .before .before .before .before .before .before .before .before .before .before .before .before .before .before .before .before .before .before .pre) _ _ (c .before .before .vacated .ensures) (c .before .before .before .before .before .before .before .before .before .rewrite .kept .1 .1 .1 .1 .0 ∙ c .before .before .before .before .before .before .before .before .before .before .before .before .before .before .before .before .before .before .before .before .before .before .before .pre .ready .fits .bspace-length)
+join-requires c κs = cleaned-joins _ _ _ _ _ _ _ _ _ (c .before .before .before .before .before .before .before .before .before .before .before .before .before .before .before .before .before .before .before .before .before .before .before .pre) _ _ _ (sym (frame-of (c .before .before .before .before .before .before .before .before .before .before .before .before .before .before .before .before .before .before .before .before .before .before .before .args .t2) (c .before .before .before .before .before .before .before .before .before .before .before .before .before .before .before .before .before .before .before .before .before .before .before .args .f))) (c .before .before .before .before .before .before .before .before .clean-block .ensures .directory-is) (c .before .before .before .before .before .before .before .before .clean-block .kept .1 .1 .1 .1 .1 .0 ∙ c .before .before .before .before .before .before .before .before .before .before .before .before .before .before .before .before .before .before .before .before .before .before .before .pre .ready .fits .bspace-length)
 
 same-length : tie.Need-same-length
 same-length c = search needs
@@ -51,7 +43,7 @@ same-length-4 : tie.Need-same-length-4
 same-length-4 c = search needs
 
 returns-2 : tie.Need-returns-2
-returns-2 c = way-7 _ _ _ _ _ _ _ _ _ (c .before .before .before .before .before .before .before .before .before .before .before .before .before .before .before .before .before .before .before .before .before .before .before .before .before .before .before .before .pre) _ _ _ _ _ _ _ _ _ _ (sym (frame-of (c .before .before .before .before .before .before .before .before .before .before .before .before .before .before .before .before .before .before .before .before .before .before .before .before .before .before .before .before .args .t2) (c .before .before .before .before .before .before .before .before .before .before .before .before .before .before .before .before .before .before .before .before .before .before .before .before .before .before .before .before .args .f))) (c .before .before .before .before .before .before .before .before .before .before .before .before .before .before .before .before .before .before .if1 .left) (c .before .before .before .before .before .before .before .vacated .ensures) (c .before .before .before .before .before .before .before .before .before .before .before .before .before .before .rewrite .ensures) (c .before .before .before .before .join .ensures)
+returns-2 c = way-7 _ _ _ _ _ _ _ _ _ (c .before .before .before .before .before .before .before .before .before .before .before .before .before .before .before .before .before .before .before .before .before .before .before .before .before .before .before .before .pre) _ _ _ _ _ _ _ _ _ _ (sym (frame-of (c .before .before .before .before .before .before .before .before .before .before .before .before .before .before .before .before .before .before .before .before .before .before .before .before .before .before .before .before .args .t2) (c .before .before .before .before .before .before .before .before .before .before .before .before .before .before .before .before .before .before .before .before .before .before .before .before .before .before .before .before .args .f))) (c .before .before .before .before .before .before .before .before .before .before .before .before .before .before .before .before .before .before .if1 .left) (c .before .before .before .before .before .before .before .before .before .before .before .before .before .clean-block .ensures) (c .before .before .before .before .join .ensures)
 
 pub evict-spec : {M : Type 1} → statement M
 evict-spec =
@@ -63,8 +55,7 @@ evict-spec =
     mul-if1
     slice-read-if1
     returns
-    rewrite-requires
-    vacated-requires
+    clean-block-requires
     join-requires
     same-length
     same-length-2

@@ -1,7 +1,7 @@
 use borrow.Author.Needs.{needs}
-use Rattle.flushes.proofs.Cleaning.{frame-small, rewritable, cleaned}
-use Rattle.flushes.proofs.clean_block.Statement.{statement}
-use Rattle.flushes.proofs.clean_block.Tie as tie
+use Rattle.clean.proofs.Cleaning.{frame-small, rewritable, cleaned}
+use Rattle.clean.proofs.clean_block.Statement.{statement}
+use Rattle.clean.proofs.clean_block.Tie as tie
 
 join-requires : tie.Need-join-requires
 join-requires c κs = search needs

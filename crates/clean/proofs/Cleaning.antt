@@ -14,7 +14,7 @@ use Rattle.model.proofs.Steps.{wornBy-is}
 use Rattle.answer.specs.Carried.{buffers}
 use Rattle.moves.specs.Spaces.{spaces, Joined}
 use Rattle.chip.specs.Chip.{chipMemory, Rewritable, Rewritten}
-use Rattle.flushes.specs.Flushes.{Cleanable, BlockCleaned}
+use Rattle.clean.specs.Clean.{Cleanable, BlockCleaned}
 
 module _ {sz : Sizes} {d : Directory} {flash wear pspace bspace : List ℕ} {b f : ℕ} (q : Cleanable sz d (buffers flash wear pspace bspace) b f) where
   pub frame-small : f < 8

@@ -81,7 +81,7 @@ clash_reply clash_read(clash_cache cache,
     const uint8_t *pspace, size_t pspace_bytes, const uint8_t *bspace, size_t bspace_bytes,
     uint32_t n, uint8_t *page, size_t page_bytes);
 
-/* Stores page as page n. */
+/* Stores page as page n. Refused 6 only where every frame holds a worn block; the one named is the least recent. */
 clash_reply clash_write(clash_cache cache,
     uint8_t *flash, size_t flash_bytes, uint32_t *wear, size_t wear_count,
     uint8_t *pspace, size_t pspace_bytes, uint8_t *bspace, size_t bspace_bytes,

@@ -28,7 +28,8 @@ pub enum Refusal {
     Record,
     /// 5: there is no such page
     Page,
-    /// 6: a rewrite is due for this block, whose wear has reached the limit
+    /// 6: a rewrite is due for this block, whose wear has reached the limit; of a write, the block of the least recent frame, where every
+    /// frame holds a worn block
     Worn(u32),
 }
 

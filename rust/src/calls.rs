@@ -77,7 +77,7 @@ impl Cache {
         Ok(Answer::Read { way: a.way })
     }
 
-    /// Stores `page` as page `n`.
+    /// Stores `page` as page `n`. Refused as worn only where every frame holds a worn block.
     pub fn write(&mut self, lent: &mut Buffers, n: u32, page: &[u8]) -> Result<Answer, Refusal> {
         let reply = unsafe {
             clash_write(

@@ -21,7 +21,7 @@ impl Store {
         self.cache.read(lent, n, page)
     }
 
-    /// Stores `page` as page `n`.
+    /// Stores `page` as page `n`. Refused as worn only where every frame holds a worn block.
     pub fn write(&mut self, lent: &mut Buffers, n: u32, page: &[u8]) -> Result<Answer, Refusal> {
         self.expect(lent);
         self.expect_page(page);

@@ -146,6 +146,41 @@ fn worn() {
     assert_eq!(cache.flush(&mut memory.lend()), Ok(Answer::Flush { rewrites: 3, merged: 7 }));
 }
 
+/// Frames of blocks 2, 1 and 0, least recent that of block 1 and most recent that of block 2; pages 10 and 8 in slots.
+fn three_frames(wear: [u32; 6]) -> (Cache, Memory) {
+    let sizes = Sizes::from([1, 2, 6, 2, 3, 9]);
+    let mut memory = Memory::new(&sizes);
+    memory.wear = wear.to_vec();
+    let mut cache = Cache::open(sizes, &memory.lend()).unwrap();
+    for n in [10, 4, 2, 0, 8] {
+        cache.write(&mut memory.lend(), n, &[n as u8]).unwrap();
+    }
+    cache.read(&memory.lend(), 4, &mut [0]).unwrap();
+    (cache, memory)
+}
+
+#[test]
+fn a_write_passes_worn_blocks_over() {
+    for (wear, block) in [([8, 0, 8, 0, 0, 0], 1), ([8, 9, 0, 0, 0, 0], 0), ([9, 9, 8, 0, 0, 0], 2)] {
+        let (mut cache, mut memory) = three_frames(wear);
+        if wear[1] == 9 {
+            assert_eq!(cache.step(&mut memory.lend()), Err(Refusal::Worn(1)));
+        }
+        assert_eq!(cache.write(&mut memory.lend(), 6, &[6]), Ok(Answer::Write { way: 7, erased: Some(block), merged: 1 }));
+        assert_eq!(memory.wear[block as usize], wear[block as usize] + 1);
+    }
+}
+
+#[test]
+fn with_all_blocks_worn_a_write_names_the_least_recent() {
+    let (mut cache, mut memory) = three_frames([9; 6]);
+    let before = (cache, memory.clone());
+    assert_eq!(cache.write(&mut memory.lend(), 6, &[6]), Err(Refusal::Worn(1)));
+    assert_eq!(cache.part(&mut memory.lend(), 6, 0, &[6], &mut [7]), Err(Refusal::Worn(1)));
+    assert_eq!(cache.flush(&mut memory.lend()), Err(Refusal::Worn(0)));
+    assert_eq!((cache, memory), before);
+}
+
 #[test]
 fn numbers_are_document_01s() {
     let all = [Refusal::Size, Refusal::Buffer, Refusal::Overworn, Refusal::Record, Refusal::Page, Refusal::Worn(3)];

@@ -9,7 +9,7 @@ use Rattle.prelude.specs.Pages.{pageAt, pagesOf, flat}
 use Rattle.model.specs.Sizes.{vacant, Sizes, sizesOk}
 use Rattle.model.specs.Directory.{inFrame, vacantDirectory, blankCache}
 use Rattle.model.specs.Soundness.{shapeOk, slotOk, frameOk, slotsDiffer, framesDiffer, cachedOnce, listedOnce, slotPast, framePast, sound}
-use Rattle.model.specs.Policy.{inBlock, slotOf, inSlots, frameWith, frameOf, validCount, slotCount, readWay, leastRecent, victim, fewestValid, evictable, evictionPlan, plan, occupied, lowestInSlots, dueOf, cached, isWorn, lowestWorn}
+use Rattle.model.specs.Policy.{inBlock, slotOf, inSlots, frameWith, frameOf, validCount, slotCount, readWay, leastRecent, victim, fewestValid, evictable, anyEvictable, evictFrame, evictionPlan, plan, occupied, lowestInSlots, dueOf, cached, isWorn, lowestWorn}
 use Rattle.model.specs.Moves.{flashPage, programmed, worn, wornBy, recencyAfter, touched, putSlot, entered, putSlotPage, putFramePage, joined, filled, joinedPages, unmet, spare, taken, givenSlot, exchanged, exchangedPages, vacated, merged, rewrittenPages, readDirectory, written, stepped, readPage, writtenPages, steppedPages}
 use Rattle.model.specs.Calls.{readDone, writeDone, flushDone, refused, Answer, Call, read, write, flush, checked, readOutcome, writeOutcome, stepOutcome, steps, flushOutcome, decide, stepsPages, callPages, Page, Buffers, lentOk, openStore, Store, zeroPage, flashPages, memoryOf, buffersOf, carriedOut, call}
 use Rattle.model.specs.Calls.{told}
@@ -69,53 +69,53 @@ both-say = flushDone 2 1 ∷ refused 2 vacant ∷ refused 5 vacant ∷ readDone 
 
 -- the store answers as the book does, refusals included
 answers : ran .says ≡ both-say
-unfolding start wrote ran both writesA restA opened fed arrayAfter logAfter beforeAfter openStore call carriedOut memoryOf buffersOf zeroPage lentOk callPages stepsPages decide flushOutcome steps stepOutcome writeOutcome readOutcome checked steppedPages writtenPages readPage stepped written readDirectory rewrittenPages merged vacated exchangedPages exchanged givenSlot taken spare unmet joinedPages filled joined putFramePage putSlotPage entered putSlot touched recencyAfter wornBy worn programmed flashPage lowestWorn isWorn cached dueOf lowestInSlots occupied plan evictionPlan evictable fewestValid victim leastRecent readWay slotCount validCount frameOf frameWith inSlots slotOf inBlock inFrame sound framePast slotPast listedOnce cachedOnce framesDiffer slotsDiffer frameOk slotOk shapeOk sizesOk vacantDirectory blankCache every first firstFrom count all allPairs tab tabFrom bit mask nth argmax least pageAt pagesOf flat
+unfolding start wrote ran both writesA restA opened fed arrayAfter logAfter beforeAfter openStore call carriedOut memoryOf buffersOf zeroPage lentOk callPages stepsPages decide flushOutcome steps stepOutcome writeOutcome readOutcome checked steppedPages writtenPages readPage stepped written readDirectory rewrittenPages merged vacated exchangedPages exchanged givenSlot taken spare unmet joinedPages filled joined putFramePage putSlotPage entered putSlot touched recencyAfter wornBy worn programmed flashPage lowestWorn isWorn cached dueOf lowestInSlots occupied plan evictionPlan evictFrame anyEvictable evictable fewestValid victim leastRecent readWay slotCount validCount frameOf frameWith inSlots slotOf inBlock inFrame sound framePast slotPast listedOnce cachedOnce framesDiffer slotsDiffer frameOk slotOk shapeOk sizesOk vacantDirectory blankCache every first firstFrom count all allPairs tab tabFrom bit mask nth argmax least pageAt pagesOf flat
 answers = refl
 
 book-answers : ran .bookSays ≡ both-say
-unfolding start wrote ran both writesA restA opened fed arrayAfter logAfter beforeAfter openStore call carriedOut memoryOf buffersOf zeroPage lentOk callPages stepsPages decide flushOutcome steps stepOutcome writeOutcome readOutcome checked steppedPages writtenPages readPage stepped written readDirectory rewrittenPages merged vacated exchangedPages exchanged givenSlot taken spare unmet joinedPages filled joined putFramePage putSlotPage entered putSlot touched recencyAfter wornBy worn programmed flashPage lowestWorn isWorn cached dueOf lowestInSlots occupied plan evictionPlan evictable fewestValid victim leastRecent readWay slotCount validCount frameOf frameWith inSlots slotOf inBlock inFrame sound framePast slotPast listedOnce cachedOnce framesDiffer slotsDiffer frameOk slotOk shapeOk sizesOk vacantDirectory blankCache every first firstFrom count all allPairs tab tabFrom bit mask nth argmax least pageAt pagesOf flat
+unfolding start wrote ran both writesA restA opened fed arrayAfter logAfter beforeAfter openStore call carriedOut memoryOf buffersOf zeroPage lentOk callPages stepsPages decide flushOutcome steps stepOutcome writeOutcome readOutcome checked steppedPages writtenPages readPage stepped written readDirectory rewrittenPages merged vacated exchangedPages exchanged givenSlot taken spare unmet joinedPages filled joined putFramePage putSlotPage entered putSlot touched recencyAfter wornBy worn programmed flashPage lowestWorn isWorn cached dueOf lowestInSlots occupied plan evictionPlan evictFrame anyEvictable evictable fewestValid victim leastRecent readWay slotCount validCount frameOf frameWith inSlots slotOf inBlock inFrame sound framePast slotPast listedOnce cachedOnce framesDiffer slotsDiffer frameOk slotOk shapeOk sizesOk vacantDirectory blankCache every first firstFrom count all allPairs tab tabFrom bit mask nth argmax least pageAt pagesOf flat
 book-answers = refl
 
 -- the page array: what was last accepted for each page, or what flash held at opening
 array : ran .reference .array ≡ (10 ∷ []) ∷ (255 ∷ []) ∷ (20 ∷ []) ∷ (40 ∷ []) ∷ (30 ∷ []) ∷ (255 ∷ []) ∷ []
-unfolding start wrote ran both writesA restA opened fed arrayAfter logAfter beforeAfter openStore call carriedOut memoryOf buffersOf zeroPage lentOk callPages stepsPages decide flushOutcome steps stepOutcome writeOutcome readOutcome checked steppedPages writtenPages readPage stepped written readDirectory rewrittenPages merged vacated exchangedPages exchanged givenSlot taken spare unmet joinedPages filled joined putFramePage putSlotPage entered putSlot touched recencyAfter wornBy worn programmed flashPage lowestWorn isWorn cached dueOf lowestInSlots occupied plan evictionPlan evictable fewestValid victim leastRecent readWay slotCount validCount frameOf frameWith inSlots slotOf inBlock inFrame sound framePast slotPast listedOnce cachedOnce framesDiffer slotsDiffer frameOk slotOk shapeOk sizesOk vacantDirectory blankCache every first firstFrom count all allPairs tab tabFrom bit mask nth argmax least pageAt pagesOf flat
+unfolding start wrote ran both writesA restA opened fed arrayAfter logAfter beforeAfter openStore call carriedOut memoryOf buffersOf zeroPage lentOk callPages stepsPages decide flushOutcome steps stepOutcome writeOutcome readOutcome checked steppedPages writtenPages readPage stepped written readDirectory rewrittenPages merged vacated exchangedPages exchanged givenSlot taken spare unmet joinedPages filled joined putFramePage putSlotPage entered putSlot touched recencyAfter wornBy worn programmed flashPage lowestWorn isWorn cached dueOf lowestInSlots occupied plan evictionPlan evictFrame anyEvictable evictable fewestValid victim leastRecent readWay slotCount validCount frameOf frameWith inSlots slotOf inBlock inFrame sound framePast slotPast listedOnce cachedOnce framesDiffer slotsDiffer frameOk slotOk shapeOk sizesOk vacantDirectory blankCache every first firstFrom count all allPairs tab tabFrom bit mask nth argmax least pageAt pagesOf flat
 array = refl
 
 -- each accepted read gave that page, of 2 and of 1, and the refused calls left their buffers
 reads : take 5 (ran .buffers) ≡ [] ∷ (9 ∷ 9 ∷ []) ∷ (7 ∷ []) ∷ (255 ∷ []) ∷ (20 ∷ []) ∷ []
-unfolding start wrote ran both writesA restA opened fed arrayAfter logAfter beforeAfter openStore call carriedOut memoryOf buffersOf zeroPage lentOk callPages stepsPages decide flushOutcome steps stepOutcome writeOutcome readOutcome checked steppedPages writtenPages readPage stepped written readDirectory rewrittenPages merged vacated exchangedPages exchanged givenSlot taken spare unmet joinedPages filled joined putFramePage putSlotPage entered putSlot touched recencyAfter wornBy worn programmed flashPage lowestWorn isWorn cached dueOf lowestInSlots occupied plan evictionPlan evictable fewestValid victim leastRecent readWay slotCount validCount frameOf frameWith inSlots slotOf inBlock inFrame sound framePast slotPast listedOnce cachedOnce framesDiffer slotsDiffer frameOk slotOk shapeOk sizesOk vacantDirectory blankCache every first firstFrom count all allPairs tab tabFrom bit mask nth argmax least pageAt pagesOf flat
+unfolding start wrote ran both writesA restA opened fed arrayAfter logAfter beforeAfter openStore call carriedOut memoryOf buffersOf zeroPage lentOk callPages stepsPages decide flushOutcome steps stepOutcome writeOutcome readOutcome checked steppedPages writtenPages readPage stepped written readDirectory rewrittenPages merged vacated exchangedPages exchanged givenSlot taken spare unmet joinedPages filled joined putFramePage putSlotPage entered putSlot touched recencyAfter wornBy worn programmed flashPage lowestWorn isWorn cached dueOf lowestInSlots occupied plan evictionPlan evictFrame anyEvictable evictable fewestValid victim leastRecent readWay slotCount validCount frameOf frameWith inSlots slotOf inBlock inFrame sound framePast slotPast listedOnce cachedOnce framesDiffer slotsDiffer frameOk slotOk shapeOk sizesOk vacantDirectory blankCache every first firstFrom count all allPairs tab tabFrom bit mask nth argmax least pageAt pagesOf flat
 reads = refl
 
 -- no page is cached twice
 once : tab 6 (timesCached sizesA (wrote .store .cache .directory)) ≡ 0 ∷ 0 ∷ 1 ∷ 1 ∷ 1 ∷ 0 ∷ []
-unfolding start wrote ran both writesA restA timesCached opened fed arrayAfter logAfter beforeAfter openStore call carriedOut memoryOf buffersOf zeroPage lentOk callPages stepsPages decide flushOutcome steps stepOutcome writeOutcome readOutcome checked steppedPages writtenPages readPage stepped written readDirectory rewrittenPages merged vacated exchangedPages exchanged givenSlot taken spare unmet joinedPages filled joined putFramePage putSlotPage entered putSlot touched recencyAfter wornBy worn programmed flashPage lowestWorn isWorn cached dueOf lowestInSlots occupied plan evictionPlan evictable fewestValid victim leastRecent readWay slotCount validCount frameOf frameWith inSlots slotOf inBlock inFrame sound framePast slotPast listedOnce cachedOnce framesDiffer slotsDiffer frameOk slotOk shapeOk sizesOk vacantDirectory blankCache every first firstFrom count all allPairs tab tabFrom bit mask nth argmax least pageAt pagesOf flat
+unfolding start wrote ran both writesA restA timesCached opened fed arrayAfter logAfter beforeAfter openStore call carriedOut memoryOf buffersOf zeroPage lentOk callPages stepsPages decide flushOutcome steps stepOutcome writeOutcome readOutcome checked steppedPages writtenPages readPage stepped written readDirectory rewrittenPages merged vacated exchangedPages exchanged givenSlot taken spare unmet joinedPages filled joined putFramePage putSlotPage entered putSlot touched recencyAfter wornBy worn programmed flashPage lowestWorn isWorn cached dueOf lowestInSlots occupied plan evictionPlan evictFrame anyEvictable evictable fewestValid victim leastRecent readWay slotCount validCount frameOf frameWith inSlots slotOf inBlock inFrame sound framePast slotPast listedOnce cachedOnce framesDiffer slotsDiffer frameOk slotOk shapeOk sizesOk vacantDirectory blankCache every first firstFrom count all allPairs tab tabFrom bit mask nth argmax least pageAt pagesOf flat
 once = refl
 
 -- array and log before the call of a block's last rewrite: the fourth write made block 0's
 arrays-before : wrote .reference .arrayBefore
     ≡ ((10 ∷ []) ∷ (255 ∷ []) ∷ (20 ∷ []) ∷ (255 ∷ []) ∷ (30 ∷ []) ∷ (255 ∷ []) ∷ []) ∷ replicate 6 (255 ∷ []) ∷ replicate 6 (255 ∷ []) ∷ []
-unfolding start wrote ran both writesA restA opened fed arrayAfter logAfter beforeAfter openStore call carriedOut memoryOf buffersOf zeroPage lentOk callPages stepsPages decide flushOutcome steps stepOutcome writeOutcome readOutcome checked steppedPages writtenPages readPage stepped written readDirectory rewrittenPages merged vacated exchangedPages exchanged givenSlot taken spare unmet joinedPages filled joined putFramePage putSlotPage entered putSlot touched recencyAfter wornBy worn programmed flashPage lowestWorn isWorn cached dueOf lowestInSlots occupied plan evictionPlan evictable fewestValid victim leastRecent readWay slotCount validCount frameOf frameWith inSlots slotOf inBlock inFrame sound framePast slotPast listedOnce cachedOnce framesDiffer slotsDiffer frameOk slotOk shapeOk sizesOk vacantDirectory blankCache every first firstFrom count all allPairs tab tabFrom bit mask nth argmax least pageAt pagesOf flat
+unfolding start wrote ran both writesA restA opened fed arrayAfter logAfter beforeAfter openStore call carriedOut memoryOf buffersOf zeroPage lentOk callPages stepsPages decide flushOutcome steps stepOutcome writeOutcome readOutcome checked steppedPages writtenPages readPage stepped written readDirectory rewrittenPages merged vacated exchangedPages exchanged givenSlot taken spare unmet joinedPages filled joined putFramePage putSlotPage entered putSlot touched recencyAfter wornBy worn programmed flashPage lowestWorn isWorn cached dueOf lowestInSlots occupied plan evictionPlan evictable anyEvictable evictFrame fewestValid victim leastRecent readWay slotCount validCount frameOf frameWith inSlots slotOf inBlock inFrame sound framePast slotPast listedOnce cachedOnce framesDiffer slotsDiffer frameOk slotOk shapeOk sizesOk vacantDirectory blankCache every first firstFrom count all allPairs tab tabFrom bit mask nth argmax least pageAt pagesOf flat
 arrays-before = refl
 
 logs-before : wrote .reference .logBefore ≡ (record { page = 4; bytes = 30 ∷ [] } ∷ record { page = 2; bytes = 20 ∷ [] } ∷ record { page = 0; bytes = 10 ∷ [] } ∷ []) ∷ [] ∷ [] ∷ []
-unfolding start wrote ran both writesA restA opened fed arrayAfter logAfter beforeAfter openStore call carriedOut memoryOf buffersOf zeroPage lentOk callPages stepsPages decide flushOutcome steps stepOutcome writeOutcome readOutcome checked steppedPages writtenPages readPage stepped written readDirectory rewrittenPages merged vacated exchangedPages exchanged givenSlot taken spare unmet joinedPages filled joined putFramePage putSlotPage entered putSlot touched recencyAfter wornBy worn programmed flashPage lowestWorn isWorn cached dueOf lowestInSlots occupied plan evictionPlan evictable fewestValid victim leastRecent readWay slotCount validCount frameOf frameWith inSlots slotOf inBlock inFrame sound framePast slotPast listedOnce cachedOnce framesDiffer slotsDiffer frameOk slotOk shapeOk sizesOk vacantDirectory blankCache every first firstFrom count all allPairs tab tabFrom bit mask nth argmax least pageAt pagesOf flat
+unfolding start wrote ran both writesA restA opened fed arrayAfter logAfter beforeAfter openStore call carriedOut memoryOf buffersOf zeroPage lentOk callPages stepsPages decide flushOutcome steps stepOutcome writeOutcome readOutcome checked steppedPages writtenPages readPage stepped written readDirectory rewrittenPages merged vacated exchangedPages exchanged givenSlot taken spare unmet joinedPages filled joined putFramePage putSlotPage entered putSlot touched recencyAfter wornBy worn programmed flashPage lowestWorn isWorn cached dueOf lowestInSlots occupied plan evictionPlan evictable anyEvictable evictFrame fewestValid victim leastRecent readWay slotCount validCount frameOf frameWith inSlots slotOf inBlock inFrame sound framePast slotPast listedOnce cachedOnce framesDiffer slotsDiffer frameOk slotOk shapeOk sizesOk vacantDirectory blankCache every first firstFrom count all allPairs tab tabFrom bit mask nth argmax least pageAt pagesOf flat
 logs-before = refl
 
 -- every flash block is, as a whole, the array before the call of its last rewrite, or at opening
 blocks-whole : tab 3 (blockPages sizesA (flashPages sizesA (wrote .store .lent .flash))) ≡ ((10 ∷ []) ∷ (255 ∷ []) ∷ []) ∷ replicate 2 (255 ∷ []) ∷ replicate 2 (255 ∷ []) ∷ []
-unfolding blockPages start wrote ran both writesA restA opened fed arrayAfter logAfter beforeAfter openStore call carriedOut memoryOf buffersOf zeroPage lentOk callPages stepsPages decide flushOutcome steps stepOutcome writeOutcome readOutcome checked steppedPages writtenPages readPage stepped written readDirectory rewrittenPages merged vacated exchangedPages exchanged givenSlot taken spare unmet joinedPages filled joined putFramePage putSlotPage entered putSlot touched recencyAfter wornBy worn programmed flashPage lowestWorn isWorn cached dueOf lowestInSlots occupied plan evictionPlan evictable fewestValid victim leastRecent readWay slotCount validCount frameOf frameWith inSlots slotOf inBlock inFrame sound framePast slotPast listedOnce cachedOnce framesDiffer slotsDiffer frameOk slotOk shapeOk sizesOk vacantDirectory blankCache every first firstFrom count all allPairs tab tabFrom bit mask nth argmax least pageAt pagesOf flat
+unfolding blockPages start wrote ran both writesA restA opened fed arrayAfter logAfter beforeAfter openStore call carriedOut memoryOf buffersOf zeroPage lentOk callPages stepsPages decide flushOutcome steps stepOutcome writeOutcome readOutcome checked steppedPages writtenPages readPage stepped written readDirectory rewrittenPages merged vacated exchangedPages exchanged givenSlot taken spare unmet joinedPages filled joined putFramePage putSlotPage entered putSlot touched recencyAfter wornBy worn programmed flashPage lowestWorn isWorn cached dueOf lowestInSlots occupied plan evictionPlan evictable anyEvictable evictFrame fewestValid victim leastRecent readWay slotCount validCount frameOf frameWith inSlots slotOf inBlock inFrame sound framePast slotPast listedOnce cachedOnce framesDiffer slotsDiffer frameOk slotOk shapeOk sizesOk vacantDirectory blankCache every first firstFrom count all allPairs tab tabFrom bit mask nth argmax least pageAt pagesOf flat
 blocks-whole = refl
 
 -- each block's wear is the book's
 wear : ran .store .lent .wear ≡ 1 ∷ 1 ∷ 1 ∷ []
-unfolding start wrote ran both writesA restA opened fed arrayAfter logAfter beforeAfter openStore call carriedOut memoryOf buffersOf zeroPage lentOk callPages stepsPages decide flushOutcome steps stepOutcome writeOutcome readOutcome checked steppedPages writtenPages readPage stepped written readDirectory rewrittenPages merged vacated exchangedPages exchanged givenSlot taken spare unmet joinedPages filled joined putFramePage putSlotPage entered putSlot touched recencyAfter wornBy worn programmed flashPage lowestWorn isWorn cached dueOf lowestInSlots occupied plan evictionPlan evictable fewestValid victim leastRecent readWay slotCount validCount frameOf frameWith inSlots slotOf inBlock inFrame sound framePast slotPast listedOnce cachedOnce framesDiffer slotsDiffer frameOk slotOk shapeOk sizesOk vacantDirectory blankCache every first firstFrom count all allPairs tab tabFrom bit mask nth argmax least pageAt pagesOf flat
+unfolding start wrote ran both writesA restA opened fed arrayAfter logAfter beforeAfter openStore call carriedOut memoryOf buffersOf zeroPage lentOk callPages stepsPages decide flushOutcome steps stepOutcome writeOutcome readOutcome checked steppedPages writtenPages readPage stepped written readDirectory rewrittenPages merged vacated exchangedPages exchanged givenSlot taken spare unmet joinedPages filled joined putFramePage putSlotPage entered putSlot touched recencyAfter wornBy worn programmed flashPage lowestWorn isWorn cached dueOf lowestInSlots occupied plan evictionPlan evictFrame anyEvictable evictable fewestValid victim leastRecent readWay slotCount validCount frameOf frameWith inSlots slotOf inBlock inFrame sound framePast slotPast listedOnce cachedOnce framesDiffer slotsDiffer frameOk slotOk shapeOk sizesOk vacantDirectory blankCache every first firstFrom count all allPairs tab tabFrom bit mask nth argmax least pageAt pagesOf flat
 wear = refl
 
 book-wear : ran .reference .book .wear ≡ 1 ∷ 1 ∷ 1 ∷ []
-unfolding start wrote ran both writesA restA opened fed arrayAfter logAfter beforeAfter openStore call carriedOut memoryOf buffersOf zeroPage lentOk callPages stepsPages decide flushOutcome steps stepOutcome writeOutcome readOutcome checked steppedPages writtenPages readPage stepped written readDirectory rewrittenPages merged vacated exchangedPages exchanged givenSlot taken spare unmet joinedPages filled joined putFramePage putSlotPage entered putSlot touched recencyAfter wornBy worn programmed flashPage lowestWorn isWorn cached dueOf lowestInSlots occupied plan evictionPlan evictable fewestValid victim leastRecent readWay slotCount validCount frameOf frameWith inSlots slotOf inBlock inFrame sound framePast slotPast listedOnce cachedOnce framesDiffer slotsDiffer frameOk slotOk shapeOk sizesOk vacantDirectory blankCache every first firstFrom count all allPairs tab tabFrom bit mask nth argmax least pageAt pagesOf flat
+unfolding start wrote ran both writesA restA opened fed arrayAfter logAfter beforeAfter openStore call carriedOut memoryOf buffersOf zeroPage lentOk callPages stepsPages decide flushOutcome steps stepOutcome writeOutcome readOutcome checked steppedPages writtenPages readPage stepped written readDirectory rewrittenPages merged vacated exchangedPages exchanged givenSlot taken spare unmet joinedPages filled joined putFramePage putSlotPage entered putSlot touched recencyAfter wornBy worn programmed flashPage lowestWorn isWorn cached dueOf lowestInSlots occupied plan evictionPlan evictFrame anyEvictable evictable fewestValid victim leastRecent readWay slotCount validCount frameOf frameWith inSlots slotOf inBlock inFrame sound framePast slotPast listedOnce cachedOnce framesDiffer slotsDiffer frameOk slotOk shapeOk sizesOk vacantDirectory blankCache every first firstFrom count all allPairs tab tabFrom bit mask nth argmax least pageAt pagesOf flat
 book-wear = refl
 
 -- after the flush, flash is that array
 flash : ran .store .lent .flash ≡ 10 ∷ 255 ∷ 20 ∷ 40 ∷ 30 ∷ 255 ∷ []
-unfolding start wrote ran both writesA restA opened fed arrayAfter logAfter beforeAfter openStore call carriedOut memoryOf buffersOf zeroPage lentOk callPages stepsPages decide flushOutcome steps stepOutcome writeOutcome readOutcome checked steppedPages writtenPages readPage stepped written readDirectory rewrittenPages merged vacated exchangedPages exchanged givenSlot taken spare unmet joinedPages filled joined putFramePage putSlotPage entered putSlot touched recencyAfter wornBy worn programmed flashPage lowestWorn isWorn cached dueOf lowestInSlots occupied plan evictionPlan evictable fewestValid victim leastRecent readWay slotCount validCount frameOf frameWith inSlots slotOf inBlock inFrame sound framePast slotPast listedOnce cachedOnce framesDiffer slotsDiffer frameOk slotOk shapeOk sizesOk vacantDirectory blankCache every first firstFrom count all allPairs tab tabFrom bit mask nth argmax least pageAt pagesOf flat
+unfolding start wrote ran both writesA restA opened fed arrayAfter logAfter beforeAfter openStore call carriedOut memoryOf buffersOf zeroPage lentOk callPages stepsPages decide flushOutcome steps stepOutcome writeOutcome readOutcome checked steppedPages writtenPages readPage stepped written readDirectory rewrittenPages merged vacated exchangedPages exchanged givenSlot taken spare unmet joinedPages filled joined putFramePage putSlotPage entered putSlot touched recencyAfter wornBy worn programmed flashPage lowestWorn isWorn cached dueOf lowestInSlots occupied plan evictionPlan evictFrame anyEvictable evictable fewestValid victim leastRecent readWay slotCount validCount frameOf frameWith inSlots slotOf inBlock inFrame sound framePast slotPast listedOnce cachedOnce framesDiffer slotsDiffer frameOk slotOk shapeOk sizesOk vacantDirectory blankCache every first firstFrom count all allPairs tab tabFrom bit mask nth argmax least pageAt pagesOf flat
 flash = refl

@@ -10,7 +10,7 @@ use Rattle.prelude.specs.Pages.{pageAt, laid, pagesOf, flat}
 use Rattle.model.specs.Sizes.{Sizes, vacant, sizesOk}
 use Rattle.model.specs.Directory.{inFrame, vacantDirectory, blankCache}
 use Rattle.model.specs.Soundness.{shapeOk, slotOk, frameOk, slotsDiffer, framesDiffer, cachedOnce, listedOnce, slotPast, framePast, sound}
-use Rattle.model.specs.Policy.{inBlock, slotOf, inSlots, frameWith, frameOf, validCount, slotCount, readWay, leastRecent, victim, fewestValid, evictable, evictionPlan, plan, occupied, lowestInSlots, dueOf, cached, isWorn, lowestWorn}
+use Rattle.model.specs.Policy.{inBlock, slotOf, inSlots, frameWith, frameOf, validCount, slotCount, readWay, leastRecent, victim, fewestValid, evictable, anyEvictable, evictFrame, evictionPlan, plan, occupied, lowestInSlots, dueOf, cached, isWorn, lowestWorn}
 use Rattle.model.specs.Moves.{flashPage, programmed, worn, wornBy, recencyAfter, touched, putSlot, entered, putSlotPage, putFramePage, joined, filled, joinedPages, unmet, spare, taken, givenSlot, exchanged, exchangedPages, vacated, merged, rewrittenPages, readDirectory, written, stepped, readPage, writtenPages, steppedPages}
 use Rattle.model.specs.Calls.{Answer, openDone, readDone, writeDone, stepDone, stepClean, flushDone, refused, Call, read, write, part, step, flush, checked, readOutcome, writeOutcome, partOutcome, stepOutcome, steps, flushOutcome, decide, stepsPages, combined, callPages, Page, Buffers, lentOk, openStore, Store, zeroPage, memoryOf, buffersOf, carriedOut, call}
 
@@ -825,24 +825,68 @@ vacant-of-three = record {
   };
 }
 
--- refusal 6 of a write and of a step names the block of the least recent of three frames, of a flush the lowest worn
+-- a worn block at the old end is passed over: way 7 takes the next frame, whose block has wear W-1; a step and a flush
+-- are refused at the worn block, before and after
 worn-of-three : Row
 worn-of-three = record {
   sizes = three;
-  wear = 0 ∷ 9 ∷ 9 ∷ 0 ∷ 0 ∷ 0 ∷ [];
-  calls = write 0 (1 ∷ []) ∷ write 2 (2 ∷ []) ∷ write 4 (3 ∷ []) ∷ write 6 (4 ∷ []) ∷ write 8 (5 ∷ []) ∷ read 0 (0 ∷ []) ∷ read 2 (0 ∷ []) ∷ write 10 (6 ∷ []) ∷ step ∷ flush ∷ read 4 (0 ∷ []) ∷ write 10 (7 ∷ []) ∷ step ∷ [];
+  wear = 8 ∷ 0 ∷ 9 ∷ 0 ∷ 0 ∷ 0 ∷ [];
+  calls = write 0 (1 ∷ []) ∷ write 2 (2 ∷ []) ∷ write 4 (3 ∷ []) ∷ write 6 (4 ∷ []) ∷ write 8 (5 ∷ []) ∷ read 0 (0 ∷ []) ∷ read 2 (0 ∷ []) ∷ step ∷ flush ∷ write 10 (6 ∷ []) ∷ step ∷ flush ∷ [];
   gives = record {
     opening = openDone;
-    answers = way 3 ∷ way 3 ∷ way 5 ∷ way 5 ∷ way 5 ∷ readDone 2 ∷ readDone 2 ∷ refused 6 2 ∷ refused 6 2 ∷ refused 6 1 ∷ readDone 2 ∷ writeDone 7 0 1 ∷ refused 6 1 ∷ [];
-    bytes = 1 ∷ 2 ∷ 3 ∷ 4 ∷ 5 ∷ 1 ∷ 2 ∷ 6 ∷ 0 ∷ 0 ∷ 3 ∷ 7 ∷ 0 ∷ [];
+    answers = way 3 ∷ way 3 ∷ way 5 ∷ way 5 ∷ way 5 ∷ readDone 2 ∷ readDone 2 ∷ refused 6 2 ∷ refused 6 2 ∷ writeDone 7 0 1 ∷ refused 6 2 ∷ refused 6 2 ∷ [];
+    bytes = 1 ∷ 2 ∷ 3 ∷ 4 ∷ 5 ∷ 1 ∷ 2 ∷ 0 ∷ 0 ∷ 6 ∷ 0 ∷ 0 ∷ [];
     slots = 8 ∷ 10 ∷ [];
     frames = 3 ∷ 1 ∷ 2 ∷ [];
     valid = 1 ∷ 1 ∷ 1 ∷ [];
-    recency = 1 ∷ 2 ∷ 0 ∷ [];
+    recency = 2 ∷ 1 ∷ 0 ∷ [];
     flash = 1 ∷ 255 ∷ 255 ∷ 255 ∷ 255 ∷ 255 ∷ 255 ∷ 255 ∷ 255 ∷ 255 ∷ 255 ∷ 255 ∷ [];
-    pspace = 5 ∷ 7 ∷ [];
+    pspace = 5 ∷ 6 ∷ [];
     bspace = 4 ∷ 255 ∷ 2 ∷ 0 ∷ 3 ∷ 0 ∷ [];
-    wear = 1 ∷ 9 ∷ 9 ∷ 0 ∷ 0 ∷ 0 ∷ [];
+    wear = 9 ∷ 0 ∷ 9 ∷ 0 ∷ 0 ∷ 0 ∷ [];
+  };
+}
+
+-- all three frames hold worn blocks: a write and a part write are refused and name the block of the least recent frame,
+-- which is neither the lowest block nor in the first frame; a step names it too, and a flush names the lowest
+all-worn : Row
+all-worn = record {
+  sizes = three;
+  wear = 9 ∷ 9 ∷ 9 ∷ 0 ∷ 0 ∷ 0 ∷ [];
+  calls = write 10 (1 ∷ []) ∷ write 4 (2 ∷ []) ∷ write 2 (3 ∷ []) ∷ write 0 (4 ∷ []) ∷ write 8 (5 ∷ []) ∷ read 4 (0 ∷ []) ∷ write 6 (6 ∷ []) ∷ part 6 0 (7 ∷ []) (8 ∷ []) ∷ step ∷ flush ∷ [];
+  gives = record {
+    opening = openDone;
+    answers = way 3 ∷ way 3 ∷ way 5 ∷ way 5 ∷ way 5 ∷ readDone 2 ∷ refused 6 1 ∷ refused 6 1 ∷ refused 6 1 ∷ refused 6 0 ∷ [];
+    bytes = 1 ∷ 2 ∷ 3 ∷ 4 ∷ 5 ∷ 2 ∷ 6 ∷ 8 ∷ 0 ∷ 0 ∷ [];
+    slots = 10 ∷ 8 ∷ [];
+    frames = 2 ∷ 1 ∷ 0 ∷ [];
+    valid = 1 ∷ 1 ∷ 1 ∷ [];
+    recency = 1 ∷ 2 ∷ 0 ∷ [];
+    flash = 255 ∷ 255 ∷ 255 ∷ 255 ∷ 255 ∷ 255 ∷ 255 ∷ 255 ∷ 255 ∷ 255 ∷ 255 ∷ 255 ∷ [];
+    pspace = 1 ∷ 5 ∷ [];
+    bspace = 2 ∷ 0 ∷ 3 ∷ 0 ∷ 4 ∷ 0 ∷ [];
+    wear = 9 ∷ 9 ∷ 9 ∷ 0 ∷ 0 ∷ 0 ∷ [];
+  };
+}
+
+-- only the most recent frame has a block below W: way 7 takes it, and takes it again for the block that fills it
+last-unworn : Row
+last-unworn = record {
+  sizes = three;
+  wear = 9 ∷ 9 ∷ 8 ∷ 0 ∷ 0 ∷ 0 ∷ [];
+  calls = write 10 (1 ∷ []) ∷ write 4 (2 ∷ []) ∷ write 2 (3 ∷ []) ∷ write 0 (4 ∷ []) ∷ write 8 (5 ∷ []) ∷ read 4 (0 ∷ []) ∷ write 6 (6 ∷ []) ∷ write 9 (7 ∷ []) ∷ read 4 (0 ∷ []) ∷ read 8 (0 ∷ []) ∷ step ∷ flush ∷ [];
+  gives = record {
+    opening = openDone;
+    answers = way 3 ∷ way 3 ∷ way 5 ∷ way 5 ∷ way 5 ∷ readDone 2 ∷ writeDone 7 2 1 ∷ writeDone 7 4 1 ∷ readDone 3 ∷ readDone 3 ∷ refused 6 1 ∷ refused 6 0 ∷ [];
+    bytes = 1 ∷ 2 ∷ 3 ∷ 4 ∷ 5 ∷ 2 ∷ 6 ∷ 7 ∷ 2 ∷ 5 ∷ 0 ∷ 0 ∷ [];
+    slots = 10 ∷ 9 ∷ [];
+    frames = 3 ∷ 1 ∷ 0 ∷ [];
+    valid = 1 ∷ 1 ∷ 1 ∷ [];
+    recency = 1 ∷ 2 ∷ 0 ∷ [];
+    flash = 255 ∷ 255 ∷ 255 ∷ 255 ∷ 2 ∷ 255 ∷ 255 ∷ 255 ∷ 5 ∷ 255 ∷ 255 ∷ 255 ∷ [];
+    pspace = 1 ∷ 7 ∷ [];
+    bspace = 6 ∷ 255 ∷ 3 ∷ 0 ∷ 4 ∷ 0 ∷ [];
+    wear = 9 ∷ 9 ∷ 9 ∷ 0 ∷ 1 ∷ 0 ∷ [];
   };
 }
 
@@ -1109,11 +1153,11 @@ table =
     p1 ∷ p2 ∷ p3 ∷ p4 ∷ p5 ∷ p6 ∷ p7 ∷ p8 ∷ p9 ∷ p10 ∷ p10-worn ∷ p11
     ∷ read-hit ∷ write-hit ∷ slot-hit ∷ join-recent ∷ tie-frames ∷ tie-blocks ∷ slot-order ∷ exchange-bytes ∷ step-order
     ∷ merge-count ∷ flush-all ∷ worn-blocks ∷ read-miss ∷ one-frame ∷ merge-first
-    ∷ first-used ∷ middle-used ∷ tie-of-three ∷ fewest-of-three ∷ steps-of-three ∷ flush-of-three ∷ vacant-of-three ∷ worn-of-three ∷ of-vectors ∷ stragglers
+    ∷ first-used ∷ middle-used ∷ tie-of-three ∷ fewest-of-three ∷ steps-of-three ∷ flush-of-three ∷ vacant-of-three ∷ worn-of-three ∷ all-worn ∷ last-unworn ∷ of-vectors ∷ stragglers
     ∷ blank-record ∷ short-wear ∷ overworn ∷ page-buffer
     ∷ part-ways ∷ part-buffers ∷ part-worn ∷ part-no-use ∷ part-hit ∷ part-unsound ∷ []
 
 -- every row holds, by computing with the definitions
 rows : map gave table ≡ map gives table
-unfolding p1 p2 p3 p4 p5 p6 p7 p8 p9 p10 p10-worn p11 read-hit write-hit slot-hit join-recent tie-frames tie-blocks slot-order exchange-bytes step-order merge-count flush-all worn-blocks read-miss one-frame merge-first first-used middle-used tie-of-three fewest-of-three steps-of-three flush-of-three vacant-of-three worn-of-three of-vectors stragglers blank-record short-wear overworn page-buffer part-ways part-buffers part-worn part-no-use part-hit part-unsound table gives gave runs erased openStore call carriedOut memoryOf buffersOf zeroPage lentOk callPages stepsPages decide flushOutcome steps stepOutcome partOutcome writeOutcome readOutcome checked combined laid steppedPages writtenPages readPage stepped written readDirectory rewrittenPages merged vacated exchangedPages exchanged givenSlot taken spare unmet joinedPages filled joined putFramePage putSlotPage entered putSlot touched recencyAfter wornBy worn programmed flashPage lowestWorn isWorn cached dueOf lowestInSlots occupied plan evictionPlan evictable fewestValid victim leastRecent readWay slotCount validCount frameOf frameWith inSlots slotOf inBlock inFrame sound framePast slotPast listedOnce cachedOnce framesDiffer slotsDiffer frameOk slotOk shapeOk sizesOk vacantDirectory blankCache every first firstFrom count all allPairs tab tabFrom bit mask nth argmax least pageAt pagesOf flat
+unfolding p1 p2 p3 p4 p5 p6 p7 p8 p9 p10 p10-worn p11 read-hit write-hit slot-hit join-recent tie-frames tie-blocks slot-order exchange-bytes step-order merge-count flush-all worn-blocks read-miss one-frame merge-first first-used middle-used tie-of-three fewest-of-three steps-of-three flush-of-three vacant-of-three worn-of-three all-worn last-unworn of-vectors stragglers blank-record short-wear overworn page-buffer part-ways part-buffers part-worn part-no-use part-hit part-unsound table gives gave runs erased openStore call carriedOut memoryOf buffersOf zeroPage lentOk callPages stepsPages decide flushOutcome steps stepOutcome partOutcome writeOutcome readOutcome checked combined laid steppedPages writtenPages readPage stepped written readDirectory rewrittenPages merged vacated exchangedPages exchanged givenSlot taken spare unmet joinedPages filled joined putFramePage putSlotPage entered putSlot touched recencyAfter wornBy worn programmed flashPage lowestWorn isWorn cached dueOf lowestInSlots occupied plan evictionPlan evictFrame anyEvictable evictable fewestValid victim leastRecent readWay slotCount validCount frameOf frameWith inSlots slotOf inBlock inFrame sound framePast slotPast listedOnce cachedOnce framesDiffer slotsDiffer frameOk slotOk shapeOk sizesOk vacantDirectory blankCache every first firstFrom count all allPairs tab tabFrom bit mask nth argmax least pageAt pagesOf flat
 rows = refl

@@ -1,5 +1,5 @@
 -- Reading, writing, flushing: what is decided, from numbers alone.
-use mathlib.Core.Bool.{Bool, true, false, _&&_, _||_}
+use mathlib.Core.Bool.{Bool, true, false, cond, _&&_, _||_}
 use mathlib.Core.List.{List}
 use Prim.Native.Nat.{ℕ, suc, _-_, _/_}
 use lib.Dec.{leb, ltb, eqb}
@@ -61,9 +61,16 @@ victim sz d = argmax (sz .N) (slotCount sz d)
 unfoldable pub fewestValid : Sizes → Directory → ℕ
 fewestValid sz d = least (sz .B) (validCount sz d) (suc (sz .K))
 
--- way 7 may take any frame; the wear is at hand
+-- way 7 may take a frame whose block has wear below W
 unfoldable pub evictable : Sizes → Directory → List ℕ → ℕ → Bool
-evictable sz d w f = true
+evictable sz d w f = ltb (getD w (frameAt d f) 0) (sz .W)
+
+unfoldable pub anyEvictable : Sizes → Directory → List ℕ → Bool
+anyEvictable sz d w = ltb (first (sz .B) (evictable sz d w)) (sz .B)
+
+-- way 7's frame: one that it may take; where all frames hold worn blocks the one chosen ignoring wear, whose block refusal 6 then names
+unfoldable pub evictFrame : Choice → Sizes → Directory → List ℕ → ℕ
+evictFrame pick sz d w = cond (anyEvictable sz d w) (pick sz d (evictable sz d w)) (pick sz d (λ f. true))
 
 -- ---- write n: the first rule that applies
 
@@ -93,7 +100,7 @@ module _ (pick : Choice) (sz : Sizes) (d : Directory) (w : List ℕ) where
           | true ↦ fill v (frameOf sz d vacant)
           | false ↦ elim (ltb (fewestValid sz d) (slotCount sz d v)) [
             | true ↦ exchange v (pick sz d (λ f. eqb (validCount sz d f) (fewestValid sz d)))
-            | false ↦ evict v (pick sz d (evictable sz d w))
+            | false ↦ evict v (evictFrame pick sz d w)
           ]
         ]
       ]

@@ -1,6 +1,7 @@
--- The oldest occupied frame by the order of use, and what is due.
+-- The oldest occupied frame by the order of use, the oldest that way 7 may take, and what is due.
 use mathlib.Core.Path.{_≡_, refl, ap}
 use mathlib.Core.Bool.{true, false}
+use mathlib.Core.List.{List}
 use Prim.Native.Nat.{ℕ, _≤_, _<_}
 use native.Mathlib.Omega.{arith}
 use lib.Dec.{ltb}
@@ -11,7 +12,7 @@ use Rattle.prelude.proofs.Scan.{Missed, first-is, first-at, first-hit}
 use Rattle.model.specs.Sizes.{Sizes}
 use Rattle.model.specs.Directory.{Directory, frameAt, recencyAt}
 use Rattle.model.specs.Soundness.{Sound}
-use Rattle.model.specs.Policy.{leastRecent, occupied, lowestInSlots, dueOf, due, clean}
+use Rattle.model.specs.Policy.{leastRecent, evictable, anyEvictable, evictFrame, occupied, lowestInSlots, dueOf, due, clean}
 use Rattle.model.proofs.Plan.{leastRecent-picks}
 use Rattle.policy.specs.Views.{oldestOccupied}
 
@@ -29,6 +30,23 @@ module _ (sz : Sizes) (d : Directory) (s : Sound sz d) where
       (λ t. let l = ltb-true (first (sz .B) (occupied d)) (sz .B) t in let k = s .listed .recency-has (first (sz .B) (occupied d)) l in
       clash (rw (k .2) (first-hit (sz .B) (occupied d) l)) (h (k .0) (k .1)))
       (λ t. rw t)
+
+  -- ---- way 7's frame
+
+  module _ (w : List ℕ) where
+    -- way 7 may take the frame at position i of the order, and none before it
+    pub evict-at : (i : ℕ) → i < sz .B → Missed (λ j. evictable sz d w (recencyAt d j)) i → evictable sz d w (recencyAt d i) ≡ true → recencyAt d i ≡ evictFrame leastRecent sz d w
+    unfolding evictFrame anyEvictable leastRecent
+    evict-at i l h e = let r = s .listed .recency-lt i l in let k = first-at (sz .B) (evictable sz d w) (recencyAt d i) r e in
+        rw (lt-ltb (first (sz .B) (evictable sz d w)) (sz .B) (omega arith)) (ap (recencyAt d) (first-is (sz .B) (λ j. evictable sz d w (recencyAt d j)) i (omega arith) h (λ q. e)))
+
+    -- it may take none
+    pub evict-none : Missed (λ j. evictable sz d w (recencyAt d j)) (sz .B) → recencyAt d 0 ≡ evictFrame leastRecent sz d w
+    unfolding evictFrame anyEvictable leastRecent
+    evict-none h = by-test (ltb (first (sz .B) (evictable sz d w)) (sz .B))
+        (λ t. let l = ltb-true (first (sz .B) (evictable sz d w)) (sz .B) t in let k = s .listed .recency-has (first (sz .B) (evictable sz d w)) l in
+        clash (rw (k .2) (first-hit (sz .B) (evictable sz d w) l)) (h (k .0) (k .1)))
+        (λ t. rw t (ap (recencyAt d) (first-is (sz .B) (λ j. true) 0 (omega arith) (λ j l. absurd (omega arith)) (λ q. refl))))
 
   -- ---- what is due
 

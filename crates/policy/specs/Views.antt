@@ -7,7 +7,7 @@ use lib.Dec.{leb, ltb}
 use lib.ListN.{length, getD}
 use Rattle.prelude.specs.Scan.{first}
 use Rattle.model.specs.Sizes.{Sizes}
-use Rattle.model.specs.Directory.{Directory}
+use Rattle.model.specs.Directory.{Directory, frameAt}
 use Rattle.model.specs.Soundness.{Sound}
 use Rattle.model.specs.Policy as model
 use Rattle.model.specs.Policy.{frameOf, validCount, slotCount, leastRecent, victim, slotHit, frameHit, freeSlot, join, fill, exchange, evict, clean, due, occupied}
@@ -59,3 +59,9 @@ pub record SomeValid (sz : Sizes) (d : Directory) (v : ℕ) : Type 0 where
 pub record WithWear (sz : Sizes) (d : Directory) (w : List ℕ) : Type 0 where
   pub sound : Sound sz d
   pub wear-length : length w ≡ sz .N
+
+-- and no frame is vacant
+pub record AllOccupied (sz : Sizes) (d : Directory) (w : List ℕ) : Type 0 where
+  pub sound : Sound sz d
+  pub wear-length : length w ≡ sz .N
+  pub block-lt : (f : ℕ) → f < sz .B → frameAt d f < sz .N

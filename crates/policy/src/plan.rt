@@ -8,14 +8,13 @@ use cache::Directory;
 use cache::Sizes;
 use cache::VACANT;
 ghost use mathlib.Core.Path.{_≡_};
-ghost use Rattle.model.specs.Soundness.{Sound};
 ghost use Rattle.model.specs.Policy.{leastRecent, victim, evictionPlan, plan};
 ghost use Rattle.cache.specs.View.{sizesOf, directoryOf};
-ghost use Rattle.policy.specs.Views.{planOf};
+ghost use Rattle.policy.specs.Views.{planOf, WithWear};
 
-// The plan of a write of page n. The wear is handed on for the choice of way 7.
+// The plan of a write of page n. The wear is for the choice of way 7.
 pub fn plan(z: Sizes, d: Directory, n: PageNo, wear: &[u32]) -> Plan
-    requires { ⌜ Sound (sizesOf z) (directoryOf d) ⌝ }
+    requires { ⌜ WithWear (sizesOf z) (directoryOf d) (now wear) ⌝ }
     ensures { λ r. ⌜ planOf r ≡ plan leastRecent (sizesOf z) (directoryOf d) (now (wear .entry)) (n .0) ⌝ }
 {
     let slot = lookup::find(z, d, n);
@@ -32,9 +31,9 @@ pub fn plan(z: Sizes, d: Directory, n: PageNo, wear: &[u32]) -> Plan
     eviction_plan(z, d, wear)
 }
 
-// Ways 4 to 7, for the victim. Way 7 takes any frame, so that the wear is not read.
+// Ways 4 to 7, for the victim.
 pub fn eviction_plan(z: Sizes, d: Directory, wear: &[u32]) -> Plan
-    requires { ⌜ Sound (sizesOf z) (directoryOf d) ⌝ }
+    requires { ⌜ WithWear (sizesOf z) (directoryOf d) (now wear) ⌝ }
     ensures { λ r. ⌜ planOf r ≡ evictionPlan leastRecent (sizesOf z) (directoryOf d) (now (wear .entry)) (victim (sizesOf z) (directoryOf d)) ⌝ }
 {
     let v = victim::victim(z, d);
@@ -52,6 +51,6 @@ pub fn eviction_plan(z: Sizes, d: Directory, wear: &[u32]) -> Plan
         let f = victim::least_recent_with(z, d, fewest);
         return Plan::Exchange(b, f);
     }
-    let f = victim::least_recent(z, d);
+    let f = victim::evict_frame(z, d, wear);
     Plan::Evict(b, f)
 }

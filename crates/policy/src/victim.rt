@@ -5,13 +5,11 @@ use cache::Directory;
 use cache::Sizes;
 use cache::VACANT;
 ghost use mathlib.Core.Path.{_≡_};
-ghost use mathlib.Core.List.{List};
-ghost use Prim.Native.Nat.{ℕ};
 ghost use lib.Dec.{eqb};
 ghost use Rattle.model.specs.Soundness.{Sound};
-ghost use Rattle.model.specs.Policy.{validCount, leastRecent, fewestValid, evictable};
+ghost use Rattle.model.specs.Policy.{validCount, leastRecent, fewestValid, evictFrame};
 ghost use Rattle.cache.specs.View.{sizesOf, directoryOf};
-ghost use Rattle.policy.specs.Views.{victimOf, SomeValid};
+ghost use Rattle.policy.specs.Views.{victimOf, SomeValid, AllOccupied};
 
 // The block with the most pages in slots, the lowest among equals; no pages where all slots are vacant. The pages of each block are
 // counted in a table. A rank is a count times 4,096 less the block, so that one comparison finds the leader.
@@ -84,10 +82,22 @@ pub fn least_recent_with(z: Sizes, d: Directory, v: u32) -> usize
     0
 }
 
-// The least recent frame, which way 7 takes.
-pub fn least_recent(z: Sizes, d: Directory) -> usize
-    requires { ⌜ Sound (sizesOf z) (directoryOf d) ⌝ }
-    ensures { λ r. ⌜ ((w : List ℕ) → r ≡ leastRecent (sizesOf z) (directoryOf d) (evictable (sizesOf z) (directoryOf d) w)) ⌝ }
+// The frame that way 7 takes: the least recent whose block has wear below W; where every frame holds a worn block, the least recent.
+pub fn evict_frame(z: Sizes, d: Directory, wear: &[u32]) -> usize
+    requires { ⌜ AllOccupied (sizesOf z) (directoryOf d) (now wear) ⌝ }
+    ensures { λ r. ⌜ r ≡ evictFrame leastRecent (sizesOf z) (directoryOf d) (now (wear .entry)) ⌝ }
 {
-    d.recency[0] as usize
+    let recency = d.recency;
+    let frames = d.frames;
+    let mut i = 0;
+    while i < z.frames as usize {
+        let f = recency[i] as usize;
+        let b = frames[f];
+        let at = b.0 as usize;
+        if wear[at] < z.wear_limit {
+            return f;
+        }
+        i += 1;
+    }
+    recency[0] as usize
 }

@@ -6,7 +6,7 @@ impl Plain {
     /// Vacates the slots of the block with the most pages there.
     pub(super) fn make_room(&mut self, lent: &mut Buffers) -> Result<Answer, Refusal> {
         let (victim, pages) = self.victim();
-        let (way, f) = self.frame_for(victim, pages);
+        let (way, f) = self.frame_for(lent, victim, pages);
         let (mut erased, mut merged) = (None, 0);
         match way {
             4 | 5 => self.join(lent, victim, f),
@@ -42,7 +42,7 @@ impl Plain {
     }
 
     /// The way, and the frame that takes the victim's pages.
-    fn frame_for(&self, victim: u32, pages: u32) -> (u32, usize) {
+    fn frame_for(&self, lent: &Buffers, victim: u32, pages: u32) -> (u32, usize) {
         if let Some(f) = self.frame_of(victim) {
             return (4, f);
         }
@@ -54,8 +54,15 @@ impl Plain {
         let fewest = self.by_use().iter().map(|&f| f as usize).min_by_key(|&f| count(f));
         match fewest {
             Some(f) if count(f) < pages => (6, f),
-            _ => (7, self.0.directory.recency[0] as usize),
+            _ => (7, self.evict_frame(lent)),
         }
+    }
+
+    /// The least recent frame whose block has wear below the limit; where every frame holds a worn block, the least recent.
+    fn evict_frame(&self, lent: &Buffers) -> usize {
+        let frames = self.by_use();
+        let below = |f: u8| lent.wear[self.0.directory.frames[f as usize] as usize] < self.0.sizes.wear_limit;
+        frames.iter().copied().find(|&f| below(f)).unwrap_or(frames[0]) as usize
     }
 
     /// The pages of a block in slots go into frame f, which is the block's or vacant.

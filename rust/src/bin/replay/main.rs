@@ -8,7 +8,7 @@ mod print;
 use std::io::{self, BufWriter, Read, Write};
 
 /// How many of document 02's requests are in force.
-const RELEASE: u32 = 3;
+const RELEASE: u32 = 4;
 
 /// Whether what request `since` brings, or the base where it is 0, is in force.
 fn in_force(since: u32) -> bool {

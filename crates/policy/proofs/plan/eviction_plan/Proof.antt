@@ -2,7 +2,7 @@ use borrow.Author.Needs.{needs}
 use native.Mathlib.Omega.{arith}
 use mathlib.Core.Path.{_≡_, refl, sym, ap, _∙_}
 use Rattle.model.specs.Policy.{slotCount, leastRecent, victim, join, fill, exchange, evict}
-use Rattle.model.proofs.Plan.{leastRecent-picks, fewest-pick, plan-4, plan-5, plan-6, plan-7}
+use Rattle.model.proofs.Plan.{leastRecent-picks, occupied-all, fewest-pick, plan-4, plan-5, plan-6, plan-7}
 use Rattle.cache.specs.View.{sizesOf, directoryOf}
 use Rattle.policy.specs.declared.decision.Victim.{Victim}
 use Rattle.policy.specs.Views.{victimOf}
@@ -51,8 +51,8 @@ fewest-valid-requires c κs = search needs
 least-recent-with-requires : tie.Need-least-recent-with-requires
 least-recent-with-requires c κs =
     let a = c .before .before .before .before .before .before .before .before .before .before .before .before .args in let sz = sizesOf (a .z) in let d = directoryOf (a .d) in
-    let k = fewest-pick sz d (c .before .before .before .before .before .before .before .before .before .before .before .before .pre) leastRecent leastRecent-picks _ refl in
-    record { sound = c .before .before .before .before .before .before .before .before .before .before .before .before .pre; frame = _; frame-lt = k .0; frame-has = k .1 ∙ sym (c .before .before .fewest-valid .ensures) }
+    let k = fewest-pick sz d (c .before .before .before .before .before .before .before .before .before .before .before .before .pre .sound) leastRecent leastRecent-picks _ refl in
+    record { sound = c .before .before .before .before .before .before .before .before .before .before .before .before .pre .sound; frame = _; frame-lt = k .0; frame-has = k .1 ∙ sym (c .before .before .fewest-valid .ensures) }
 
 returns-3 : tie.Need-returns-3
 returns-3 c =
@@ -61,15 +61,17 @@ returns-3 c =
     let b = c .before .before .before .before .before .before .before .before .before .before .before .victim .result .block .0 in
     rw (← (block-is (c .before .before .before .before .before .before .before .before .before .before .before))) (ap (exchange b) (c .least-recent-with .ensures ∙ rw few) ∙ sym (plan-6 leastRecent sz d (a .wear .now) b (omega arith) (omega arith) (omega arith)))
 
-least-recent-requires : tie.Need-least-recent-requires
-least-recent-requires c κs = search needs
+evict-frame-requires : tie.Need-evict-frame-requires
+evict-frame-requires c κs =
+    let q = c .before .before .before .before .before .before .before .before .before .before .before .before .pre in let free = c .before .before .before .before .before .frame-of2 .ensures in
+    record { sound = q .sound; wear-length = q .wear-length; block-lt = occupied-all _ _ (q .sound) (omega arith) }
 
 returns-4 : tie.Need-returns-4
 returns-4 c =
     let a = c .before .before .before .before .before .before .before .before .before .before .before .before .before .args in let sz = sizesOf (a .z) in let d = directoryOf (a .d) in let own = c .before .before .before .before .before .before .before .before .before .frame-of .ensures in let free = c .before .before .before .before .before .before .frame-of2 .ensures in
     let few = c .before .before .before .fewest-valid .ensures in let p = pages-is (c .before .before .before .before .before .before .before .before .before .before .before) in
     let b = c .before .before .before .before .before .before .before .before .before .before .before .victim .result .block .0 in
-    rw (← (block-is (c .before .before .before .before .before .before .before .before .before .before .before))) (ap (evict b) (c .least-recent .ensures (a .wear .now)) ∙ sym (plan-7 leastRecent sz d (a .wear .now) b (omega arith) (omega arith) (omega arith)))
+    rw (← (block-is (c .before .before .before .before .before .before .before .before .before .before .before))) (ap (evict b) (c .evict-frame .ensures) ∙ sym (plan-7 leastRecent sz d (a .wear .now) b (omega arith) (omega arith) (omega arith)))
 
 pub eviction-plan-spec : {M : Type 1} → statement M
 eviction-plan-spec =
@@ -85,5 +87,5 @@ eviction-plan-spec =
     fewest-valid-requires
     least-recent-with-requires
     returns-3
-    least-recent-requires
+    evict-frame-requires
     returns-4)

@@ -1,0 +1,71 @@
+use mathlib.Core.Path.{sym, ap, _∙_}
+use native.Mathlib.Omega.{arith}
+use lib.ListN.{length, length-take, length-append}
+use lib.Seq.{take-at}
+use borrow.Author.Needs.{needs}
+use Rattle.page.proofs.move_short.Statement.{statement}
+use Rattle.page.proofs.move_short.Tie as tie
+
+move-sixteen-requires : tie.Need-move-sixteen-requires
+move-sixteen-requires c κs = search needs
+
+same-length : tie.Need-same-length
+same-length c = search needs
+
+returns : tie.Need-returns
+returns c = search needs
+
+move-ends-requires : tie.Need-move-ends-requires
+move-ends-requires c κs = search needs
+
+same-length-2 : tie.Need-same-length-2
+same-length-2 c = search needs
+
+returns-2 : tie.Need-returns-2
+returns-2 c = search needs
+
+array-borrow-prefix-t : tie.Need-array-borrow-prefix-t
+array-borrow-prefix-t c = search needs
+
+slice-aggregate-copy-bytes : tie.Need-slice-aggregate-copy-bytes
+slice-aggregate-copy-bytes c = simp length-take (omega arith)
+
+copy-bytes-requires : tie.Need-copy-bytes-requires
+copy-bytes-requires c κs = simp length-take (omega arith)
+
+array-share-prefix-t : tie.Need-array-share-prefix-t
+array-share-prefix-t c = let e = ap length (c .before .before .copy-bytes .ensures) in simp length-append (omega arith)
+
+slice-aggregate-copy-bytes-2 : tie.Need-slice-aggregate-copy-bytes-2
+slice-aggregate-copy-bytes-2 c = let e = ap length (c .before .before .before .copy-bytes .ensures) in simp (length-take, length-append) (omega arith)
+
+copy-bytes-requires-2 : tie.Need-copy-bytes-requires-2
+copy-bytes-requires-2 c κs = let e = ap length (c .before .before .before .copy-bytes .ensures) in simp (length-take, length-append) (omega arith)
+
+same-length-3 : tie.Need-same-length-3
+same-length-3 c = search needs
+
+returns-3 : tie.Need-returns-3
+returns-3 c =
+    let one = c .before .before .before .before .before .before in
+    let e = one .copy-bytes .ensures in
+    c .before .before .copy-bytes2 .ensures ∙ take-at (one .copy-bytes .last .0) _ _ (ap length e ∙ sym (one .before .before .before .before .before .before .pre .0)) ∙ e
+
+pub move-short-spec : {M : Type 1} → statement M
+move-short-spec =
+    tie.close
+    (tie.spec
+    move-sixteen-requires
+    same-length
+    returns
+    move-ends-requires
+    same-length-2
+    returns-2
+    array-borrow-prefix-t
+    slice-aggregate-copy-bytes
+    copy-bytes-requires
+    array-share-prefix-t
+    slice-aggregate-copy-bytes-2
+    copy-bytes-requires-2
+    same-length-3
+    returns-3)

@@ -1,5 +1,5 @@
--- The order of use while entries move down by one: those from at to below j have moved.
-use mathlib.Core.Path.{_≡_, _∙_}
+-- The order of use while entries move down by one: those from at to below j have moved; and the directory with another order.
+use mathlib.Core.Path.{_≡_, ap, _∙_}
 use mathlib.Core.Bool.{cond}
 use mathlib.Core.List.{List}
 use Prim.Native.Nat.{ℕ, suc, _+_, _≤_, _<_}
@@ -11,10 +11,14 @@ use lib.Seq.{getD-set-same, getD-set-other, ext-getD}
 use borrow.Author.Tests.{ltb-true, ltb-false, eqb-true, eqb-false, lt-ltb, le-ltb}
 use Rattle.prelude.specs.Scan.{first}
 use Rattle.prelude.proofs.Tests.{by-test}
+use Rattle.prelude.proofs.Scan.{position-is}
 use Rattle.prelude.proofs.Tab.{length-tab, getD-tab}
 use Rattle.model.specs.Sizes.{Sizes}
 use Rattle.model.specs.Directory.{Directory, recencyAt}
-use Rattle.model.specs.Moves.{recencyAfter}
+use Rattle.model.specs.Moves.{recencyAfter, touched}
+use Rattle.cache.specs.declared.Directory as cache
+use Rattle.cache.specs.View.{directoryOf}
+use Rattle.moves.specs.Numbers.{FrameOf, Listed, orderAlone}
 
 pub record Shifted (l : List ℕ) (at j : ℕ) (m : List ℕ) : Type 0 where
   pub long : length m ≡ 8
@@ -52,3 +56,18 @@ shifted-end sz d f at j m s e a b c = ext-getD 0 (set m j f) _ (simp (length-set
     (λ u. rw u (by-test (ltb i j)
     (λ w. let w2 = ltb-true i j w in rw (w, lt-ltb (suc i) (sz .B) (omega arith)))
     (λ w. let w2 = ltb-false i j w in rw (w, le-ltb (suc i) (sz .B) (omega arith), le-ltb i (sz .B) (omega arith))))))))
+
+module _ (sz : Sizes) (d : cache.Directory) (f : ℕ) where
+  pub listed : FrameOf sz (directoryOf d) f → Listed sz (d .recency) f
+  unfolding directoryOf
+  listed q = record {
+    limits = q .sound .limits;
+    long = q .sound .shape .recency-length;
+    found = position-is (sz .B) (recencyAt (directoryOf d)) (q .sound .listed .recency-has) f (q .frame-lt) .0;
+  }
+
+  -- the directory with frame f last in the order
+  pub with-order : (l : List ℕ) → l ≡ recencyAfter sz (orderAlone (d .recency)) f
+      → directoryOf (record { slots = d .slots; frames = d .frames; valid = d .valid; recency = l }) ≡ touched sz (directoryOf d) f
+  unfolding directoryOf touched recencyAfter orderAlone
+  with-order l e = ap (λ (x : List ℕ). record { slots = directoryOf d .slots; frames = directoryOf d .frames; valid = d .valid; recency = x }) e

@@ -75,6 +75,18 @@ pub fn put_slot(mut d: Directory, i: usize, n: PageNo) -> Directory
     d
 }
 
+// Frame f becomes most recent, and slot i takes page n: one function for both, since each takes a copy of the directory.
+pub fn entered(z: Sizes, mut d: Directory, f: usize, i: usize, n: PageNo) -> Directory
+    requires { ⌜ FrameOf (sizesOf z) (directoryOf d) f × (i < 128) ⌝ }
+    ensures { λ r. ⌜ directoryOf r ≡ putSlot (touched (sizesOf z) (directoryOf d) f) i (n .0) ⌝ }
+{
+    let before = d.recency;
+    let recency = made_last(z, before, f);
+    d.recency = recency;
+    d.slots[i] = n;
+    d
+}
+
 // Frame f takes block b with the valid pages v.
 pub fn with_frame(mut d: Directory, f: usize, b: BlockNo, v: u64) -> Directory
     requires { ⌜ f < 8 ⌝ }

@@ -24,11 +24,11 @@ module _ (sz : Sizes) (d : Directory) (f : ℕ) (pspace page : List ℕ) (q : En
   pub over : (i : ℕ) → i ≡ slotOf sz d vacant → OverSlot sz i pspace page
   over i e = record { limits = q .sound .limits; slot-lt = slot-lt i e; pspace-length = q .pspace-length; page-length = q .page-length }
 
-  pub enter-is : (n i : ℕ) (t r : Directory) (pspace′ : List ℕ) → i ≡ slotOf sz d vacant → t ≡ touched sz d f → r ≡ putSlot t i n
+  pub enter-is : (n i : ℕ) (r : Directory) (pspace′ : List ℕ) → i ≡ slotOf sz d vacant → r ≡ putSlot (touched sz d f) i n
       → slotPages sz pspace′ ≡ set (slotPages sz pspace) i page → Entered sz d f pspace n page r pspace′
   unfolding entered touched slotOf
-  enter-is n i t r pspace′ ei et er ep = record {
-    directory-is = er ∙ ap (λ (x : Directory). putSlot x i n) et ∙ ap (λ (x : ℕ). putSlot (touched sz d f) x n) ei;
+  enter-is n i r pspace′ ei er ep = record {
+    directory-is = er ∙ ap (λ (x : ℕ). putSlot (touched sz d f) x n) ei;
     pages-are = ep ∙ ap (λ (x : ℕ). set (slotPages sz pspace) x page) ei;
   }
 

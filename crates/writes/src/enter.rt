@@ -53,6 +53,5 @@ fn enter(z: Sizes, d: Directory, pspace: &mut [u8], f: usize, n: PageNo, page: &
 {
     let i = lookup::slot_of(z, d, PageNo(VACANT));
     put::over_slot(z, pspace, i, page);
-    let t = numbers::touched(z, d, f);
-    numbers::put_slot(t, i, n)
+    numbers::entered(z, d, f, i, n)
 }

@@ -10,6 +10,8 @@ use cache::Sizes;
 ghost use mathlib.Core.Path.{_≡_};
 ghost use Rattle.model.specs.Policy.{leastRecent};
 ghost use Rattle.model.specs.Calls.{read, call};
+ghost use Rattle.model.specs.Soundness.{sound as isSound};
+ghost use Rattle.cache.specs.View.{sizesOf, directoryOf};
 ghost use Rattle.answer.specs.Carried.{buffers};
 ghost use Rattle.answer.specs.declared.Read.the-variants.{Refused};
 ghost use Rattle.store.specs.View.{storeOf, storeWith, seenResult, readResult};
@@ -29,15 +31,18 @@ impl Cache {
         ensures { λ r. ⌜ readResult r (buffers (now (flash .entry)) (now (wear .entry)) (now (pspace .entry)) (now (bspace .entry))) (now (page .exit)) ≡ call leastRecent (storeOf self (buffers (now (flash .entry)) (now (wear .entry)) (now (pspace .entry)) (now (bspace .entry)))) (read (n .0) (now (page .entry))) ⌝ }
     {
         let z = self.sizes;
-        let mut d = self.directory;
-        let r = attempt(z, d, flash, wear, pspace, bspace, n, page);
+        let d = self.directory;
+        let before = d.recency;
+        let sound = d.sound(z);
+        let r = attempt(z, d, before, sound, flash, wear, pspace, bspace, n, page);
         let recency = r.recency;
         let answer = r.answer;
-        d.recency = recency;
+        let mut next = d;
+        next.recency = recency;
         ReadOut {
             cache: Cache {
                 sizes: z,
-                directory: d,
+                directory: next,
             },
             answer: answer,
         }
@@ -50,10 +55,12 @@ struct Seen {
     answer: Read,
 }
 
-// The checks, and the read.
+// The other checks, and the read. It hands d on whole and looks at nothing in it: so d is not copied to be handed on.
 fn attempt(
     z: Sizes,
     d: Directory,
+    before: [u8; 8],
+    sound: bool,
     flash: &[u8],
     wear: &[u32],
     pspace: &[u8],
@@ -61,10 +68,10 @@ fn attempt(
     n: PageNo,
     page: &mut [u8],
 ) -> Seen
+    requires { ⌜ (before ≡ d .recency) × (sound ≡ isSound (sizesOf z) (directoryOf d)) ⌝ }
     ensures { λ r. ⌜ seenResult z d r (buffers (now (flash .entry)) (now (wear .entry)) (now (pspace .entry)) (now (bspace .entry))) (now (page .exit)) ≡ call leastRecent (storeWith z d (buffers (now (flash .entry)) (now (wear .entry)) (now (pspace .entry)) (now (bspace .entry)))) (read (n .0) (now (page .entry))) ⌝ }
 {
-    let before = d.recency;
-    if !d.sound(z) {
+    if !sound {
         return refused(before, Refusal::Record);
     }
     if !lent::lengths_ok(z, flash.len(), wear.len(), pspace.len(), bspace.len()) {

@@ -132,9 +132,9 @@ pub extern "C" fn clash_step(
     ensures { λ r. ⌜ replied (stepSaid (r .answer)) r (buffers (now (flash .exit)) (now (wear .exit)) (now (pspace .entry)) (now (bspace .exit))) [] ≡ call leastRecent (storeOf c (buffers (now (flash .entry)) (now (wear .entry)) (now (pspace .entry)) (now (bspace .entry)))) step ⌝ }
 {
     let o = c.flush_step(flash, wear, pspace, bspace);
-    let cache = o.cache;
     let said = o.answer;
     let answer = step_answer(said);
+    let cache = o.cache;
     Reply { cache, answer }
 }
 

@@ -15,21 +15,14 @@ ghost use Rattle.cache.specs.View.{sizesOf, directoryOf};
 ghost use Rattle.moves.specs.Numbers.{FrameOf, Listed, orderAlone, withFrame, offsetIn};
 
 // Frame f becomes most recent; those after it in the order move down by one.
-pub fn touched(z: Sizes, d: Directory, f: usize) -> Directory
+pub fn touched(z: Sizes, mut d: Directory, f: usize) -> Directory
     requires { ⌜ FrameOf (sizesOf z) (directoryOf d) f ⌝ }
     ensures { λ r. ⌜ directoryOf r ≡ touched (sizesOf z) (directoryOf d) f ⌝ }
 {
-    let slots = d.slots;
-    let frames = d.frames;
-    let valid = d.valid;
     let before = d.recency;
-    let recency = made_last(z, before, f);
-    Directory {
-        slots,
-        frames,
-        valid,
-        recency,
-    }
+    let after = made_last(z, before, f);
+    d.recency = after;
+    d
 }
 
 // The order of use with frame f last. The order alone, since a function that looks into the directory has it copied.

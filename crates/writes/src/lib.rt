@@ -43,20 +43,28 @@ pub fn write(
     match plan {
         Plan::SlotHit(i) => {
             put::over_slot(z, pspace, i, page);
-            done(d, 1)
+            return done(d, 1);
         }
         Plan::FrameHit(f) => {
             put::over_frame_page(z, bspace, f, n, page);
-            done(numbers::touched(z, d, f), 2)
+            return done(numbers::touched(z, d, f), 2);
         }
         Plan::FreeSlot(i) => {
             put::over_slot(z, pspace, i, page);
-            done(numbers::put_slot(d, i, n), 3)
+            return done(numbers::put_slot(d, i, n), 3);
         }
-        Plan::Join(v, f) => done(enter::join(z, d, pspace, bspace, v, f, n, page), 4),
-        Plan::Fill(v, f) => done(enter::join(z, d, pspace, bspace, v, f, n, page), 5),
-        Plan::Exchange(v, f) => done(enter::exchange(z, d, pspace, bspace, v, f, n, page), 6),
-        Plan::Evict(v, f) => evict::evict(z, d, flash, wear, pspace, bspace, v, f, n, page),
+        Plan::Join(v, f) => {
+            return done(enter::join(z, d, pspace, bspace, v, f, n, page), 4);
+        }
+        Plan::Fill(v, f) => {
+            return done(enter::join(z, d, pspace, bspace, v, f, n, page), 5);
+        }
+        Plan::Exchange(v, f) => {
+            return done(enter::exchange(z, d, pspace, bspace, v, f, n, page), 6);
+        }
+        Plan::Evict(v, f) => {
+            return evict::evict(z, d, flash, wear, pspace, bspace, v, f, n, page);
+        }
     }
 }
 

@@ -185,46 +185,46 @@ write-spec =
     enum-known-plan
     over-slot-requires
     done-requires
+    same-length
+    same-length-2
+    returns
     enum-known-plan-2
     over-frame-page-requires
     touched-requires
     done-requires-2
+    same-length-3
+    same-length-4
+    returns-2
     enum-known-plan-3
     over-slot-requires-2
     put-slot-requires
     done-requires-3
-    enum-known-plan-4
-    join-requires
-    done-requires-4
-    enum-known-plan-5
-    join-requires-2
-    done-requires-5
-    enum-known-plan-6
-    exchange-requires
-    done-requires-6
-    enum-known-plan-7
-    evict-requires
-    same-length
-    same-length-2
-    returns
-    same-length-3
-    same-length-4
-    returns-2
     same-length-5
     same-length-6
     returns-3
+    enum-known-plan-4
+    join-requires
+    done-requires-4
     same-length-7
     same-length-8
     same-length-9
     returns-4
+    enum-known-plan-5
+    join-requires-2
+    done-requires-5
     same-length-10
     same-length-11
     same-length-12
     returns-5
+    enum-known-plan-6
+    exchange-requires
+    done-requires-6
     same-length-13
     same-length-14
     same-length-15
     returns-6
+    enum-known-plan-7
+    evict-requires
     same-length-16
     same-length-17
     same-length-18

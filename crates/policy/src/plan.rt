@@ -28,6 +28,31 @@ pub fn plan(z: Sizes, d: Directory, n: PageNo, wear: &[u32]) -> Plan
     if slot.free < z.slots as usize {
         return Plan::FreeSlot(slot.free);
     }
+    let slots = d.slots;
+    let frames = d.frames;
+    let valid = d.valid;
+    let recency = d.recency;
+    make_room(z, slots, frames, valid, recency, wear)
+}
+
+// Ways 4 to 7, for the directory's arrays: handed on whole, it would be copied before the page is looked for.
+fn make_room(
+    z: Sizes,
+    slots: [PageNo; 128],
+    frames: [BlockNo; 8],
+    valid: [u64; 8],
+    recency: [u8; 8],
+    wear: &[u32],
+) -> Plan
+    requires { ⌜ WithWear (sizesOf z) (directoryOf (record { slots = slots; frames = frames; valid = valid; recency = recency })) (now wear) ⌝ }
+    ensures { λ r. ⌜ planOf r ≡ evictionPlan leastRecent (sizesOf z) (directoryOf (record { slots = slots; frames = frames; valid = valid; recency = recency })) (now (wear .entry)) (victim (sizesOf z) (directoryOf (record { slots = slots; frames = frames; valid = valid; recency = recency }))) ⌝ }
+{
+    let d = Directory {
+        slots,
+        frames,
+        valid,
+        recency,
+    };
     eviction_plan(z, d, wear)
 }
 

@@ -37,13 +37,13 @@ returns-3 c =
     let a = c .before .before .before .before .before .before .before .before .before .before .before .args in let e = c .before .before .before .before .before .before .before .before .before .find .ensures .0 in let f = c .before .before .before .before .before .frame-with .ensures in let g = c .before .before .before .before .before .before .before .before .before .find .ensures .1 (c .before .before .before .before .before .before .if1 .left) in
     ap freeSlot g ∙ sym (plan-3 leastRecent (sizesOf (a .z)) (directoryOf (a .d)) (a .wear .now) (a .n .0) (omega arith) (omega arith) (omega arith))
 
-eviction-plan-requires : tie.Need-eviction-plan-requires
-eviction-plan-requires c κs = search needs
+make-room-requires : tie.Need-make-room-requires
+make-room-requires c κs = search needs
 
 returns-4 : tie.Need-returns-4
 returns-4 c =
-    let a = c .before .before .before .before .before .before .before .before .before .before .before .before .args in let e = c .before .before .before .before .before .before .before .before .before .before .find .ensures .0 in let f = c .before .before .before .before .before .before .frame-with .ensures in let g = c .before .before .before .before .before .before .before .before .before .before .find .ensures .1 (c .before .before .before .before .before .before .before .if1 .left) in
-    c .eviction-plan .ensures ∙ sym (plan-full leastRecent (sizesOf (a .z)) (directoryOf (a .d)) (a .wear .now) (a .n .0) (omega arith) (omega arith) (omega arith))
+    let a = c .before .before .before .before .before .before .before .before .before .before .before .before .before .before .before .before .args in let e = c .before .before .before .before .before .before .before .before .before .before .before .before .before .before .find .ensures .0 in let f = c .before .before .before .before .before .before .before .before .before .before .frame-with .ensures in let g = c .before .before .before .before .before .before .before .before .before .before .before .before .before .before .find .ensures .1 (c .before .before .before .before .before .before .before .before .before .before .before .if1 .left) in
+    c .make-room .ensures ∙ sym (plan-full leastRecent (sizesOf (a .z)) (directoryOf (a .d)) (a .wear .now) (a .n .0) (omega arith) (omega arith) (omega arith))
 
 pub plan-spec : {M : Type 1} → statement M
 plan-spec =
@@ -57,5 +57,5 @@ plan-spec =
     returns-2
     cast-if3
     returns-3
-    eviction-plan-requires
+    make-room-requires
     returns-4)

@@ -1,5 +1,5 @@
 -- A part `&mut l[a..e]` that is lent, with a = i * s and e = a + s, is page i, and comes back as page i. So is a block, of size k * s.
-use mathlib.Core.Path.{_≡_, ap, _∙_, sym}
+use mathlib.Core.Path.{_≡_, ap, _∙_}
 use mathlib.Core.List.{List, [], _++_, append-nil}
 use Prim.Native.Nat.{ℕ, _+_, _-_, _*_, _≤_, _<_}
 use native.Mathlib.Omega.{arith}

@@ -1,7 +1,7 @@
 use borrow.Author.Needs.{needs}
 use native.Mathlib.Omega.{arith}
 use Prim.Native.Nat.{_-_, _≤_}
-use lib.ListN.{length, length-take, length-append}
+use lib.ListN.{length, length-take}
 use Rattle.page.proofs.Part.{ends}
 use Rattle.page.proofs.move_ends.Statement.{statement}
 use Rattle.page.proofs.move_ends.Tie as tie

@@ -1,30 +1,10 @@
 // Times the proved soundness test, linked from the static library of the crate bench_sound, beside a plain Rust test that takes the
 // record by value or by reference. Both use a filter of 4,096 bits. First all three must agree on sound and on spoilt records.
+mod record;
+
+use record::{Random, Record, Sizes, VACANT};
 use std::hint::black_box;
 use std::time::Instant;
-
-const VACANT: u32 = u32::MAX;
-
-#[repr(C)]
-#[derive(Clone, Copy)]
-struct Sizes {
-    page_size: u32,
-    pages_per_block: u32,
-    blocks: u32,
-    slots: u32,
-    frames: u32,
-    wear_limit: u32,
-}
-
-#[repr(C)]
-#[derive(Clone, Copy)]
-struct Record {
-    sizes: Sizes,
-    slots: [u32; 128],
-    frames: [u32; 8],
-    valid: [u64; 8],
-    recency: [u8; 8],
-}
 
 extern "C" {
     fn record_sound(r: Record) -> bool;
@@ -111,17 +91,6 @@ fn slots_ok(r: &Record, seen: &mut [u64; 64]) -> bool {
     }
     // without an early exit: this vectorises
     r.slots[p..].iter().fold(true, |ok, &y| ok & (y == VACANT))
-}
-
-struct Random(u64);
-
-impl Random {
-    fn below(&mut self, n: u32) -> u32 {
-        self.0 ^= self.0 << 13;
-        self.0 ^= self.0 >> 7;
-        self.0 ^= self.0 << 17;
-        ((self.0 >> 16) % n as u64) as u32
-    }
 }
 
 // A sound record, with every slot and frame that fits in use.

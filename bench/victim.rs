@@ -1,30 +1,10 @@
 // Times the proved victim search, linked from the static library of the crate bench_victim, beside plain Rust searches: one that multiplies by
 // reciprocals and one that divides. First all must agree, on records with all slots in use and on others.
+mod record;
+
+use record::{Random, Record, Sizes, VACANT};
 use std::hint::black_box;
 use std::time::Instant;
-
-const VACANT: u32 = u32::MAX;
-
-#[repr(C)]
-#[derive(Clone, Copy)]
-struct Sizes {
-    page_size: u32,
-    pages_per_block: u32,
-    blocks: u32,
-    slots: u32,
-    frames: u32,
-    wear_limit: u32,
-}
-
-#[repr(C)]
-#[derive(Clone, Copy)]
-struct Record {
-    sizes: Sizes,
-    slots: [u32; 128],
-    frames: [u32; 8],
-    valid: [u64; 8],
-    recency: [u8; 8],
-}
 
 #[repr(C)]
 #[derive(Clone, Copy, Debug, PartialEq)]
@@ -85,17 +65,6 @@ fn search(r: &Record, block_of: impl Fn(u32) -> u32) -> Victim {
         }
     }
     Victim { block: best, pages: most as u32 }
-}
-
-struct Random(u64);
-
-impl Random {
-    fn below(&mut self, n: u32) -> u32 {
-        self.0 ^= self.0 << 13;
-        self.0 ^= self.0 >> 7;
-        self.0 ^= self.0 << 17;
-        ((self.0 >> 16) % n as u64) as u32
-    }
 }
 
 // A sound record with no frame in use. Of 100 slots about `full` hold a page, any one that is not there yet.

@@ -1,8 +1,14 @@
 // Times the proved victim search, linked from the static library of the crate bench_victim, beside plain Rust searches: one that multiplies by
 // reciprocals and one that divides. First all must agree, on records with all slots in use and on others.
+#[allow(dead_code)]
+#[path = "store/src/random.rs"]
+mod random;
+#[allow(dead_code)]
+#[path = "../rust/src/record.rs"]
 mod record;
 
-use record::{Random, Record, Sizes, VACANT};
+use random::Random;
+use record::{Cache, Sizes, VACANT};
 use std::hint::black_box;
 use std::time::Instant;
 
@@ -14,10 +20,10 @@ struct Victim {
 }
 
 extern "C" {
-    fn record_victim(r: Record) -> Victim;
+    fn record_victim(r: Cache) -> Victim;
 }
 
-fn proved(r: Record) -> Victim {
+fn proved(r: Cache) -> Victim {
     unsafe { record_victim(r) }
 }
 
@@ -34,26 +40,26 @@ const fn reciprocals() -> [u32; 65] {
 const RECIPROCALS: [u32; 65] = reciprocals();
 
 #[inline(never)]
-fn by_value(r: Record) -> Victim {
+fn by_value(r: Cache) -> Victim {
     by_reference(&r)
 }
 
 #[inline(never)]
-fn by_reference(r: &Record) -> Victim {
+fn by_reference(r: &Cache) -> Victim {
     let m = RECIPROCALS[r.sizes.pages_per_block as usize] as u64;
     search(r, |n| (n as u64 * m >> 32) as u32)
 }
 
 #[inline(never)]
-fn dividing(r: Record) -> Victim {
+fn dividing(r: Cache) -> Victim {
     search(&r, |n| n / r.sizes.pages_per_block)
 }
 
 #[inline(always)]
-fn search(r: &Record, block_of: impl Fn(u32) -> u32) -> Victim {
+fn search(r: &Cache, block_of: impl Fn(u32) -> u32) -> Victim {
     let mut counts = [0u8; 4096];
     let (mut best, mut most) = (0, 0);
-    for &n in &r.slots[..r.sizes.slots as usize] {
+    for &n in &r.directory.slots[..r.sizes.slots as usize] {
         if n == VACANT {
             continue;
         }
@@ -68,12 +74,12 @@ fn search(r: &Record, block_of: impl Fn(u32) -> u32) -> Victim {
 }
 
 // A sound record with no frame in use. Of 100 slots about `full` hold a page, any one that is not there yet.
-fn filled(random: &mut Random, sizes: Sizes, full: u32) -> Record {
-    let mut r = Record { sizes, slots: [VACANT; 128], frames: [VACANT; 8], valid: [0; 8], recency: [0, 1, 2, 3, 4, 5, 6, 7] };
+fn filled(random: &mut Random, sizes: Sizes, full: u32) -> Cache {
+    let mut r = Cache { sizes, ..Cache::blank() };
     for j in 0..sizes.slots as usize {
         let n = random.below(sizes.blocks * sizes.pages_per_block);
-        if random.below(100) < full && !r.slots.contains(&n) {
-            r.slots[j] = n;
+        if random.below(100) < full && !r.directory.slots.contains(&n) {
+            r.directory.slots[j] = n;
         }
     }
     r
@@ -101,9 +107,9 @@ fn agree(random: &mut Random) {
 // Every page that a chip can have, alone in its slot. The product alone gives its block, so that the search never steps to another.
 fn every_page() {
     for k in 2..=64 {
-        let mut r = Record { sizes: sizes(k, 4096, 1), slots: [VACANT; 128], frames: [VACANT; 8], valid: [0; 8], recency: [0, 1, 2, 3, 4, 5, 6, 7] };
+        let mut r = Cache { sizes: sizes(k, 4096, 1), ..Cache::blank() };
         for n in 0..4096 * k {
-            r.slots[0] = n;
+            r.directory.slots[0] = n;
             assert_eq!(proved(r), Victim { block: n / k, pages: 1 });
             assert_eq!(by_reference(&r).block, n / k);
         }
@@ -112,7 +118,7 @@ fn every_page() {
 }
 
 // The time of one call in nanoseconds.
-fn batch(records: &[Record], mut search: impl FnMut(&Record) -> Victim) -> f64 {
+fn batch(records: &[Cache], mut search: impl FnMut(&Cache) -> Victim) -> f64 {
     let start = Instant::now();
     for _ in 0..8 {
         for r in records {
@@ -129,7 +135,7 @@ fn median(mut times: Vec<f64>) -> f64 {
 
 fn measure(random: &mut Random, pages_per_block: u32, blocks: u32, slots: u32) {
     let sizes = black_box(sizes(pages_per_block, blocks, slots));
-    let records: Vec<Record> = (0..64).map(|_| filled(random, sizes, 100)).collect();
+    let records: Vec<Cache> = (0..64).map(|_| filled(random, sizes, 100)).collect();
     let mut times = [vec![], vec![], vec![], vec![]];
     for _ in 0..1000 {
         times[0].push(batch(&records, |r| proved(*r)));

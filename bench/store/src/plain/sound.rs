@@ -1,5 +1,5 @@
 //! The soundness test, with a filter of 4,096 bits: only where a bit is met already are entries compared.
-use clash::{Cache, VACANT};
+use super::{Cache, VACANT};
 
 #[inline(always)]
 pub fn sound(c: &Cache) -> bool {

@@ -147,7 +147,7 @@ unfoldable pub stepped : Sizes → Directory → Due → Directory
 stepped sz d clean = d
 stepped sz d (due b f) = vacated (joined sz d b f) f
 
--- way 7 begins as a flush step of the frame's block does
+-- request A2: way 7 begins as a flush step of the frame's block does
 unfoldable pub written : Sizes → Directory → ℕ → Plan → Directory
 written sz d n (slotHit i) = d
 written sz d n (frameHit f) = touched sz d f

@@ -45,10 +45,10 @@ typedef struct {
 } clash_sizes;
 
 typedef struct {
-    uint32_t slots[128];
-    uint32_t frames[8];
-    uint64_t valid[8];
     uint8_t recency[8];
+    uint64_t valid[8];
+    uint32_t frames[8];
+    uint32_t slots[128];
 } clash_directory;
 
 /* The cache record: 640 bytes. */

@@ -23,14 +23,14 @@ pub struct Sizes {
 #[repr(C)]
 #[derive(Clone, Copy, Debug, PartialEq, Eq)]
 pub struct Directory {
-    /// a page number or [`VACANT`] for each slot
-    pub slots: [u32; 128],
-    /// a block number or [`VACANT`] for each frame
-    pub frames: [u32; 8],
-    /// the valid pages of each frame, bit i for offset i
-    pub valid: [u64; 8],
     /// the frames by their use, least recent first
     pub recency: [u8; 8],
+    /// the valid pages of each frame, bit i for offset i
+    pub valid: [u64; 8],
+    /// a block number or [`VACANT`] for each frame
+    pub frames: [u32; 8],
+    /// a page number or [`VACANT`] for each slot
+    pub slots: [u32; 128],
 }
 
 /// The cache record as it crosses to the archive. Its fields may be set at will: a record that is not sound is refused.
@@ -95,7 +95,7 @@ impl Cache {
     /// The record before any opening: each call on it is refused 4.
     pub fn blank() -> Cache {
         let sizes = Sizes::from([0; 6]);
-        let directory = Directory { slots: [VACANT; 128], frames: [VACANT; 8], valid: [0; 8], recency: [0, 1, 2, 3, 4, 5, 6, 7] };
+        let directory = Directory { recency: [0, 1, 2, 3, 4, 5, 6, 7], valid: [0; 8], frames: [VACANT; 8], slots: [VACANT; 128] };
         Cache { sizes, directory }
     }
 }

@@ -1,5 +1,4 @@
 -- Document 01's number and values for each answer.
-use Prim.Native.Nat.{ℕ}
 use Rattle.model.specs.Sizes.{vacant}
 use Rattle.model.specs.Calls.{Answer, openDone, readDone, writeDone, stepDone, stepClean, flushDone, refused}
 use Rattle.answer.specs.declared.Refusal.{Refusal}
@@ -8,8 +7,6 @@ use Rattle.answer.specs.declared.Opening.{Opening}
 use Rattle.answer.specs.declared.Opening.the-variants as openings
 use Rattle.answer.specs.declared.Read.{Read}
 use Rattle.answer.specs.declared.Read.the-variants as reads
-use Rattle.answer.specs.declared.Erased.{Erased}
-use Rattle.answer.specs.declared.Erased.the-variants as erasures
 use Rattle.answer.specs.declared.Write.{Write}
 use Rattle.answer.specs.declared.Write.the-variants as writes
 use Rattle.answer.specs.declared.Step.{Step}
@@ -33,12 +30,9 @@ abbrev pub readOf : Read → Answer
 readOf (reads.Done way) = readDone way
 readOf (reads.Refused why) = refusalOf why
 
-abbrev pub erasedOf : Erased → ℕ
-erasedOf (erasures.Block b) = b .0
-erasedOf erasures.Nothing = vacant
-
 abbrev pub writeOf : Write → Answer
-writeOf (writes.Done way erased merged) = writeDone way (erasedOf erased) merged
+writeOf (writes.Done way) = writeDone way vacant 0
+writeOf (writes.Rewrote block merged) = writeDone 7 (block .0) merged
 writeOf (writes.Refused why) = refusalOf why
 
 abbrev pub stepOf : Step → Answer

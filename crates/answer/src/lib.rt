@@ -29,19 +29,12 @@ pub enum Read {
     Refused(Refusal),
 }
 
-// The block that a write erased, if any.
-pub enum Erased {
-    Block(BlockNo),
-    Nothing,
-}
-
-// What a write answers: its way, 1 to 7, the block erased, and the merge reads.
+// What a write answers: its way, the block erased and the merge reads. Only way 7 erases a block and merges.
 pub enum Write {
-    Done {
-        way: u32,
-        erased: Erased,
-        merged: u32,
-    },
+    // ways 0 to 6
+    Done { way: u32 },
+    // way 7
+    Rewrote { block: BlockNo, merged: u32 },
     Refused(Refusal),
 }
 

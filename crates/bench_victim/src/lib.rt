@@ -22,5 +22,6 @@ pub extern "C" fn record_victim(r: Record) -> Victim
 {
     let sizes = r.sizes;
     let directory = r.directory;
-    policy::victim::victim(sizes, directory)
+    let slots = directory.page_numbers();
+    policy::victim::victim(sizes, &slots)
 }

@@ -12,10 +12,6 @@ use Rattle.model.specs.Directory.{Directory, frameAt, validAt}
 use Rattle.model.specs.Soundness.{slotOk, slotsDiffer, cachedOnce, frameOk}
 use Rattle.cache.specs.Filter.{inFilter}
 
--- the lists that a part is lent, as a directory: [] for one that it does not look at
-abbrev pub numbers : List ℕ → List ℕ → List ℕ → List ℕ → Directory
-numbers s f v r = record { slots = s; frames = f; valid = v; recency = r }
-
 -- slot j is as it should be, beside the slots before it and the frames
 unfoldable pub slotGood : Sizes → Directory → ℕ → Bool
 slotGood sz d j = slotOk sz d j && (all j (λ i. slotsDiffer sz d i j) && all (sz .B) (cachedOnce sz d j))

@@ -1,5 +1,6 @@
 // The cache record's numbers by value: its sizes and its directory, which says what stands where.
 mod filter;
+mod lists; // lists.rt: the directory as lists of plain numbers, and back
 mod soundness;
 
 use address::BlockNo;
@@ -57,14 +58,15 @@ impl Sizes {
     }
 }
 
-// A page number or VACANT for each slot (document 01's place), a block number or VACANT for each frame, the valid pages of
-// each frame, and the frames by their use (document 01's order of use), least recent first.
+// The frames by their use (document 01's order of use), least recent first, the valid pages of each frame, a block number or
+// VACANT for each frame, and a page number or VACANT for each slot (document 01's place). The short lists stand first: the
+// compiler then builds a record where it is handed back, without a copy of its own.
 #[repr(C)]
 pub struct Directory {
-    pub slots: [PageNo; 128],
-    pub frames: [BlockNo; 8],
-    pub valid: [u64; 8],
     pub recency: [u8; 8],
+    pub valid: [u64; 8],
+    pub frames: [BlockNo; 8],
+    pub slots: [PageNo; 128],
 }
 
 impl Directory {
@@ -73,10 +75,10 @@ impl Directory {
         ensures { λ r. ⌜ directoryOf r ≡ vacantDirectory ⌝ }
     {
         Directory {
-            slots: [PageNo(VACANT); 128],
-            frames: [BlockNo(VACANT); 8],
-            valid: [0u64; 8],
             recency: [0, 1, 2, 3, 4, 5, 6, 7],
+            valid: [0u64; 8],
+            frames: [BlockNo(VACANT); 8],
+            slots: [PageNo(VACANT); 128],
         }
     }
 }

@@ -1,6 +1,5 @@
 // The soundness test. One filter takes the frames' valid pages and then the slots' page numbers one by one; only where a
-// bit is met already are entries compared. The parts are lent the entries as plain numbers, since an array of page or block
-// numbers cannot be lent.
+// bit is met already are entries compared.
 use crate::Directory;
 use crate::Sizes;
 use crate::VACANT;
@@ -15,58 +14,44 @@ ghost use lib.ListN.{length, getD};
 ghost use Rattle.prelude.specs.Scan.{all, allPairs};
 ghost use Rattle.model.specs.Sizes.{InLimits};
 ghost use Rattle.model.specs.Directory.{inFrame};
-ghost use Rattle.model.specs.Soundness.{sound, framesDiffer, listedOnce, framePast, slotPast};
-ghost use Rattle.cache.specs.View.{sizesOf, directoryOf};
-ghost use Rattle.cache.specs.Soundness.{numbers, slotGood, FramesTested, Ready, FirstMet};
+ghost use Rattle.model.specs.Soundness.{sound, framesDiffer, listedOnce, framePast, slotPast, Shape};
+ghost use Rattle.cache.specs.View.{sizesOf, directoryOf, numbers};
+ghost use Rattle.cache.specs.Soundness.{slotGood, FramesTested, Ready, FirstMet};
 
 impl Directory {
     // Whether the record of these sizes and this directory is sound.
     pub fn sound(self, sizes: Sizes) -> bool
         ensures { λ r. ⌜ r ≡ sound (sizesOf sizes) (directoryOf self) ⌝ }
     {
-        if !sizes.ok() {
-            return false;
-        }
         let slots = self.page_numbers();
         let frames = self.block_numbers();
         let valid = self.valid;
         let recency = self.recency;
-        let mut seen = [0u64; 64];
-        frames_ok(sizes, &frames, &valid, &mut seen)
-            & frames_apart(sizes, &frames)
-            & order_ok(sizes, &recency)
-            & frames_past(sizes, &frames, &valid, &recency)
-            & slots_ok(sizes, &slots, &frames, &valid, &mut seen)
-            & slots_past(sizes, &slots)
+        lists_sound(sizes, &slots, &frames, &valid, &recency)
     }
+}
 
-    // The slots' entries as plain numbers.
-    fn page_numbers(self) -> [u32; 128]
-        ensures { λ r. ⌜ r ≡ directoryOf self .slots ⌝ }
-    {
-        let mut r = [0u32; 128];
-        let mut i = 0;
-        while i < 128 {
-            let x = self.slots[i];
-            r[i] = x.0;
-            i += 1;
-        }
-        r
+// The same of the directory's lists.
+fn lists_sound(
+    sizes: Sizes,
+    slots: &[u32; 128],
+    frames: &[u32; 8],
+    valid: &[u64; 8],
+    recency: &[u8; 8],
+) -> bool
+    requires { ⌜ Shape (numbers (now slots) (now frames) (now valid) (now recency)) ⌝ }
+    ensures { λ r. ⌜ r ≡ sound (sizesOf sizes) (numbers (now (slots .entry)) (now (frames .entry)) (now (valid .entry)) (now (recency .entry))) ⌝ }
+{
+    if !sizes.ok() {
+        return false;
     }
-
-    // The frames' entries as plain numbers.
-    fn block_numbers(self) -> [u32; 8]
-        ensures { λ r. ⌜ r ≡ directoryOf self .frames ⌝ }
-    {
-        let mut r = [0u32; 8];
-        let mut f = 0;
-        while f < 8 {
-            let x = self.frames[f];
-            r[f] = x.0;
-            f += 1;
-        }
-        r
-    }
+    let mut seen = [0u64; 64];
+    frames_ok(sizes, frames, valid, &mut seen)
+        & frames_apart(sizes, frames)
+        & order_ok(sizes, recency)
+        & frames_past(sizes, frames, valid, recency)
+        & slots_ok(sizes, slots, frames, valid, &mut seen)
+        & slots_past(sizes, slots)
 }
 
 // Each frame below B is vacant with no valid page, or holds a block and valid pages of it. The valid pages go into the

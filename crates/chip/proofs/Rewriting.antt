@@ -43,7 +43,7 @@ module _ (sz : Sizes) (d : Directory) (b f : ℕ) (flash wear bspace : List ℕ)
   unfolding mergedPage merged chipMemory
   page-is o l = by-test (bit (validAt d f) o)
       (λ t. rw t (sym (page-at (sz .S) (sz .K) _ (zeroPage sz) o l) ∙ block-page (sz .S) (sz .K) (sz .B) bspace (h .bspace-length) (zeroPage sz) f o (h .f-lt) l))
-      (λ t. rw t (sym (flash-page sz flash _ _ (b * sz .K + o) (page-lt sz (h .sound .limits) b o (h .b-lt) l))))
+      (λ t. rw t (sym (flash-page sz flash _ _ (b * sz .K + o) (page-lt sz (h .limits) b o (h .b-lt) l))))
 
   -- the part of b-space that is lent, and what comes back in it
   module _ (size : ℕ) (size-is : size ≡ sz .K * sz .S) where
@@ -60,16 +60,16 @@ module _ (sz : Sizes) (d : Directory) (b f : ℕ) (flash wear bspace : List ℕ)
       long = kept ∙ ap length (part-is bspace) ∙ length-pageAt (sz .K * sz .S) bspace f in-bspace
 
       stretch-page : (n : ℕ) → pageAt (sz .S) stretch (n % sz .K) ≡ page (n % sz .K)
-      stretch-page n = let l = offset-lt sz (h .sound .limits) n in
+      stretch-page n = let l = offset-lt sz (h .limits) n in
           sym (page-at (sz .S) (sz .K) stretch (zeroPage sz) (n % sz .K) l) ∙ ap (λ (x : List Page). getD x (n % sz .K) (zeroPage sz)) reads
           ∙ getD-tab (sz .K) _ (zeroPage sz) (n % sz .K) l ∙ rw (part-is bspace) (page-is (n % sz .K) l)
 
       -- it is put back
       bspace-is : framePages sz (putPage (sz .K * sz .S) bspace f stretch) ≡ rewrittenPages (zeroPage sz) sz d (chipMemory sz flash bspace) b f .bspace
       unfolding rewrittenPages chipMemory
-      bspace-is = block-put (sz .S) (sz .K) (sz .B) bspace (h .bspace-length) (zeroPage sz) f stretch (K-pos sz (h .sound .limits)) (h .f-lt) long
+      bspace-is = block-put (sz .S) (sz .K) (sz .B) bspace (h .bspace-length) (zeroPage sz) f stretch (K-pos sz (h .limits)) (h .f-lt) long
           ∙ tab-ext (zeroPage sz) (sz .B * sz .K) _ _ (λ k l. by-test (eqb (k / sz .K) f)
-          (λ t. rw t (page-at (sz .S) (sz .K) stretch (zeroPage sz) (k % sz .K) (offset-lt sz (h .sound .limits) k) ∙ stretch-page k))
+          (λ t. rw t (page-at (sz .S) (sz .K) stretch (zeroPage sz) (k % sz .K) (offset-lt sz (h .limits) k) ∙ stretch-page k))
           (λ t. rw t))
 
       -- it is programmed into the erased block
@@ -78,7 +78,7 @@ module _ (sz : Sizes) (d : Directory) (b f : ℕ) (flash wear bspace : List ℕ)
       unfolding programmed rewrittenPages chipMemory
       flash-is blank e = tab-ext (zeroPage sz) (sz .N * sz .K) _ _ (λ n l. by-test (eqb (n / sz .K) b)
           (λ t. rw t (stretch-page n))
-          (λ t. rw (t, block-put (sz .S) (sz .K) (sz .N) flash (h .flash-length) (zeroPage sz) b blank (K-pos sz (h .sound .limits)) (h .b-lt) e) (getD-tab (sz .N * sz .K) _ (zeroPage sz) n l ∙ rw t)))
+          (λ t. rw (t, block-put (sz .S) (sz .K) (sz .N) flash (h .flash-length) (zeroPage sz) b blank (K-pos sz (h .limits)) (h .b-lt) e) (getD-tab (sz .N * sz .K) _ (zeroPage sz) n l ∙ rw t)))
 
       pub rewritten-is : (flash₁ wear₁ flash₂ : List ℕ) → Erased sz b flash wear flash₁ wear₁
           → flashPages sz flash₂ ≡ programmedPages sz flash₁ b (part size (putPart size bspace f stretch) f)

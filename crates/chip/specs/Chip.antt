@@ -2,14 +2,13 @@
 use mathlib.Core.Path.{_≡_}
 use mathlib.Core.Bool.{cond}
 use mathlib.Core.List.{List, []}
-use Prim.Native.Nat.{ℕ, _+_, _*_, _<_}
+use Prim.Native.Nat.{ℕ, _+_, _*_, _^_, _<_}
 use lib.ListN.{length, getD, replicate}
 use Rattle.prelude.specs.Scan.{tab}
 use Rattle.prelude.specs.Bits.{bit}
 use Rattle.prelude.specs.Pages.{pageAt, putPage, pagesOf}
 use Rattle.model.specs.Sizes.{Sizes, InLimits}
-use Rattle.model.specs.Directory.{Directory}
-use Rattle.model.specs.Soundness.{Sound}
+use Rattle.model.specs.Directory.{Directory, validAt}
 use Rattle.model.specs.Policy.{mergeReads}
 use Rattle.model.specs.Moves.{Memory, programmed, worn, rewrittenPages}
 use Rattle.model.specs.Calls.{Page, zeroPage, flashPages, framePages}
@@ -60,9 +59,10 @@ pub record Erased (sz : Sizes) (b : ℕ) (flash wear flash′ wear′ : List ℕ
 unfoldable pub chipMemory : Sizes → List ℕ → List ℕ → Memory Page
 chipMemory sz flash bspace = record { flash = flashPages sz flash; pspace = []; bspace = framePages sz bspace }
 
--- it is of a sound directory and of buffers in their sizes, and the block is not worn
+-- the frame's valid pages are of a block, the buffers in their sizes, and the block is not worn
 pub record Rewritable (sz : Sizes) (d : Directory) (b f : ℕ) (flash wear bspace : List ℕ) : Type 0 where
-  pub sound : Sound sz d
+  pub limits : InLimits sz
+  pub valid-lt : validAt d f < 2 ^ sz .K
   pub b-lt : b < sz .N
   pub f-lt : f < sz .B
   pub flash-length : length flash ≡ sz .N * sz .K * sz .S

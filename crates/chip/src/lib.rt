@@ -1,14 +1,14 @@
 // Flash and wear: one function for each operation of the chip, and the rewrite of a block that is made of them.
 use address::BlockNo;
 use address::PageNo;
-use cache::Directory;
 use cache::Sizes;
 ghost use mathlib.Core.Path.{_≡_};
+ghost use mathlib.Core.List.{[]};
 ghost use Prim.Native.Nat.{_*_, _≤_};
 ghost use Rattle.prelude.specs.Pages.{pageAt, putPage};
 ghost use Rattle.model.specs.Sizes.{InLimits};
 ghost use Rattle.model.specs.Calls.{flashPages};
-ghost use Rattle.cache.specs.View.{sizesOf, directoryOf};
+ghost use Rattle.cache.specs.View.{sizesOf, numbers};
 ghost use Rattle.page.specs.Page.{HasPage};
 ghost use Rattle.chip.specs.Chip.{Facing, stretchPages, mergedPages, programmedPages, Erasable, Erased, Rewritable, Rewritten};
 
@@ -16,17 +16,17 @@ ghost use Rattle.chip.specs.Chip.{Facing, stretchPages, mergedPages, pro
 // Answers the number of merge reads.
 pub fn rewrite(
     z: Sizes,
-    d: Directory,
+    valid: &[u64; 8],
     flash: &mut [u8],
     wear: &mut [u32],
     bspace: &mut [u8],
     b: BlockNo,
     f: usize,
 ) -> u32
-    requires { ⌜ Rewritable (sizesOf z) (directoryOf d) (b .0) f (now flash) (now wear) (now bspace) ⌝ }
-    ensures { λ r. ⌜ Rewritten (sizesOf z) (directoryOf d) (b .0) f (now (flash .entry)) (now (wear .entry)) (now (bspace .entry)) r (now (flash .exit)) (now (wear .exit)) (now (bspace .exit)) ⌝ }
+    requires { ⌜ Rewritable (sizesOf z) (numbers [] [] (now valid) []) (b .0) f (now flash) (now wear) (now bspace) ⌝ }
+    ensures { λ r. ⌜ Rewritten (sizesOf z) (numbers [] [] (now (valid .entry)) []) (b .0) f (now (flash .entry)) (now (wear .entry)) (now (bspace .entry)) r (now (flash .exit)) (now (wear .exit)) (now (bspace .exit)) ⌝ }
 {
-    let v = d.valid[f];
+    let v = valid[f];
     let merged = z.pages_per_block - bitmap::count(v);
     let size = block_size(z);
     let a = f * size;

@@ -1,6 +1,5 @@
 // The store for C and Rust programs: the record and the answers cross by value, a slice as its pointer and its length.
 use address::PageNo;
-use answer::Erased;
 use answer::Flush;
 use answer::Opening;
 use answer::Read;
@@ -178,14 +177,8 @@ fn write_answer(a: Write) -> Answer
     ensures { λ r. ⌜ writeSaid r ≡ writeOf a ⌝ }
 {
     match a {
-        Write::Done {
-            way,
-            erased,
-            merged,
-        } => match erased {
-            Erased::Block(b) => done(way, b.0, 0, merged),
-            Erased::Nothing => done(way, VACANT, 0, merged),
-        },
+        Write::Done { way } => done(way, VACANT, 0, 0),
+        Write::Rewrote { block, merged } => done(7, block.0, 0, merged),
         Write::Refused(why) => refused(why),
     }
 }

@@ -1,35 +1,32 @@
 // The cleaning of one block, for a sound record and rightly sized buffers: a flush step's work, and the beginning of way 7.
 use address::BlockNo;
-use cache::Directory;
 use cache::Sizes;
+use cache::VACANT;
 use moves::join;
-use moves::numbers;
 ghost use Rattle.answer.specs.Carried.{buffers};
-ghost use Rattle.cache.specs.View.{sizesOf, directoryOf};
+ghost use Rattle.cache.specs.View.{sizesOf, numbers};
 ghost use Rattle.clean.specs.Clean.{Cleanable, BlockCleaned};
 
-// The directory once a block is cleaned, and the merge reads of its rewrite.
-pub struct Cleaned {
-    pub directory: Directory,
-    pub merged: u32,
-}
-
-// Block b's pages in slots join frame f, and the frame is rewritten and vacated.
+// Block b's pages in slots join frame f, and the frame is rewritten and vacated. Answers the number of merge reads.
 pub fn clean_block(
     z: Sizes,
-    d: Directory,
+    slots: &mut [u32; 128],
+    frames: &mut [u32; 8],
+    valid: &mut [u64; 8],
+    recency: &[u8; 8],
     flash: &mut [u8],
     wear: &mut [u32],
     pspace: &[u8],
     bspace: &mut [u8],
     b: BlockNo,
     f: usize,
-) -> Cleaned
-    requires { ⌜ Cleanable (sizesOf z) (directoryOf d) (buffers (now flash) (now wear) (now pspace) (now bspace)) (b .0) f ⌝ }
-    ensures { λ r. ⌜ BlockCleaned (sizesOf z) (directoryOf d) (buffers (now (flash .entry)) (now (wear .entry)) (now (pspace .entry)) (now (bspace .entry))) (b .0) f (directoryOf (r .directory)) (r .merged) (buffers (now (flash .exit)) (now (wear .exit)) (now (pspace .entry)) (now (bspace .exit))) ⌝ }
+) -> u32
+    requires { ⌜ Cleanable (sizesOf z) (numbers (now slots) (now frames) (now valid) (now recency)) (buffers (now flash) (now wear) (now pspace) (now bspace)) (b .0) f ⌝ }
+    ensures { λ r. ⌜ BlockCleaned (sizesOf z) (numbers (now (slots .entry)) (now (frames .entry)) (now (valid .entry)) (now (recency .entry))) (buffers (now (flash .entry)) (now (wear .entry)) (now (pspace .entry)) (now (bspace .entry))) (b .0) f (numbers (now (slots .exit)) (now (frames .exit)) (now (valid .exit)) (now (recency .entry))) r (buffers (now (flash .exit)) (now (wear .exit)) (now (pspace .entry)) (now (bspace .exit))) ⌝ }
 {
-    let joined = join::join(z, d, pspace, bspace, b, f);
-    let merged = chip::rewrite(z, joined, flash, wear, bspace, b, f);
-    let directory = numbers::vacated(joined, f);
-    Cleaned { directory, merged }
+    join::join(z, slots, frames, valid, recency, pspace, bspace, b, f);
+    let merged = chip::rewrite(z, valid, flash, wear, bspace, b, f);
+    frames[f] = VACANT;
+    valid[f] = 0;
+    merged
 }

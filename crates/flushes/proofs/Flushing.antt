@@ -1,6 +1,6 @@
 -- A flush under way: what holds before each of its turns, and what it comes to.
 use mathlib.Core.Path.{_≡_, refl, sym, ap, _∙_}
-use mathlib.Core.List.{List}
+use mathlib.Core.List.{List, []}
 use Prim.Native.Nat.{ℕ, zero, suc, _+_, _-_, _*_, _≤_, _<_}
 use native.Mathlib.Nat.{sub-zero, mul-le-mul-right, suc-mul}
 use native.Mathlib.Omega.{arith}
@@ -10,12 +10,13 @@ use Rattle.prelude.specs.Scan.{count}
 use Rattle.prelude.proofs.Scan.{count-le}
 use Rattle.model.specs.Sizes.{Sizes, vacant}
 use Rattle.model.specs.Directory.{Directory}
-use Rattle.model.specs.Policy.{leastRecent, clean, due, dueOf, cached, lowestWorn}
+use Rattle.model.specs.Policy.{inBlock, frameOf, slotCount, leastRecent, clean, due, dueOf, cached, lowestWorn}
 use Rattle.model.specs.Moves.{Memory}
 use Rattle.model.specs.Calls.{flushDone, refused, Tally, steps, flushOutcome, stepsPages, Page, Buffers, Fits, zeroPage, memoryOf}
 use Rattle.model.proofs.Soundness.{pages-small}
 use Rattle.model.proofs.Steps.{Below, stepped-sound, cached-now, cached-less, stepped-below}
 use Rattle.model.proofs.Calls.{flush-below}
+use Rattle.cache.specs.View.{numbers}
 use Rattle.answer.specs.Carried.{buffers, Ready}
 use Rattle.clean.specs.Clean.{Cleanable, BlockCleaned}
 use Rattle.flushes.specs.Flushes.{stateIn, FlushCarried, Flushable}
@@ -55,6 +56,11 @@ pub fits-kept : {sz : Sizes} {flash wear pspace bspace : List ℕ} (flash′ wea
 fits-kept flash′ wear′ bspace′ h a b c = record { flash-length = a ∙ h .flash-length; wear-length = b ∙ h .wear-length; pspace-length = h .pspace-length; bspace-length = c ∙ h .bspace-length }
 
 -- ---- a refused flush, and the first turn
+
+-- the valid pages and the order of use are not looked at
+pub worn-same : (sz : Sizes) (s f v r w : List ℕ) → lowestWorn sz (numbers s f [] []) w ≡ lowestWorn sz (numbers s f v r) w
+unfolding lowestWorn cached slotCount inBlock frameOf
+worn-same sz s f v r w = refl
 
 pub flush-worn : (sz : Sizes) (d : Directory) (u : Buffers) (b : ℕ) → b ≡ lowestWorn sz d (u .wear) → b < sz .N → FlushCarried sz d u (refused 6 b) d u
 unfolding flushOutcome

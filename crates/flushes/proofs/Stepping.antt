@@ -1,21 +1,28 @@
 -- A flush step, by what is due.
 use mathlib.Core.Path.{_≡_, refl, sym, ap}
 use mathlib.Core.Bool.{true, false}
+use mathlib.Core.List.{List, []}
 use Prim.Native.Nat.{ℕ, _<_}
 use native.Mathlib.Omega.{arith}
 use lib.ListN.{length}
 use Rattle.model.specs.Sizes.{Sizes}
 use Rattle.model.specs.Directory.{Directory}
-use Rattle.model.specs.Policy.{leastRecent, clean, due, dueOf, isWorn}
+use Rattle.model.specs.Policy.{inBlock, slotCount, leastRecent, clean, due, occupied, lowestInSlots, dueOf, isWorn}
 use Rattle.model.specs.Moves.{steppedPages}
 use Rattle.model.specs.Calls.{stepDone, stepClean, refused, stepOutcome, Buffers}
 use Rattle.model.proofs.Lookup.{block-vacant}
 use Rattle.model.proofs.Plan.{leastRecent-picks}
 use Rattle.model.proofs.Steps as steps
 use Rattle.model.proofs.Calls.{not-worn}
+use Rattle.cache.specs.View.{numbers}
 use Rattle.answer.specs.Carried.{Ready}
 use Rattle.clean.specs.Clean.{Cleanable, BlockCleaned}
 use Rattle.flushes.specs.Flushes.{StepCarried}
+
+-- the valid pages are not looked at
+pub due-same : (sz : Sizes) (s f v r : List ℕ) → dueOf leastRecent sz (numbers s f [] r) ≡ dueOf leastRecent sz (numbers s f v r)
+unfolding dueOf occupied leastRecent lowestInSlots slotCount inBlock
+due-same sz s f v r = refl
 
 module _ {sz : Sizes} {d : Directory} {u : Buffers} (q : Ready sz d u) where
   -- nothing is cached

@@ -1,5 +1,4 @@
 // The line of a call's answer, printed from the buffer's first byte on. Each function gives the bytes printed.
-use answer::Erased;
 use answer::Flush;
 use answer::Opening;
 use answer::Read;
@@ -10,7 +9,7 @@ use cache::VACANT;
 ghost use mathlib.Core.Path.{_≡_};
 ghost use Prim.Native.Nat.{_≤_};
 ghost use lib.ListN.{length};
-ghost use Rattle.answer.specs.Numbers.{refusalOf, openingOf, readOf, erasedOf, writeOf, stepOf, flushOf};
+ghost use Rattle.answer.specs.Numbers.{refusalOf, openingOf, readOf, writeOf, stepOf, flushOf};
 ghost use Rattle.print.specs.Print.{Printed, lineRoom, openLine, writeLine, readLine, stepLine, flushLine};
 ghost use Rattle.interpret.specs.View.{numberOf};
 
@@ -31,11 +30,8 @@ pub fn write(out: &mut [u8], n: u32, answer: Write) -> usize
     ensures { λ r. ⌜ Printed lineRoom (writeLine n (writeOf answer)) (now (out .entry)) 0 (now (out .exit)) r ⌝ }
 {
     match answer {
-        Write::Done {
-            way,
-            erased,
-            merged,
-        } => print::put_write(out, 0, n, way, block(erased), merged),
+        Write::Done { way } => print::put_write(out, 0, n, way, VACANT, 0),
+        Write::Rewrote { block, merged } => print::put_write(out, 0, n, 7, block.0, merged),
         Write::Refused(why) => print::put_write_refused(out, 0, n, number(why)),
     }
 }
@@ -85,15 +81,5 @@ fn number(why: Refusal) -> u32
         Refusal::Record => 4,
         Refusal::Page => 5,
         Refusal::Worn(_) => 6,
-    }
-}
-
-// The block erased, VACANT for none.
-fn block(erased: Erased) -> u32
-    ensures { λ r. ⌜ r ≡ erasedOf erased ⌝ }
-{
-    match erased {
-        Erased::Block(b) => b.0,
-        Erased::Nothing => VACANT,
     }
 }

@@ -3,7 +3,6 @@ use crate::join;
 use crate::numbers;
 use address::BlockNo;
 use address::PageNo;
-use cache::Directory;
 use cache::Sizes;
 use cache::VACANT;
 ghost use mathlib.Core.Path.{_≡_};
@@ -14,52 +13,68 @@ ghost use lib.ListN.{length};
 ghost use Rattle.page.specs.Page.{HasPage};
 ghost use Rattle.prelude.specs.Scan.{firstFrom};
 ghost use Rattle.model.specs.Sizes.{vacant};
-ghost use Rattle.cache.specs.View.{sizesOf, directoryOf};
+ghost use Rattle.cache.specs.View.{sizesOf, numbers};
 ghost use Rattle.moves.specs.Exchange.{leaves, OneSwapped, Swaps, Swapped, Exchanges, Exchanged};
 
 // The pages of block b in slots go into frame f, whose old pages go to the slots, and the frame is b's then. Only the frame's
 // own stretch of b-space is lent to the exchange.
 pub fn exchange(
     z: Sizes,
-    d: Directory,
+    slots: &mut [u32; 128],
+    frames: &mut [u32; 8],
+    valid: &mut [u64; 8],
+    recency: &[u8; 8],
     pspace: &mut [u8],
     bspace: &mut [u8],
     b: BlockNo,
     f: usize,
-) -> Directory
-    requires { ⌜ Exchanges (sizesOf z) (directoryOf d) (b .0) f (now pspace) (now bspace) ⌝ }
-    ensures { λ r. ⌜ Exchanged (sizesOf z) (directoryOf d) (b .0) f (now (pspace .entry)) (now (bspace .entry)) (directoryOf r) (now (pspace .exit)) (now (bspace .exit)) ⌝ }
+)
+    requires { ⌜ Exchanges (sizesOf z) (numbers (now slots) (now frames) (now valid) (now recency)) (b .0) f (now pspace) (now bspace) ⌝ }
+    ensures { λ _. ⌜ Exchanged (sizesOf z) (numbers (now (slots .entry)) (now (frames .entry)) (now (valid .entry)) (now (recency .entry))) (b .0) f (now (pspace .entry)) (now (bspace .entry)) (numbers (now (slots .exit)) (now (frames .exit)) (now (valid .exit)) (now (recency .entry))) (now (pspace .exit)) (now (bspace .exit)) ⌝ }
 {
-    let new = join::offsets(z, d, b, 0);
+    let new = join::offsets(z, slots, b, 0);
     let size = z.pages_per_block as usize * z.page_size as usize;
     let a = f * size;
     let e = a + size;
-    swap(z, d, pspace, &mut bspace[a..e], b, f, new)
+    swap(
+        z,
+        slots,
+        frames,
+        valid,
+        recency,
+        pspace,
+        &mut bspace[a..e],
+        b,
+        f,
+        new,
+    );
 }
 
 // Each slot of block b in turn: its page goes to its offset in frame f's stretch, and the slot takes an old page: the one at
 // that offset where there is one, else the next of those left over, offsets upward, or none. New has the offsets of block b.
 fn swap(
     z: Sizes,
-    mut d: Directory,
+    slots: &mut [u32; 128],
+    frames: &mut [u32; 8],
+    valid: &mut [u64; 8],
+    recency: &[u8; 8],
     pspace: &mut [u8],
     frame: &mut [u8],
     b: BlockNo,
     f: usize,
     new: u64,
-) -> Directory
-    requires { ⌜ Swaps (sizesOf z) (directoryOf d) (b .0) f new (now pspace) (now frame) ⌝ }
-    ensures { λ r. ⌜ Swapped (sizesOf z) (directoryOf d) (b .0) f (now (pspace .entry)) (now (frame .entry)) (directoryOf r) (now (pspace .exit)) (now (frame .exit)) ⌝ }
+)
+    requires { ⌜ Swaps (sizesOf z) (numbers (now slots) (now frames) (now valid) (now recency)) (b .0) f new (now pspace) (now frame) ⌝ }
+    ensures { λ _. ⌜ Swapped (sizesOf z) (numbers (now (slots .entry)) (now (frames .entry)) (now (valid .entry)) (now (recency .entry))) (b .0) f (now (pspace .entry)) (now (frame .entry)) (numbers (now (slots .exit)) (now (frames .exit)) (now (valid .exit)) (now (recency .entry))) (now (pspace .exit)) (now (frame .exit)) ⌝ }
 {
     let s = z.page_size as usize;
     let p = z.slots as usize;
-    let old = d.valid[f];
-    let q = d.frames[f];
+    let old = valid[f];
+    let q = BlockNo(frames[f]);
     let mut at: u32 = 0;
     let mut i = 0;
     while i < p {
-        let x = d.slots[i];
-        let o = numbers::offset_in(x, b, z.pages_per_block);
+        let o = numbers::offset_in(PageNo(slots[i]), b, z.pages_per_block);
         if o < z.pages_per_block {
             let mut n = o;
             if !bitmap::has(old, o) {
@@ -67,13 +82,12 @@ fn swap(
                 at = after(n, z.pages_per_block);
             }
             swap_one(frame, o, pspace, i, n, z.pages_per_block, s);
-            d.slots[i] = page_or_vacant(q, n, z.pages_per_block);
+            slots[i] = page_or_vacant(q, n, z.pages_per_block);
         }
         i += 1;
     }
-    d.frames[f] = b;
-    d.valid[f] = new;
-    d
+    frames[f] = b.0;
+    valid[f] = new;
 }
 
 // The first offset from at on that is in old and not in new, k where there is none.
@@ -116,13 +130,14 @@ fn swap_one(frame: &mut [u8], o: u32, pspace: &mut [u8], i: usize, t: u32, k: u3
 }
 
 // The page at offset n of block q, or VACANT where n is k.
-fn page_or_vacant(q: BlockNo, n: u32, k: u32) -> PageNo
+fn page_or_vacant(q: BlockNo, n: u32, k: u32) -> u32
     requires { ⌜ (n < k → q .0 * k + n < 2 ^ 32) ⌝ }
-    ensures { λ r. ⌜ r .0 ≡ cond (ltb n k) (q .0 * k + n) vacant ⌝ }
+    ensures { λ r. ⌜ r ≡ cond (ltb n k) (q .0 * k + n) vacant ⌝ }
 {
     if n < k {
-        address::page_of(q, n, k)
+        let page = address::page_of(q, n, k);
+        page.0
     } else {
-        PageNo(VACANT)
+        VACANT
     }
 }

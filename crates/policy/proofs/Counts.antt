@@ -10,7 +10,7 @@ use borrow.Author.Tests.{eqb-true, eqb-false}
 use Rattle.prelude.specs.Scan.{count}
 use Rattle.prelude.proofs.Tests.{by-test}
 use Rattle.prelude.proofs.Scan.{count-hit, count-miss, count-none, argmax-ge, leads-is}
-use Rattle.model.specs.Sizes.{Sizes, vacant}
+use Rattle.model.specs.Sizes.{Sizes, vacant, InLimits}
 use Rattle.model.specs.Directory.{Directory, slotAt}
 use Rattle.model.specs.Soundness.{Sound}
 use Rattle.model.specs.Policy.{inBlock, slotCount, victim}
@@ -33,14 +33,14 @@ pub record Counted (sz : Sizes) (d : Directory) (i : ℕ) (l : List ℕ) (lead :
   pub leads : pages-to sz d i leader * 4096 ≡ lead + leader
   pub top : (b : ℕ) → b < sz .N → pages-to sz d i b * 4096 ≤ lead + b
 
-module _ (sz : Sizes) (d : Directory) (s : Sound sz d) where
+module _ (sz : Sizes) (d : Directory) (limits : InLimits sz) where
   pub counted-none : Counted sz d 0 (replicate 4096 0) 0
   unfolding count
   counted-none = record {
     long = length-replicate {A = ℕ} 4096 0;
-    each = λ b l. getD-replicate {A = ℕ} 4096 b 0 0 (let n = s .limits .N-high in omega arith);
+    each = λ b l. getD-replicate {A = ℕ} 4096 b 0 0 (let n = limits .N-high in omega arith);
     leader = 0;
-    low = s .limits .N-low;
+    low = limits .N-low;
     leads = refl;
     top = λ b l. omega arith;
   }
@@ -68,7 +68,7 @@ module _ (sz : Sizes) (d : Directory) (s : Sound sz d) where
 
       stored : (c : ℕ) → c < sz .N → getD (set l b v) c 0 ≡ pages-to sz d (i + 1) c
       stored c cl = by-test (eqb c b)
-          (λ t. rw (eqb-true c b t) (getD-set-same l b v 0 (let k = h .long in let n = s .limits .N-high in let q = p .low in omega arith) ∙ grown))
+          (λ t. rw (eqb-true c b t) (getD-set-same l b v 0 (let k = h .long in let n = limits .N-high in let q = p .low in omega arith) ∙ grown))
           (λ t. let ne = eqb-false c b t in getD-set-other l b c v 0 ne ∙ h .each c cl ∙ other c ne)
 
       -- the ranks are as before, but for b's
@@ -90,7 +90,7 @@ module _ (sz : Sizes) (d : Directory) (s : Sound sz d) where
     unfolding victim slotCount
     leader-is = leads-is (sz .N) (pages-to sz d (sz .P)) (h .leader) (record {
       low = h .low;
-      le = λ j jl. (let a = h .top j jl in let e = h .leads in let r = h .low in let n = s .limits .N-high in omega arith);
+      le = λ j jl. (let a = h .top j jl in let e = h .leads in let r = h .low in let n = limits .N-high in omega arith);
       lt = λ j jl. (let r = h .low in let a = h .top j (omega arith) in let e = h .leads in omega arith);
     })
 
@@ -98,7 +98,7 @@ module _ (sz : Sizes) (d : Directory) (s : Sound sz d) where
     pub counted-all : record { block = blockNo ((lead + 4095) / 4096 * 4096 - lead); pages = (lead + 4095) / 4096 } ≡ victimOf sz d
     unfolding victimOf slotCount
     counted-all =
-        let e = h .leads in let r = h .low in let n = s .limits .N-high in
+        let e = h .leads in let r = h .low in let n = limits .N-high in
         let pages : (lead + 4095) / 4096 ≡ pages-to sz d (sz .P) (h .leader) = omega arith in
         let block : (lead + 4095) / 4096 * 4096 - lead ≡ h .leader = omega arith in
         λ j. record { block = blockNo ((block ∙ leader-is) j); pages = (pages ∙ ap (pages-to sz d (sz .P)) leader-is) j }

@@ -7,11 +7,11 @@ use lib.Dec.{leb, ltb}
 use lib.ListN.{length, getD}
 use Rattle.prelude.specs.Scan.{first}
 use Rattle.model.specs.Sizes.{Sizes}
-use Rattle.model.specs.Directory.{Directory, frameAt}
+use Rattle.model.specs.Directory.{Directory}
 use Rattle.model.specs.Soundness.{Sound}
 use Rattle.model.specs.Policy as model
 use Rattle.model.specs.Policy.{frameOf, validCount, slotCount, leastRecent, victim, slotHit, frameHit, freeSlot, join, fill, exchange, evict, clean, due, occupied}
-use Rattle.cache.specs.View.{blockNo}
+use Rattle.cache.specs.View.{blockNo, numbers}
 use Rattle.policy.specs.declared.decision.Victim.{Victim}
 use Rattle.policy.specs.declared.decision.Plan.{Plan}
 use Rattle.policy.specs.declared.decision.Plan.the-variants.{SlotHit, FrameHit, FreeSlot, Join, Fill, Exchange, Evict}
@@ -48,20 +48,69 @@ wornInSlots sz d w = first (sz .N) (λ b. ltb 0 (slotCount sz d b) && leb (sz .W
 unfoldable pub wornInFrames : Sizes → Directory → List ℕ → ℕ
 wornInFrames sz d w = first (sz .N) (λ b. ltb (frameOf sz d b) (sz .B) && leb (sz .W) (getD w b 0))
 
--- some frame has v valid pages
-pub record SomeValid (sz : Sizes) (d : Directory) (v : ℕ) : Type 0 where
-  pub sound : Sound sz d
+-- ---- the lists that a search is lent are a sound record's: what the record has beside them is named and not looked at
+
+-- the slots
+pub record SlotsOf (sz : Sizes) (s : List ℕ) : Type 0 where
+  pub frames : List ℕ
+  pub valid : List ℕ
+  pub recency : List ℕ
+  pub sound : Sound sz (numbers s frames valid recency)
+
+-- the valid pages of the frames
+pub record ValidOf (sz : Sizes) (v : List ℕ) : Type 0 where
+  pub slots : List ℕ
+  pub frames : List ℕ
+  pub recency : List ℕ
+  pub sound : Sound sz (numbers slots frames v recency)
+
+-- the frames and the order of use
+pub record OrderOf (sz : Sizes) (f r : List ℕ) : Type 0 where
+  pub slots : List ℕ
+  pub valid : List ℕ
+  pub sound : Sound sz (numbers slots f valid r)
+
+-- the slots, the frames and the order of use
+pub record DueOf (sz : Sizes) (s f r : List ℕ) : Type 0 where
+  pub valid : List ℕ
+  pub sound : Sound sz (numbers s f valid r)
+
+-- some frame has n valid pages
+pub record SomeValid (sz : Sizes) (v r : List ℕ) (n : ℕ) : Type 0 where
+  pub slots : List ℕ
+  pub frames : List ℕ
+  pub sound : Sound sz (numbers slots frames v r)
   pub frame : ℕ
   pub frame-lt : frame < sz .B
-  pub frame-has : validCount sz d frame ≡ v
+  pub frame-has : validCount sz (numbers slots frames v r) frame ≡ n
 
 -- there is a wear for each block
 pub record WithWear (sz : Sizes) (d : Directory) (w : List ℕ) : Type 0 where
   pub sound : Sound sz d
   pub wear-length : length w ≡ sz .N
 
--- and no frame is vacant
-pub record AllOccupied (sz : Sizes) (d : Directory) (w : List ℕ) : Type 0 where
-  pub sound : Sound sz d
+-- and the slots are lent, or the frames, or both
+pub record SlotsWorn (sz : Sizes) (s w : List ℕ) : Type 0 where
+  pub frames : List ℕ
+  pub valid : List ℕ
+  pub recency : List ℕ
+  pub with-wear : WithWear sz (numbers s frames valid recency) w
+
+pub record FramesWorn (sz : Sizes) (f w : List ℕ) : Type 0 where
+  pub slots : List ℕ
+  pub valid : List ℕ
+  pub recency : List ℕ
+  pub with-wear : WithWear sz (numbers slots f valid recency) w
+
+pub record CachedWorn (sz : Sizes) (s f w : List ℕ) : Type 0 where
+  pub valid : List ℕ
+  pub recency : List ℕ
+  pub with-wear : WithWear sz (numbers s f valid recency) w
+
+-- no frame is vacant, and there is a wear for each block
+pub record AllOccupied (sz : Sizes) (f r w : List ℕ) : Type 0 where
+  pub slots : List ℕ
+  pub valid : List ℕ
+  pub sound : Sound sz (numbers slots f valid r)
   pub wear-length : length w ≡ sz .N
-  pub block-lt : (f : ℕ) → f < sz .B → frameAt d f < sz .N
+  pub block-lt : (g : ℕ) → g < sz .B → getD f g 0 < sz .N

@@ -2,29 +2,26 @@
 use crate::decision::Due;
 use address::BlockNo;
 use address::PageNo;
-use cache::Directory;
 use cache::Sizes;
 use cache::VACANT;
 ghost use mathlib.Core.Path.{_≡_};
+ghost use mathlib.Core.List.{[]};
 ghost use Prim.Native.Nat.{_<_};
 ghost use lib.ListN.{length};
-ghost use Rattle.model.specs.Soundness.{Sound};
 ghost use Rattle.model.specs.Policy.{leastRecent, lowestInSlots, dueOf, isWorn, lowestWorn};
-ghost use Rattle.cache.specs.View.{sizesOf, directoryOf};
-ghost use Rattle.policy.specs.Views.{dueView, oldestOccupied, wornInSlots, wornInFrames, WithWear};
+ghost use Rattle.cache.specs.View.{sizesOf, numbers};
+ghost use Rattle.policy.specs.Views.{dueView, oldestOccupied, wornInSlots, wornInFrames, DueOf, SlotsOf, OrderOf, SlotsWorn, FramesWorn, CachedWorn};
 
 // What a flush step is due to do.
-pub fn due(z: Sizes, d: Directory) -> Due
-    requires { ⌜ Sound (sizesOf z) (directoryOf d) ⌝ }
-    ensures { λ r. ⌜ dueView r ≡ dueOf leastRecent (sizesOf z) (directoryOf d) ⌝ }
+pub fn due(z: Sizes, slots: &[u32; 128], frames: &[u32; 8], recency: &[u8; 8]) -> Due
+    requires { ⌜ DueOf (sizesOf z) (now slots) (now frames) (now recency) ⌝ }
+    ensures { λ r. ⌜ dueView r ≡ dueOf leastRecent (sizesOf z) (numbers (now (slots .entry)) (now (frames .entry)) [] (now (recency .entry))) ⌝ }
 {
-    let f = oldest_occupied(z, d);
+    let f = oldest_occupied(z, frames, recency);
     if f < z.frames as usize {
-        let frames = d.frames;
-        let b = frames[f];
-        return Due::Block(b, f);
+        return Due::Block(BlockNo(frames[f]), f);
     }
-    let b = lowest_in_slots(z, d);
+    let b = lowest_in_slots(z, slots);
     if b < z.blocks {
         return Due::Block(BlockNo(b), 0);
     }
@@ -32,18 +29,15 @@ pub fn due(z: Sizes, d: Directory) -> Due
 }
 
 // The least recent occupied frame, or the number of frames where none is occupied.
-pub fn oldest_occupied(z: Sizes, d: Directory) -> usize
-    requires { ⌜ Sound (sizesOf z) (directoryOf d) ⌝ }
-    ensures { λ r. ⌜ r ≡ oldestOccupied (sizesOf z) (directoryOf d) ⌝ }
+fn oldest_occupied(z: Sizes, frames: &[u32; 8], recency: &[u8; 8]) -> usize
+    requires { ⌜ OrderOf (sizesOf z) (now frames) (now recency) ⌝ }
+    ensures { λ r. ⌜ r ≡ oldestOccupied (sizesOf z) (numbers [] (now (frames .entry)) [] (now (recency .entry))) ⌝ }
 {
     let end = z.frames as usize;
-    let recency = d.recency;
-    let frames = d.frames;
     let mut i = 0;
     while i < end {
         let f = recency[i] as usize;
-        let b = frames[f];
-        if b.0 < VACANT {
+        if frames[f] < VACANT {
             return f;
         }
         i += 1;
@@ -52,34 +46,34 @@ pub fn oldest_occupied(z: Sizes, d: Directory) -> usize
 }
 
 // The lowest block with pages in slots, or the number of blocks where there is none: the block of the least page number.
-pub fn lowest_in_slots(z: Sizes, d: Directory) -> u32
-    requires { ⌜ Sound (sizesOf z) (directoryOf d) ⌝ }
-    ensures { λ r. ⌜ r ≡ lowestInSlots (sizesOf z) (directoryOf d) ⌝ }
+fn lowest_in_slots(z: Sizes, slots: &[u32; 128]) -> u32
+    requires { ⌜ SlotsOf (sizesOf z) (now slots) ⌝ }
+    ensures { λ r. ⌜ r ≡ lowestInSlots (sizesOf z) (numbers (now (slots .entry)) [] [] []) ⌝ }
 {
     let end = z.slots as usize;
-    let mut low = PageNo(VACANT);
+    let mut low = VACANT;
     let mut i = 0;
     while i < end {
-        let x = d.slots[i];
-        if x.0 < low.0 {
+        let x = slots[i];
+        if x < low {
             low = x;
         }
         i += 1;
     }
-    if low.0 == VACANT {
+    if low == VACANT {
         return z.blocks;
     }
-    let b = address::block_of(low, z.pages_per_block);
+    let b = address::block_of(PageNo(low), z.pages_per_block);
     b.0
 }
 
 // The lowest worn block with a page cached, or the number of blocks where there is none.
-pub fn lowest_worn(z: Sizes, d: Directory, wear: &[u32]) -> u32
-    requires { ⌜ WithWear (sizesOf z) (directoryOf d) (now wear) ⌝ }
-    ensures { λ r. ⌜ r ≡ lowestWorn (sizesOf z) (directoryOf d) (now (wear .entry)) ⌝ }
+pub fn lowest_worn(z: Sizes, slots: &[u32; 128], frames: &[u32; 8], wear: &[u32]) -> u32
+    requires { ⌜ CachedWorn (sizesOf z) (now slots) (now frames) (now wear) ⌝ }
+    ensures { λ r. ⌜ r ≡ lowestWorn (sizesOf z) (numbers (now (slots .entry)) (now (frames .entry)) [] []) (now (wear .entry)) ⌝ }
 {
-    let in_slots = worn_in_slots(z, d, wear);
-    let in_frames = worn_in_frames(z, d, wear);
+    let in_slots = worn_in_slots(z, slots, wear);
+    let in_frames = worn_in_frames(z, frames, wear);
     if in_frames < in_slots {
         return in_frames;
     }
@@ -87,17 +81,17 @@ pub fn lowest_worn(z: Sizes, d: Directory, wear: &[u32]) -> u32
 }
 
 // The lowest worn block with a page in a slot.
-fn worn_in_slots(z: Sizes, d: Directory, wear: &[u32]) -> u32
-    requires { ⌜ WithWear (sizesOf z) (directoryOf d) (now wear) ⌝ }
-    ensures { λ r. ⌜ r ≡ wornInSlots (sizesOf z) (directoryOf d) (now (wear .entry)) ⌝ }
+fn worn_in_slots(z: Sizes, slots: &[u32; 128], wear: &[u32]) -> u32
+    requires { ⌜ SlotsWorn (sizesOf z) (now slots) (now wear) ⌝ }
+    ensures { λ r. ⌜ r ≡ wornInSlots (sizesOf z) (numbers (now (slots .entry)) [] [] []) (now (wear .entry)) ⌝ }
 {
     let m = address::range::reciprocal(z.pages_per_block);
     let mut low = z.blocks;
     let mut i = 0;
     while i < z.slots as usize {
-        let x = d.slots[i];
-        if x.0 < VACANT {
-            let b = address::range::block_by(x, z.pages_per_block, m);
+        let x = slots[i];
+        if x < VACANT {
+            let b = address::range::block_by(PageNo(x), z.pages_per_block, m);
             if (b.0 < low) & is_worn(z, wear, b) {
                 low = b.0;
             }
@@ -108,15 +102,14 @@ fn worn_in_slots(z: Sizes, d: Directory, wear: &[u32]) -> u32
 }
 
 // The lowest worn block with a frame.
-fn worn_in_frames(z: Sizes, d: Directory, wear: &[u32]) -> u32
-    requires { ⌜ WithWear (sizesOf z) (directoryOf d) (now wear) ⌝ }
-    ensures { λ r. ⌜ r ≡ wornInFrames (sizesOf z) (directoryOf d) (now (wear .entry)) ⌝ }
+fn worn_in_frames(z: Sizes, frames: &[u32; 8], wear: &[u32]) -> u32
+    requires { ⌜ FramesWorn (sizesOf z) (now frames) (now wear) ⌝ }
+    ensures { λ r. ⌜ r ≡ wornInFrames (sizesOf z) (numbers [] (now (frames .entry)) [] []) (now (wear .entry)) ⌝ }
 {
-    let frames = d.frames;
     let mut low = z.blocks;
     let mut f = 0;
     while f < z.frames as usize {
-        let b = frames[f];
+        let b = BlockNo(frames[f]);
         if b.0 < VACANT {
             if (b.0 < low) & is_worn(z, wear, b) {
                 low = b.0;

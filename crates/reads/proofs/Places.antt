@@ -1,7 +1,7 @@
 -- A page read from a slot, from a frame and from flash.
 use mathlib.Core.Path.{_≡_, sym, ap, _∙_}
 use mathlib.Core.Bool.{true, false}
-use mathlib.Core.List.{List, append-nil}
+use mathlib.Core.List.{List, [], append-nil}
 use Prim.Native.Nat.{ℕ, _+_, _*_, _%_, _≤_, _<_}
 use native.Mathlib.Nat.{zero-mul, zero-add}
 use native.Mathlib.Omega.{arith}
@@ -15,14 +15,13 @@ use Rattle.prelude.proofs.Tests.{by-test}
 use Rattle.prelude.proofs.Pages.{in-run, page-at}
 use Rattle.page.specs.Page.{HasPage}
 use Rattle.model.specs.Sizes.{Sizes}
-use Rattle.model.specs.Directory.{Directory}
+use Rattle.model.specs.Directory.{Directory, inFrame}
 use Rattle.model.specs.Policy.{slotOf, inSlots, frameWith, readWay}
 use Rattle.model.specs.Moves.{readPage, flashPage, readDirectory, touched}
 use Rattle.model.specs.Calls.{zeroPage}
 use Rattle.model.proofs.Lookup.{offset-lt}
-use Rattle.cache.specs.View.{directoryOf}
+use Rattle.cache.specs.View.{numbers}
 use Rattle.reads.specs.declared.Found.{Found}
-use Rattle.reads.specs.declared.Done.{Done}
 use Rattle.reads.specs.declared.Found.the-variants.{Slot, Frame, Flash}
 use Rattle.reads.specs.Reads.{Readable, Peeked, ReadOut, foundAt}
 
@@ -31,12 +30,12 @@ put-whole : (s : ℕ) (l pg : List ℕ) → length l ≡ s → putPage s l 0 pg 
 unfolding putPage
 put-whole s l pg e = rw (zero-mul s, zero-add s, ← e, drop-length l) (append-nil pg)
 
-module _ (sz : Sizes) (d : Directory) (flash pspace bspace : List ℕ) (n : ℕ) (page : List ℕ) (q : Readable sz d flash pspace bspace n page) where
+module _ (sz : Sizes) (flash pspace bspace : List ℕ) (n : ℕ) (page : List ℕ) (q : Readable sz flash pspace bspace n page) where
   pub has-slot : (i : ℕ) → i < sz .P → HasPage (sz .S) pspace i
   has-slot i l = in-run (sz .S) (sz .P) pspace (q .pspace-length) l
 
   pub frame-page-lt : (f : ℕ) → f < sz .B → f * sz .K + n % sz .K < sz .B * sz .K
-  frame-page-lt f l = digits-lt l (offset-lt sz (q .sound .limits) n)
+  frame-page-lt f l = digits-lt l (offset-lt sz (q .limits) n)
 
   pub has-frame-page : (f : ℕ) → f < sz .B → HasPage (sz .S) bspace (f * sz .K + n % sz .K)
   has-frame-page f l = in-run (sz .S) (sz .B * sz .K) bspace (q .bspace-length) (frame-page-lt f l)
@@ -48,17 +47,17 @@ module _ (sz : Sizes) (d : Directory) (flash pspace bspace : List ℕ) (n : ℕ)
   has-buffer = let e = q .page-length in rw (zero-mul (sz .S)) (omega arith)
 
   -- by what the searches found and what was copied
-  pub from-slot : (i : ℕ) (page′ : List ℕ) → i ≡ slotOf sz d n → i < sz .P → page′ ≡ putPage (sz .S) page 0 (pageAt (sz .S) pspace i) → Peeked sz d flash pspace bspace n Slot page′
+  pub from-slot : (d : Directory) (i : ℕ) (page′ : List ℕ) → i ≡ slotOf sz d n → i < sz .P → page′ ≡ putPage (sz .S) page 0 (pageAt (sz .S) pspace i) → Peeked sz d flash pspace bspace n Slot page′
   unfolding foundAt readPage inSlots
-  from-slot i page′ ei l ep = let e : ltb (slotOf sz d n) (sz .P) ≡ true = lt-ltb (slotOf sz d n) (sz .P) (rw (sym ei) l) in record {
+  from-slot d i page′ ei l ep = let e : ltb (slotOf sz d n) (sz .P) ≡ true = lt-ltb (slotOf sz d n) (sz .P) (rw (sym ei) l) in record {
     found-is = rw (e, foundAt);
     page-is = rw (e, readPage) (ep ∙ put-whole (sz .S) page _ (q .page-length) ∙ sym (page-at (sz .S) (sz .P) pspace (zeroPage sz) i l) ∙ ap (λ (x : ℕ). getD (pagesOf (sz .S) (sz .P) pspace) x (zeroPage sz)) ei);
   }
 
-  pub from-frame : (i f o : ℕ) (page′ : List ℕ) → i ≡ slotOf sz d n → sz .P ≤ i → f ≡ frameWith sz d n → f < sz .B → o ≡ n % sz .K
+  pub from-frame : (d : Directory) (i f o : ℕ) (page′ : List ℕ) → i ≡ slotOf sz d n → sz .P ≤ i → f ≡ frameWith sz d n → f < sz .B → o ≡ n % sz .K
       → page′ ≡ putPage (sz .S) page 0 (pageAt (sz .S) bspace (f * sz .K + o)) → Peeked sz d flash pspace bspace n (Frame f) page′
   unfolding foundAt readPage inSlots
-  from-frame i f o page′ ei m ef l eo ep =
+  from-frame d i f o page′ ei m ef l eo ep =
       let e : ltb (slotOf sz d n) (sz .P) ≡ false = le-ltb (slotOf sz d n) (sz .P) (rw (sym ei) m) in
       let g : ltb (frameWith sz d n) (sz .B) ≡ true = lt-ltb (frameWith sz d n) (sz .B) (rw (sym ef) l) in
       record {
@@ -67,10 +66,10 @@ module _ (sz : Sizes) (d : Directory) (flash pspace bspace : List ℕ) (n : ℕ)
             ∙ sym (page-at (sz .S) (sz .B * sz .K) bspace (zeroPage sz) _ (frame-page-lt f l)) ∙ ap (λ (x : ℕ). getD (pagesOf (sz .S) (sz .B * sz .K) bspace) (x * sz .K + n % sz .K) (zeroPage sz)) ef));
       }
 
-  pub from-flash : (i f : ℕ) (page′ : List ℕ) → i ≡ slotOf sz d n → sz .P ≤ i → f ≡ frameWith sz d n → sz .B ≤ f
+  pub from-flash : (d : Directory) (i f : ℕ) (page′ : List ℕ) → i ≡ slotOf sz d n → sz .P ≤ i → f ≡ frameWith sz d n → sz .B ≤ f
       → page′ ≡ putPage (sz .S) page 0 (pageAt (sz .S) flash n) → Peeked sz d flash pspace bspace n Flash page′
   unfolding foundAt readPage inSlots flashPage
-  from-flash i f page′ ei m ef k ep =
+  from-flash d i f page′ ei m ef k ep =
       let e : ltb (slotOf sz d n) (sz .P) ≡ false = le-ltb (slotOf sz d n) (sz .P) (rw (sym ei) m) in
       let g : ltb (frameWith sz d n) (sz .B) ≡ false = le-ltb (frameWith sz d n) (sz .B) (rw (sym ef) k) in
       record {
@@ -117,6 +116,12 @@ module _ (sz : Sizes) (d : Directory) (n : ℕ) where
   pub frame-below : (f : ℕ) → Frame f ≡ foundAt sz d n → f < sz .B
   frame-below f e = rw (sym e) at below-found
 
-  pub read-out : {flash pspace bspace page′ : List ℕ} (found : Found) (out : Done) → Peeked sz d flash pspace bspace n found page′
-      → directoryOf (out .directory) ≡ after sz d found → out .way ≡ wayOf found → ReadOut sz d flash pspace bspace n out page′
-  read-out found out k a b = record { directory-is = a ∙ ap (after sz d) (k .found-is) ∙ after-found; way-is = b ∙ ap wayOf (k .found-is) ∙ way-found; page-is = k .page-is }
+  pub read-out : {flash pspace bspace page′ : List ℕ} (found : Found) (way : ℕ) (d′ : Directory) → Peeked sz d flash pspace bspace n found page′
+      → d′ ≡ after sz d found → way ≡ wayOf found → ReadOut sz d flash pspace bspace n way d′ page′
+  read-out found way d′ k a b = record { directory-is = a ∙ ap (after sz d) (k .found-is) ∙ after-found; way-is = b ∙ ap wayOf (k .found-is) ∙ way-found; page-is = k .page-is }
+
+-- a read that counts as no use looks at no order of use
+pub peeked-any : {sz : Sizes} {s f v flash pspace bspace page′ : List ℕ} {n : ℕ} {found : Found} (r : List ℕ) → Peeked sz (numbers s f v []) flash pspace bspace n found page′
+    → Peeked sz (numbers s f v r) flash pspace bspace n found page′
+unfolding foundAt inSlots slotOf frameWith inFrame readPage
+peeked-any r k = record { found-is = k .found-is; page-is = k .page-is }

@@ -5,20 +5,17 @@ use mathlib.Core.List.{List}
 use Prim.Native.Nat.{ℕ, _*_, _<_}
 use lib.Dec.{ltb}
 use lib.ListN.{length}
-use Rattle.model.specs.Sizes.{Sizes}
+use Rattle.model.specs.Sizes.{Sizes, InLimits}
 use Rattle.model.specs.Directory.{Directory}
-use Rattle.model.specs.Soundness.{Sound}
 use Rattle.model.specs.Policy.{inSlots, frameWith, readWay}
 use Rattle.model.specs.Moves.{Memory, readDirectory, readPage}
 use Rattle.model.specs.Calls.{Page, zeroPage, flashPages, slotPages, framePages}
-use Rattle.cache.specs.View.{directoryOf}
 use Rattle.reads.specs.declared.Found.{Found}
 use Rattle.reads.specs.declared.Found.the-variants.{Slot, Frame, Flash}
-use Rattle.reads.specs.declared.Done.{Done}
 
--- a sound directory, buffers in their sizes, a page of the chip, and a page buffer of S bytes
-pub record Readable (sz : Sizes) (d : Directory) (flash pspace bspace : List ℕ) (n : ℕ) (page : List ℕ) : Type 0 where
-  pub sound : Sound sz d
+-- buffers in their sizes, a page of the chip, and a page buffer of S bytes
+pub record Readable (sz : Sizes) (flash pspace bspace : List ℕ) (n : ℕ) (page : List ℕ) : Type 0 where
+  pub limits : InLimits sz
   pub flash-length : length flash ≡ sz .N * sz .K * sz .S
   pub pspace-length : length pspace ≡ sz .P * sz .S
   pub bspace-length : length bspace ≡ sz .B * sz .K * sz .S
@@ -41,8 +38,8 @@ pub record Peeked (sz : Sizes) (d : Directory) (flash pspace bspace : List ℕ) 
   pub found-is : found ≡ foundAt sz d n
   pub page-is : page′ ≡ readPage (zeroPage sz) sz d (pages sz flash pspace bspace) n
 
--- a read
-pub record ReadOut (sz : Sizes) (d : Directory) (flash pspace bspace : List ℕ) (n : ℕ) (out : Done) (page′ : List ℕ) : Type 0 where
-  pub directory-is : directoryOf (out .directory) ≡ readDirectory sz d n
-  pub way-is : out .way ≡ readWay sz d n
+-- a read: its way, and the directory d′ and the page buffer afterwards
+pub record ReadOut (sz : Sizes) (d : Directory) (flash pspace bspace : List ℕ) (n way : ℕ) (d′ : Directory) (page′ : List ℕ) : Type 0 where
+  pub directory-is : d′ ≡ readDirectory sz d n
+  pub way-is : way ≡ readWay sz d n
   pub page-is : page′ ≡ readPage (zeroPage sz) sz d (pages sz flash pspace bspace) n

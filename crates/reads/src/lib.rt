@@ -1,11 +1,11 @@
 // Reading a page, for a sound record and rightly sized buffers.
 use address::PageNo;
-use cache::Directory;
 use cache::Sizes;
 use moves::numbers;
 use policy::lookup;
-ghost use mathlib.Core.Path.{_≡_};
-ghost use Rattle.cache.specs.View.{sizesOf, directoryOf};
+ghost use mathlib.Core.List.{[]};
+ghost use Rattle.model.specs.Soundness.{Sound};
+ghost use Rattle.cache.specs.View.{sizesOf, numbers};
 ghost use Rattle.reads.specs.Reads.{Readable, Peeked, ReadOut};
 
 // Where a page was found.
@@ -15,63 +15,56 @@ pub enum Found {
     Flash,
 }
 
-// The directory after a read, and the read's way.
-pub struct Done {
-    pub directory: Directory,
-    pub way: u32,
-}
-
-// Reads page n into the page buffer: way 1 from a slot, way 2 from a frame, which becomes most recent, way 3 from flash.
+// Reads page n into the page buffer, and answers its way: 1 from a slot, 2 from a frame, which becomes most recent, 3 from flash.
 pub fn read(
     z: Sizes,
-    d: Directory,
+    slots: &[u32; 128],
+    frames: &[u32; 8],
+    valid: &[u64; 8],
+    recency: &mut [u8; 8],
     flash: &[u8],
     pspace: &[u8],
     bspace: &[u8],
     n: PageNo,
     page: &mut [u8],
-) -> Done
-    requires { ⌜ Readable (sizesOf z) (directoryOf d) (now flash) (now pspace) (now bspace) (n .0) (now page) ⌝ }
-    ensures { λ r. ⌜ ReadOut (sizesOf z) (directoryOf d) (now (flash .entry)) (now (pspace .entry)) (now (bspace .entry)) (n .0) r (now (page .exit)) ⌝ }
+) -> u32
+    requires { ⌜ Sound (sizesOf z) (numbers (now slots) (now frames) (now valid) (now recency)) × Readable (sizesOf z) (now flash) (now pspace) (now bspace) (n .0) (now page) ⌝ }
+    ensures { λ r. ⌜ ReadOut (sizesOf z) (numbers (now (slots .entry)) (now (frames .entry)) (now (valid .entry)) (now (recency .entry))) (now (flash .entry)) (now (pspace .entry)) (now (bspace .entry)) (n .0) r (numbers (now (slots .entry)) (now (frames .entry)) (now (valid .entry)) (now (recency .exit))) (now (page .exit)) ⌝ }
 {
-    let found = peek(z, d, flash, pspace, bspace, n, page);
+    let found = peek(z, slots, frames, valid, flash, pspace, bspace, n, page);
     match found {
-        Found::Slot => Done {
-            directory: d,
-            way: 1,
-        },
-        Found::Frame(f) => Done {
-            directory: numbers::touched(z, d, f),
-            way: 2,
-        },
-        Found::Flash => Done {
-            directory: d,
-            way: 3,
-        },
+        Found::Slot => 1,
+        Found::Frame(f) => {
+            numbers::touch(z, recency, f);
+            2
+        }
+        Found::Flash => 3,
     }
 }
 
 // Reads page n into the page buffer and says where it was: a read that counts as no use.
 pub fn peek(
     z: Sizes,
-    d: Directory,
+    slots: &[u32; 128],
+    frames: &[u32; 8],
+    valid: &[u64; 8],
     flash: &[u8],
     pspace: &[u8],
     bspace: &[u8],
     n: PageNo,
     page: &mut [u8],
 ) -> Found
-    requires { ⌜ Readable (sizesOf z) (directoryOf d) (now flash) (now pspace) (now bspace) (n .0) (now page) ⌝ }
-    ensures { λ r. ⌜ Peeked (sizesOf z) (directoryOf d) (now (flash .entry)) (now (pspace .entry)) (now (bspace .entry)) (n .0) r (now (page .exit)) ⌝ }
+    requires { ⌜ Readable (sizesOf z) (now flash) (now pspace) (now bspace) (n .0) (now page) ⌝ }
+    ensures { λ r. ⌜ Peeked (sizesOf z) (numbers (now (slots .entry)) (now (frames .entry)) (now (valid .entry)) []) (now (flash .entry)) (now (pspace .entry)) (now (bspace .entry)) (n .0) r (now (page .exit)) ⌝ }
 {
     let s = z.page_size as usize;
     let k = z.pages_per_block as usize;
-    let i = lookup::slot_of(z, d, n);
+    let i = lookup::slot_of(z, slots, n);
     if i < z.slots as usize {
         page::copy_page(page, 0, pspace, i, s);
         return Found::Slot;
     }
-    let f = lookup::frame_with(z, d, n);
+    let f = lookup::frame_with(z, frames, valid, n);
     if f < z.frames as usize {
         let o = address::offset_of(n, z.pages_per_block) as usize;
         let at = f * k + o;

@@ -10,27 +10,26 @@ use Rattle.prelude.proofs.Tests.{by-test}
 use Rattle.model.specs.Sizes.{Sizes, vacant}
 use Rattle.model.specs.Directory.{Directory}
 use Rattle.model.specs.Soundness.{sound}
-use Rattle.model.specs.Policy.{Choice, leastRecent, readWay, plan, dueOf}
-use Rattle.model.specs.Moves.{Memory, touched, readDirectory}
+use Rattle.model.specs.Policy.{Choice, leastRecent, plan, dueOf}
+use Rattle.model.specs.Moves.{Memory}
 use Rattle.model.specs.Calls.{Answer, readDone, writeDone, refused, isRefused, Call, read, write, part, step, flush, State, Outcome, turnedDown, checked, readOutcome, writeOutcome, partOutcome, stepOutcome, flushOutcome, decide, noBytes, callPages, Page, Buffers, lentOk, Fits, Store, zeroPage, memoryOf, buffersOf, stateOf, told, lentBuffer, filledBuffer, unaltered, carriedOut, call}
 use Rattle.model.proofs.Demand3.{decide-keeps}
 use Rattle.model.proofs.Buffers.{buffers-of-memory, fits-of}
 use Rattle.model.proofs.Soundness.{sound-facts}
+use Rattle.cache.specs.declared.Sizes as sizes
+use Rattle.cache.specs.declared.Directory as cache
 use Rattle.cache.specs.View.{directoryOf}
 use Rattle.answer.specs.Carried.{Ready, Carried}
-use Rattle.reads.specs.declared.Done.{Done}
 use Rattle.reads.specs.Reads.{Readable, ReadOut}
 use Rattle.writes.specs.Writes.{Writable, Wrote}
 use Rattle.flushes.specs.Flushes.{StepCarried, FlushCarried}
+use Rattle.store.specs.View.{storeWith, resultWith}
 use Rattle.store.specs.Parts.{PartReady, PartWrote, combinedOf}
 
--- a read changes no more than the order of use
-pub order-alone : (sz : Sizes) (d m : Directory) (n : ℕ) → m ≡ readDirectory sz d n → record { slots = d .slots; frames = d .frames; valid = d .valid; recency = m .recency } ≡ m
-unfolding readDirectory touched
-order-alone sz d m n e =
-    let keep : Directory → Directory = λ x. record { slots = d .slots; frames = d .frames; valid = d .valid; recency = x .recency } in
-    let kept : keep (readDirectory sz d n) ≡ readDirectory sz d n = by-test (eqb (readWay sz d n) 2) (λ t. rw (t, readDirectory)) (λ t. rw (t, readDirectory)) in
-    ap keep e ∙ kept ∙ sym e
+-- a call on the directory's lists is one on the record: the lists l are those of directory d, and the lists l′ those of directory d′
+pub on-lists : (z : sizes.Sizes) (d d′ : cache.Directory) (l l′ : Directory) (a : Answer) (u u′ : Buffers) (page : Page) (c : Call Page) → l ≡ directoryOf d → directoryOf d′ ≡ l′
+    → resultWith a z l′ u′ page ≡ call leastRecent (storeWith z l u) c → resultWith a z (directoryOf d′) u′ page ≡ call leastRecent (storeWith z (directoryOf d) u) c
+on-lists z d d′ l l′ a u u′ page c e e′ h = ap (λ (m : Directory). resultWith a z m u′ page) e′ ∙ h ∙ ap (λ (m : Directory). call leastRecent (storeWith z m u) c) e
 
 module _ (pick : Choice) (s : Store) (c : Call Page) where
   abbrev sz : Sizes
@@ -136,9 +135,9 @@ module _ (s : Store) (n : ℕ) (x : Page) where
   write-checked = refl
 
   module _ (a : sound (s .cache .sizes) (s .cache .directory) ≡ true) (b : lentOk (s .cache .sizes) (s .lent) ≡ true) (e : length x ≡ s .cache .sizes .S) (l : n < s .cache .sizes .N * s .cache .sizes .K) where
-    pub readable : Readable (s .cache .sizes) (s .cache .directory) (s .lent .flash) (s .lent .pspace) (s .lent .bspace) n x
+    pub readable : Readable (s .cache .sizes) (s .lent .flash) (s .lent .pspace) (s .lent .bspace) n x
     readable = let f = fits-of (s .cache .sizes) (s .lent) b in record {
-      sound = sound-facts (s .cache .sizes) (s .cache .directory) a;
+      limits = sound-facts (s .cache .sizes) (s .cache .directory) a .limits;
       flash-length = f .flash-length;
       pspace-length = f .pspace-length;
       bspace-length = f .bspace-length;
@@ -149,10 +148,10 @@ module _ (s : Store) (n : ℕ) (x : Page) where
     pub writable : Writable (s .cache .sizes) (s .cache .directory) (s .lent) n x
     writable = record { ready = record { sound = sound-facts (s .cache .sizes) (s .cache .directory) a; fits = fits-of (s .cache .sizes) (s .lent) b }; page-lt = l; page-length = e }
 
-    pub read-done : (out : Done) (page′ : Page) → ReadOut (s .cache .sizes) (s .cache .directory) (s .lent .flash) (s .lent .pspace) (s .lent .bspace) n out page′
-        → record { answer = readDone (out .way); store = record { cache = record { sizes = s .cache .sizes; directory = directoryOf (out .directory) }; lent = s .lent }; page = page′ } ≡ call leastRecent s (read n x)
+    pub read-done : (way : ℕ) (d′ : Directory) (page′ : Page) → ReadOut (s .cache .sizes) (s .cache .directory) (s .lent .flash) (s .lent .pspace) (s .lent .bspace) n way d′ page′
+        → record { answer = readDone way; store = record { cache = record { sizes = s .cache .sizes; directory = d′ }; lent = s .lent }; page = page′ } ≡ call leastRecent s (read n x)
     unfolding readOutcome callPages memoryOf
-    read-done out page′ h = call-passed s (read n x) n (length x) (readOutcome (s .cache .sizes) (stateOf s) n) read-checked a b e l (s .lent) (fits-of (s .cache .sizes) (s .lent) b) (readDone (out .way)) (directoryOf (out .directory)) page′
+    read-done way d′ page′ h = call-passed s (read n x) n (length x) (readOutcome (s .cache .sizes) (stateOf s) n) read-checked a b e l (s .lent) (fits-of (s .cache .sizes) (s .lent) b) (readDone way) d′ page′
         (record { answer-is = ap readDone (h .way-is); directory-is = h .directory-is; wear-is = refl; pages-are = refl }) (h .page-is)
 
     pub write-done : (u′ : Buffers) → Fits (s .cache .sizes) u′ → (answer : Answer) (d′ : Directory)

@@ -1,7 +1,7 @@
 -- What a part write lays in and hands back.
 use mathlib.Core.Path.{_≡_, refl, sym, ap, _∙_}
 use mathlib.Core.Bool.{Bool, true, cond}
-use mathlib.Core.List.{List, append-nil}
+use mathlib.Core.List.{List, [], append-nil}
 use Prim.Native.Nat.{ℕ}
 use native.Mathlib.Nat.{zero-add}
 use lib.ListN.{length}
@@ -9,8 +9,10 @@ use lib.Seq.{drop-length}
 use Rattle.prelude.specs.Pages.{laid}
 use Rattle.model.specs.Calls.{Answer, isRefused, combined, Page, Buffers, zeroPage, memoryOf}
 use Rattle.model.specs.Sizes.{Sizes}
-use Rattle.model.specs.Directory.{Directory}
-use Rattle.model.specs.Policy.{leastRecent, plan}
+use Rattle.model.specs.Directory.{Directory, inFrame}
+use Rattle.model.specs.Policy.{slotOf, inSlots, frameWith, leastRecent, plan}
+use Rattle.model.specs.Moves.{readPage}
+use Rattle.cache.specs.View.{numbers}
 use Rattle.reads.specs.Reads.{Readable, pages}
 use Rattle.writes.specs.Writes.{Writable, Wrote}
 use Rattle.store.specs.Parts.{PartReady, PartWrote}
@@ -40,9 +42,9 @@ stays a why e x y = sym (ap (λ (t : Write). cond (isRefused (writeOf t)) x y) e
 -- ---- from what a part write asks to what its read and its write ask, and back from what they leave
 
 module _ (sz : Sizes) (d : Directory) (u : Buffers) (n first : ℕ) (x page : Page) (q : PartReady sz d u n first x page) (whole : Page) (e : length whole ≡ sz .S) where
-  pub part-readable : Readable sz d (u .flash) (u .pspace) (u .bspace) n whole
+  pub part-readable : Readable sz (u .flash) (u .pspace) (u .bspace) n whole
   part-readable = let f = q .ready .fits in record {
-    sound = q .ready .sound;
+    limits = q .ready .sound .limits;
     flash-length = f .flash-length;
     pspace-length = f .pspace-length;
     bspace-length = f .bspace-length;
@@ -53,8 +55,12 @@ module _ (sz : Sizes) (d : Directory) (u : Buffers) (n first : ℕ) (x page : Pa
   pub part-writable : Writable sz d u n whole
   part-writable = record { ready = q .ready; page-lt = q .page-lt; page-length = e }
 
-module _ (sz : Sizes) (d : Directory) (u : Buffers) (n first : ℕ) (x page whole : Page) (answer : Answer) (d′ : Directory) (u′ : Buffers) (page′ : Page) where
-  pub part-wrote : whole ≡ combined (zeroPage sz) sz d (pages sz (u .flash) (u .pspace) (u .bspace)) n first x → Wrote sz d u n whole (plan leastRecent sz d (u .wear) n) answer d′ u′
+-- the combined page is read without a use, and so without the order of use
+module _ (sz : Sizes) (s f v r : List ℕ) (u : Buffers) (n first : ℕ) (x page whole : Page) (answer : Answer) (d′ : Directory) (u′ : Buffers) (page′ : Page) where
+  abbrev d : Directory
+  d = numbers s f v r
+
+  pub part-wrote : whole ≡ combined (zeroPage sz) sz (numbers s f v []) (pages sz (u .flash) (u .pspace) (u .bspace)) n first x → Wrote sz d u n whole (plan leastRecent sz d (u .wear) n) answer d′ u′
       → page′ ≡ cond (isRefused answer) page whole → PartWrote sz d u n first x page answer d′ u′ page′
-  unfolding memoryOf
+  unfolding memoryOf combined readPage inSlots slotOf frameWith inFrame
   part-wrote e h p = record { wrote = rw e at h; page-is = rw e at p }

@@ -1,6 +1,6 @@
 -- The record, the lent buffers and what a call hands back, as the model has them.
 use mathlib.Core.Bool.{Bool, _&&_}
-use mathlib.Core.List.{List, []}
+use mathlib.Core.List.{[]}
 use Prim.Native.Nat.{ℕ, _*_}
 use lib.Dec.{eqb}
 use Rattle.model.specs.Sizes as sizes
@@ -8,16 +8,11 @@ use Rattle.model.specs.Directory as directory
 use Rattle.model.specs.Calls as calls
 use Rattle.model.specs.Calls.{Buffers, Page}
 use Rattle.cache.specs.declared.Sizes.{Sizes}
-use Rattle.cache.specs.declared.Directory.{Directory}
 use Rattle.cache.specs.View.{sizesOf, directoryOf}
-use Rattle.writes.specs.declared.Written.{Written}
-use Rattle.flushes.specs.declared.Stepped.{Stepped}
-use Rattle.flushes.specs.declared.Flushed.{Flushed}
 use Rattle.answer.specs.Numbers.{openingOf, readOf, writeOf, stepOf, flushOf}
 use Rattle.store.specs.declared.Cache.{Cache}
 use Rattle.store.specs.declared.Opened.{Opened}
 use Rattle.store.specs.declared.ReadOut.{ReadOut}
-use Rattle.store.specs.declared.read.Seen.{Seen}
 use Rattle.store.specs.declared.WriteOut.{WriteOut}
 use Rattle.store.specs.declared.StepOut.{StepOut}
 use Rattle.store.specs.declared.FlushOut.{FlushOut}
@@ -32,35 +27,21 @@ openedOf r = record { answer = openingOf (r .answer); cache = cacheOf (r .cache)
 abbrev pub storeOf : Cache → Buffers → calls.Store
 storeOf c u = record { cache = cacheOf c; lent = u }
 
--- the same of sizes and directory
-abbrev pub storeWith : Sizes → Directory → Buffers → calls.Store
-storeWith z d u = record { cache = record { sizes = sizesOf z; directory = directoryOf d }; lent = u }
+-- the same of sizes and the directory's lists
+abbrev pub storeWith : Sizes → directory.Directory → Buffers → calls.Store
+storeWith z d u = record { cache = record { sizes = sizesOf z; directory = d }; lent = u }
 
 -- the answer, the record handed back, the buffers u and the page buffer
--- the same of what is handed up to the call: the order of use that directory d then has, without the sizes z
-abbrev pub withRecency : Directory → List ℕ → Directory
-withRecency d l = record { slots = d .slots; frames = d .frames; valid = d .valid; recency = l }
-
-abbrev pub seenResult : Sizes → Directory → Seen → Buffers → Page → calls.Result
-seenResult z d r u page = record { answer = readOf (r .answer); store = storeWith z (withRecency d (r .recency)) u; page = page }
+abbrev pub resultWith : calls.Answer → Sizes → directory.Directory → Buffers → Page → calls.Result
+resultWith a z d u page = record { answer = a; store = storeWith z d u; page = page }
 
 abbrev pub readResult : ReadOut → Buffers → Page → calls.Result
 readResult r u page = record { answer = readOf (r .answer); store = storeOf (r .cache) u; page = page }
-
--- the same of what is handed up to the call: the directory without the sizes z
-abbrev pub wroteResult : Sizes → Written → Buffers → Page → calls.Result
-wroteResult z r u page = record { answer = writeOf (r .answer); store = storeWith z (r .directory) u; page = page }
 
 abbrev pub writeResult : WriteOut → Buffers → Page → calls.Result
 writeResult r u page = record { answer = writeOf (r .answer); store = storeOf (r .cache) u; page = page }
 
 -- a flush step and a flush have no page buffer
-abbrev pub steppedResult : Sizes → Stepped → Buffers → calls.Result
-steppedResult z r u = record { answer = stepOf (r .answer); store = storeWith z (r .directory) u; page = [] }
-
-abbrev pub flushedResult : Sizes → Flushed → Buffers → calls.Result
-flushedResult z r u = record { answer = flushOf (r .answer); store = storeWith z (r .directory) u; page = [] }
-
 abbrev pub stepResult : StepOut → Buffers → calls.Result
 stepResult r u = record { answer = stepOf (r .answer); store = storeOf (r .cache) u; page = [] }
 

@@ -8,13 +8,15 @@ use answer::Refusal;
 use answer::Step;
 use cache::Directory;
 use cache::Sizes;
-use flushes::Flushed;
-use flushes::Stepped;
 ghost use mathlib.Core.Path.{_≡_};
+ghost use mathlib.Core.List.{[]};
 ghost use Rattle.model.specs.Policy.{leastRecent};
 ghost use Rattle.model.specs.Calls.{step, flush, call};
+ghost use Rattle.model.specs.Soundness.{sound as isSound};
+ghost use Rattle.cache.specs.View.{sizesOf, numbers};
+ghost use Rattle.answer.specs.Numbers.{stepOf, flushOf};
 ghost use Rattle.answer.specs.Carried.{buffers};
-ghost use Rattle.store.specs.View.{storeOf, storeWith, steppedResult, flushedResult, stepResult, flushResult};
+ghost use Rattle.store.specs.View.{storeOf, storeWith, resultWith, stepResult, flushResult};
 
 impl Cache {
     // Rewrites one block that has pages cached, the one that is due.
@@ -29,15 +31,29 @@ impl Cache {
     {
         let z = self.sizes;
         let d = self.directory;
-        let r = attempt_step(z, d, flash, wear, pspace, bspace);
-        let next = r.directory;
-        let answer = r.answer;
+        let sound = d.sound(z);
+        let mut slots = d.page_numbers();
+        let mut frames = d.block_numbers();
+        let mut valid = d.valid;
+        let recency = d.recency;
+        let answer = attempt_step(
+            z,
+            sound,
+            &mut slots,
+            &mut frames,
+            &mut valid,
+            &recency,
+            flash,
+            wear,
+            pspace,
+            bspace,
+        );
         StepOut {
             cache: Cache {
                 sizes: z,
-                directory: next,
+                directory: Directory::of(slots, frames, valid, recency),
             },
-            answer: answer,
+            answer,
         }
     }
 
@@ -53,67 +69,99 @@ impl Cache {
     {
         let z = self.sizes;
         let d = self.directory;
-        let r = attempt_flush(z, d, flash, wear, pspace, bspace);
-        let next = r.directory;
-        let answer = r.answer;
+        let sound = d.sound(z);
+        let mut slots = d.page_numbers();
+        let mut frames = d.block_numbers();
+        let mut valid = d.valid;
+        let recency = d.recency;
+        let answer = attempt_flush(
+            z,
+            sound,
+            &mut slots,
+            &mut frames,
+            &mut valid,
+            &recency,
+            flash,
+            wear,
+            pspace,
+            bspace,
+        );
         FlushOut {
             cache: Cache {
                 sizes: z,
-                directory: next,
+                directory: Directory::of(slots, frames, valid, recency),
             },
-            answer: answer,
+            answer,
         }
     }
 }
 
-// The checks, and the step.
+// The other checks, and the step, on the directory's lists.
 fn attempt_step(
     z: Sizes,
-    d: Directory,
+    sound: bool,
+    slots: &mut [u32; 128],
+    frames: &mut [u32; 8],
+    valid: &mut [u64; 8],
+    recency: &[u8; 8],
     flash: &mut [u8],
     wear: &mut [u32],
     pspace: &[u8],
     bspace: &mut [u8],
-) -> Stepped
-    ensures { λ r. ⌜ steppedResult z r (buffers (now (flash .exit)) (now (wear .exit)) (now (pspace .entry)) (now (bspace .exit))) ≡ call leastRecent (storeWith z d (buffers (now (flash .entry)) (now (wear .entry)) (now (pspace .entry)) (now (bspace .entry)))) step ⌝ }
+) -> Step
+    requires { ⌜ sound ≡ isSound (sizesOf z) (numbers (now slots) (now frames) (now valid) (now recency)) ⌝ }
+    ensures { λ r. ⌜ resultWith (stepOf r) z (numbers (now (slots .exit)) (now (frames .exit)) (now (valid .exit)) (now (recency .entry))) (buffers (now (flash .exit)) (now (wear .exit)) (now (pspace .entry)) (now (bspace .exit))) [] ≡ call leastRecent (storeWith z (numbers (now (slots .entry)) (now (frames .entry)) (now (valid .entry)) (now (recency .entry))) (buffers (now (flash .entry)) (now (wear .entry)) (now (pspace .entry)) (now (bspace .entry)))) step ⌝ }
 {
-    if !d.sound(z) {
-        return Stepped {
-            directory: d,
-            answer: Step::Refused(Refusal::Record),
-        };
+    if !sound {
+        return Step::Refused(Refusal::Record);
     }
     if !lent::lengths_ok(z, flash.len(), wear.len(), pspace.len(), bspace.len()) {
-        return Stepped {
-            directory: d,
-            answer: Step::Refused(Refusal::Buffer),
-        };
+        return Step::Refused(Refusal::Buffer);
     }
-    flushes::step(z, d, flash, wear, pspace, bspace)
+    flushes::step(
+        z,
+        slots,
+        frames,
+        valid,
+        recency,
+        flash,
+        wear,
+        pspace,
+        bspace,
+    )
 }
 
-// The checks, and the flush.
+// The other checks, and the flush, on the directory's lists.
 fn attempt_flush(
     z: Sizes,
-    d: Directory,
+    sound: bool,
+    slots: &mut [u32; 128],
+    frames: &mut [u32; 8],
+    valid: &mut [u64; 8],
+    recency: &[u8; 8],
     flash: &mut [u8],
     wear: &mut [u32],
     pspace: &[u8],
     bspace: &mut [u8],
-) -> Flushed
-    ensures { λ r. ⌜ flushedResult z r (buffers (now (flash .exit)) (now (wear .exit)) (now (pspace .entry)) (now (bspace .exit))) ≡ call leastRecent (storeWith z d (buffers (now (flash .entry)) (now (wear .entry)) (now (pspace .entry)) (now (bspace .entry)))) flush ⌝ }
+) -> Flush
+    requires { ⌜ sound ≡ isSound (sizesOf z) (numbers (now slots) (now frames) (now valid) (now recency)) ⌝ }
+    ensures { λ r. ⌜ resultWith (flushOf r) z (numbers (now (slots .exit)) (now (frames .exit)) (now (valid .exit)) (now (recency .entry))) (buffers (now (flash .exit)) (now (wear .exit)) (now (pspace .entry)) (now (bspace .exit))) [] ≡ call leastRecent (storeWith z (numbers (now (slots .entry)) (now (frames .entry)) (now (valid .entry)) (now (recency .entry))) (buffers (now (flash .entry)) (now (wear .entry)) (now (pspace .entry)) (now (bspace .entry)))) flush ⌝ }
 {
-    if !d.sound(z) {
-        return Flushed {
-            directory: d,
-            answer: Flush::Refused(Refusal::Record),
-        };
+    if !sound {
+        return Flush::Refused(Refusal::Record);
     }
     if !lent::lengths_ok(z, flash.len(), wear.len(), pspace.len(), bspace.len()) {
-        return Flushed {
-            directory: d,
-            answer: Flush::Refused(Refusal::Buffer),
-        };
+        return Flush::Refused(Refusal::Buffer);
     }
-    flushes::flush(z, d, flash, wear, pspace, bspace)
+    flushes::flush(
+        z,
+        slots,
+        frames,
+        valid,
+        recency,
+        flash,
+        wear,
+        pspace,
+        bspace,
+    )
 }

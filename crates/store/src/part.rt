@@ -2,24 +2,24 @@
 use crate::Cache;
 use crate::WriteOut;
 use crate::lent;
-use crate::write;
 use address::PageNo;
 use answer::Refusal;
 use answer::Write;
 use cache::Directory;
 use cache::Sizes;
-use writes::Written;
 ghost use mathlib.Core.Path.{_≡_};
 ghost use mathlib.Core.Bool.{cond};
+ghost use mathlib.Core.List.{[]};
 ghost use Prim.Native.Nat.{_+_, _≤_};
 ghost use lib.ListN.{length};
 ghost use Rattle.model.specs.Policy.{leastRecent};
+ghost use Rattle.model.specs.Soundness.{sound as isSound};
 ghost use Rattle.model.specs.Calls.{isRefused, part, zeroPage, combined, call};
-ghost use Rattle.cache.specs.View.{sizesOf, directoryOf};
+ghost use Rattle.cache.specs.View.{sizesOf, numbers};
 ghost use Rattle.answer.specs.Numbers.{writeOf};
 ghost use Rattle.answer.specs.Carried.{buffers};
 ghost use Rattle.reads.specs.Reads.{Readable, pages};
-ghost use Rattle.store.specs.View.{storeOf, storeWith, wroteResult, writeResult};
+ghost use Rattle.store.specs.View.{storeOf, storeWith, resultWith, writeResult};
 ghost use Rattle.store.specs.Parts.{PartReady, PartWrote};
 
 impl Cache {
@@ -40,23 +40,45 @@ impl Cache {
     {
         let z = self.sizes;
         let d = self.directory;
-        let w = attempt(z, d, flash, wear, pspace, bspace, n, first, bytes, page);
-        let next = w.directory;
-        let answer = w.answer;
+        let sound = d.sound(z);
+        let mut slots = d.page_numbers();
+        let mut frames = d.block_numbers();
+        let mut valid = d.valid;
+        let mut recency = d.recency;
+        let answer = attempt(
+            z,
+            sound,
+            &mut slots,
+            &mut frames,
+            &mut valid,
+            &mut recency,
+            flash,
+            wear,
+            pspace,
+            bspace,
+            n,
+            first,
+            bytes,
+            page,
+        );
         WriteOut {
             cache: Cache {
                 sizes: z,
-                directory: next,
+                directory: Directory::of(slots, frames, valid, recency),
             },
-            answer: answer,
+            answer,
         }
     }
 }
 
-// The checks, and the write.
+// The other checks, and the write, on the directory's lists.
 fn attempt(
     z: Sizes,
-    d: Directory,
+    sound: bool,
+    slots: &mut [u32; 128],
+    frames: &mut [u32; 8],
+    valid: &mut [u64; 8],
+    recency: &mut [u8; 8],
     flash: &mut [u8],
     wear: &mut [u32],
     pspace: &mut [u8],
@@ -65,34 +87,52 @@ fn attempt(
     first: u32,
     bytes: &[u8],
     page: &mut [u8],
-) -> Written
-    ensures { λ r. ⌜ wroteResult z r (buffers (now (flash .exit)) (now (wear .exit)) (now (pspace .exit)) (now (bspace .exit))) (now (page .exit)) ≡ call leastRecent (storeWith z d (buffers (now (flash .entry)) (now (wear .entry)) (now (pspace .entry)) (now (bspace .entry)))) (part (n .0) first (now (bytes .entry)) (now (page .entry))) ⌝ }
+) -> Write
+    requires { ⌜ sound ≡ isSound (sizesOf z) (numbers (now slots) (now frames) (now valid) (now recency)) ⌝ }
+    ensures { λ r. ⌜ resultWith (writeOf r) z (numbers (now (slots .exit)) (now (frames .exit)) (now (valid .exit)) (now (recency .exit))) (buffers (now (flash .exit)) (now (wear .exit)) (now (pspace .exit)) (now (bspace .exit))) (now (page .exit)) ≡ call leastRecent (storeWith z (numbers (now (slots .entry)) (now (frames .entry)) (now (valid .entry)) (now (recency .entry))) (buffers (now (flash .entry)) (now (wear .entry)) (now (pspace .entry)) (now (bspace .entry)))) (part (n .0) first (now (bytes .entry)) (now (page .entry))) ⌝ }
 {
-    if !d.sound(z) {
-        return write::refused(d, Refusal::Record);
+    if !sound {
+        return Write::Refused(Refusal::Record);
     }
     if !lent::lengths_ok(z, flash.len(), wear.len(), pspace.len(), bspace.len()) {
-        return write::refused(d, Refusal::Buffer);
+        return Write::Refused(Refusal::Buffer);
     }
     if page.len() != z.page_size as usize {
-        return write::refused(d, Refusal::Buffer);
+        return Write::Refused(Refusal::Buffer);
     }
     if z.blocks * z.pages_per_block <= n.0 {
-        return write::refused(d, Refusal::Page);
+        return Write::Refused(Refusal::Page);
     }
     if !lent::reach_ok(z, first, bytes.len()) {
-        return write::refused(d, Refusal::Buffer);
+        return Write::Refused(Refusal::Buffer);
     }
     if bytes.len() == 0 {
-        return writes::done(d, 0);
+        return Write::Done { way: 0 };
     }
-    write_apart(z, d, flash, wear, pspace, bspace, n, first, bytes, page)
+    write_apart(
+        z,
+        slots,
+        frames,
+        valid,
+        recency,
+        flash,
+        wear,
+        pspace,
+        bspace,
+        n,
+        first,
+        bytes,
+        page,
+    )
 }
 
 // Lends the write a page of its own for the combined page, since a refused one leaves the page buffer alone.
 fn write_apart(
     z: Sizes,
-    d: Directory,
+    slots: &mut [u32; 128],
+    frames: &mut [u32; 8],
+    valid: &mut [u64; 8],
+    recency: &mut [u8; 8],
     flash: &mut [u8],
     wear: &mut [u32],
     pspace: &mut [u8],
@@ -101,15 +141,18 @@ fn write_apart(
     first: u32,
     bytes: &[u8],
     page: &mut [u8],
-) -> Written
-    requires { ⌜ PartReady (sizesOf z) (directoryOf d) (buffers (now flash) (now wear) (now pspace) (now bspace)) (n .0) first (now bytes) (now page) ⌝ }
-    ensures { λ r. ⌜ PartWrote (sizesOf z) (directoryOf d) (buffers (now (flash .entry)) (now (wear .entry)) (now (pspace .entry)) (now (bspace .entry))) (n .0) first (now (bytes .entry)) (now (page .entry)) (writeOf (r .answer)) (directoryOf (r .directory)) (buffers (now (flash .exit)) (now (wear .exit)) (now (pspace .exit)) (now (bspace .exit))) (now (page .exit)) ⌝ }
+) -> Write
+    requires { ⌜ PartReady (sizesOf z) (numbers (now slots) (now frames) (now valid) (now recency)) (buffers (now flash) (now wear) (now pspace) (now bspace)) (n .0) first (now bytes) (now page) ⌝ }
+    ensures { λ r. ⌜ PartWrote (sizesOf z) (numbers (now (slots .entry)) (now (frames .entry)) (now (valid .entry)) (now (recency .entry))) (buffers (now (flash .entry)) (now (wear .entry)) (now (pspace .entry)) (now (bspace .entry))) (n .0) first (now (bytes .entry)) (now (page .entry)) (writeOf r) (numbers (now (slots .exit)) (now (frames .exit)) (now (valid .exit)) (now (recency .exit))) (buffers (now (flash .exit)) (now (wear .exit)) (now (pspace .exit)) (now (bspace .exit))) (now (page .exit)) ⌝ }
 {
     let s = z.page_size as usize;
     let mut whole = [0u8; 2048];
     write_combined(
         z,
-        d,
+        slots,
+        frames,
+        valid,
+        recency,
         flash,
         wear,
         pspace,
@@ -125,7 +168,10 @@ fn write_apart(
 // Makes the combined page in `whole`, writes it, and hands it back.
 fn write_combined(
     z: Sizes,
-    d: Directory,
+    slots: &mut [u32; 128],
+    frames: &mut [u32; 8],
+    valid: &mut [u64; 8],
+    recency: &mut [u8; 8],
     flash: &mut [u8],
     wear: &mut [u32],
     pspace: &mut [u8],
@@ -135,21 +181,46 @@ fn write_combined(
     bytes: &[u8],
     page: &mut [u8],
     whole: &mut [u8],
-) -> Written
-    requires { ⌜ PartReady (sizesOf z) (directoryOf d) (buffers (now flash) (now wear) (now pspace) (now bspace)) (n .0) first (now bytes) (now page) × (length (now whole) ≡ z .«page_size») ⌝ }
-    ensures { λ r. ⌜ PartWrote (sizesOf z) (directoryOf d) (buffers (now (flash .entry)) (now (wear .entry)) (now (pspace .entry)) (now (bspace .entry))) (n .0) first (now (bytes .entry)) (now (page .entry)) (writeOf (r .answer)) (directoryOf (r .directory)) (buffers (now (flash .exit)) (now (wear .exit)) (now (pspace .exit)) (now (bspace .exit))) (now (page .exit)) ⌝ }
+) -> Write
+    requires { ⌜ PartReady (sizesOf z) (numbers (now slots) (now frames) (now valid) (now recency)) (buffers (now flash) (now wear) (now pspace) (now bspace)) (n .0) first (now bytes) (now page) × (length (now whole) ≡ z .«page_size») ⌝ }
+    ensures { λ r. ⌜ PartWrote (sizesOf z) (numbers (now (slots .entry)) (now (frames .entry)) (now (valid .entry)) (now (recency .entry))) (buffers (now (flash .entry)) (now (wear .entry)) (now (pspace .entry)) (now (bspace .entry))) (n .0) first (now (bytes .entry)) (now (page .entry)) (writeOf r) (numbers (now (slots .exit)) (now (frames .exit)) (now (valid .exit)) (now (recency .exit))) (buffers (now (flash .exit)) (now (wear .exit)) (now (pspace .exit)) (now (bspace .exit))) (now (page .exit)) ⌝ }
 {
-    combine(z, d, flash, pspace, bspace, n, first, bytes, whole);
-    let w = writes::write(z, d, flash, wear, pspace, bspace, n, whole);
-    let answer = w.answer;
+    combine(
+        z,
+        slots,
+        frames,
+        valid,
+        flash,
+        pspace,
+        bspace,
+        n,
+        first,
+        bytes,
+        whole,
+    );
+    let answer = writes::write(
+        z,
+        slots,
+        frames,
+        valid,
+        recency,
+        flash,
+        wear,
+        pspace,
+        bspace,
+        n,
+        whole,
+    );
     deliver(answer, page, whole);
-    w
+    answer
 }
 
 // Page n, read without counting as a use, with the bytes laid in.
 fn combine(
     z: Sizes,
-    d: Directory,
+    slots: &[u32; 128],
+    frames: &[u32; 8],
+    valid: &[u64; 8],
     flash: &[u8],
     pspace: &[u8],
     bspace: &[u8],
@@ -158,10 +229,10 @@ fn combine(
     bytes: &[u8],
     whole: &mut [u8],
 )
-    requires { ⌜ Readable (sizesOf z) (directoryOf d) (now flash) (now pspace) (now bspace) (n .0) (now whole) × (first + length (now bytes) ≤ z .«page_size») ⌝ }
-    ensures { λ _. ⌜ now (whole .exit) ≡ combined (zeroPage (sizesOf z)) (sizesOf z) (directoryOf d) (pages (sizesOf z) (now (flash .entry)) (now (pspace .entry)) (now (bspace .entry))) (n .0) first (now (bytes .entry)) ⌝ }
+    requires { ⌜ Readable (sizesOf z) (now flash) (now pspace) (now bspace) (n .0) (now whole) × (first + length (now bytes) ≤ z .«page_size») ⌝ }
+    ensures { λ _. ⌜ now (whole .exit) ≡ combined (zeroPage (sizesOf z)) (sizesOf z) (numbers (now (slots .entry)) (now (frames .entry)) (now (valid .entry)) []) (pages (sizesOf z) (now (flash .entry)) (now (pspace .entry)) (now (bspace .entry))) (n .0) first (now (bytes .entry)) ⌝ }
 {
-    reads::peek(z, d, flash, pspace, bspace, n, whole);
+    reads::peek(z, slots, frames, valid, flash, pspace, bspace, n, whole);
     page::lay(whole, first as usize, bytes);
 }
 
@@ -172,6 +243,7 @@ fn deliver(answer: Write, page: &mut [u8], whole: &[u8])
 {
     match answer {
         Write::Done { .. } => page::lay(page, 0, whole),
+        Write::Rewrote { .. } => page::lay(page, 0, whole),
         Write::Refused(_) => {}
     }
 }

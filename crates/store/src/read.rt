@@ -11,10 +11,10 @@ ghost use mathlib.Core.Path.{_≡_};
 ghost use Rattle.model.specs.Policy.{leastRecent};
 ghost use Rattle.model.specs.Calls.{read, call};
 ghost use Rattle.model.specs.Soundness.{sound as isSound};
-ghost use Rattle.cache.specs.View.{sizesOf, directoryOf};
+ghost use Rattle.cache.specs.View.{sizesOf, numbers};
+ghost use Rattle.answer.specs.Numbers.{readOf};
 ghost use Rattle.answer.specs.Carried.{buffers};
-ghost use Rattle.answer.specs.declared.Read.the-variants.{Refused};
-ghost use Rattle.store.specs.View.{storeOf, storeWith, seenResult, readResult};
+ghost use Rattle.store.specs.View.{storeOf, storeWith, resultWith, readResult};
 
 impl Cache {
     // Reads page n into the page buffer. Nothing but the page buffer changes, and, where the page is in a frame, the order of
@@ -32,72 +32,83 @@ impl Cache {
     {
         let z = self.sizes;
         let d = self.directory;
-        let before = d.recency;
         let sound = d.sound(z);
-        let r = attempt(z, d, before, sound, flash, wear, pspace, bspace, n, page);
-        let recency = r.recency;
-        let answer = r.answer;
-        let mut next = d;
-        next.recency = recency;
+        let slots = d.page_numbers();
+        let frames = d.block_numbers();
+        let valid = d.valid;
+        let mut recency = d.recency;
+        let answer = attempt(
+            z,
+            sound,
+            &slots,
+            &frames,
+            &valid,
+            &mut recency,
+            flash,
+            wear,
+            pspace,
+            bspace,
+            n,
+            page,
+        );
+        let blocks = d.frames;
+        let pages = d.slots;
         ReadOut {
             cache: Cache {
                 sizes: z,
-                directory: next,
+                directory: Directory {
+                    recency,
+                    valid,
+                    frames: blocks,
+                    slots: pages,
+                },
             },
-            answer: answer,
+            answer,
         }
     }
 }
 
-// What a read answers, and the order of use, which is all of the record that it changes.
-struct Seen {
-    recency: [u8; 8],
-    answer: Read,
-}
-
-// The other checks, and the read. It hands d on whole and looks at nothing in it: so d is not copied to be handed on.
+// The other checks, and the read, on the directory's lists.
 fn attempt(
     z: Sizes,
-    d: Directory,
-    before: [u8; 8],
     sound: bool,
+    slots: &[u32; 128],
+    frames: &[u32; 8],
+    valid: &[u64; 8],
+    recency: &mut [u8; 8],
     flash: &[u8],
     wear: &[u32],
     pspace: &[u8],
     bspace: &[u8],
     n: PageNo,
     page: &mut [u8],
-) -> Seen
-    requires { ⌜ (before ≡ d .recency) × (sound ≡ isSound (sizesOf z) (directoryOf d)) ⌝ }
-    ensures { λ r. ⌜ seenResult z d r (buffers (now (flash .entry)) (now (wear .entry)) (now (pspace .entry)) (now (bspace .entry))) (now (page .exit)) ≡ call leastRecent (storeWith z d (buffers (now (flash .entry)) (now (wear .entry)) (now (pspace .entry)) (now (bspace .entry)))) (read (n .0) (now (page .entry))) ⌝ }
+) -> Read
+    requires { ⌜ sound ≡ isSound (sizesOf z) (numbers (now slots) (now frames) (now valid) (now recency)) ⌝ }
+    ensures { λ r. ⌜ resultWith (readOf r) z (numbers (now (slots .entry)) (now (frames .entry)) (now (valid .entry)) (now (recency .exit))) (buffers (now (flash .entry)) (now (wear .entry)) (now (pspace .entry)) (now (bspace .entry))) (now (page .exit)) ≡ call leastRecent (storeWith z (numbers (now (slots .entry)) (now (frames .entry)) (now (valid .entry)) (now (recency .entry))) (buffers (now (flash .entry)) (now (wear .entry)) (now (pspace .entry)) (now (bspace .entry)))) (read (n .0) (now (page .entry))) ⌝ }
 {
     if !sound {
-        return refused(before, Refusal::Record);
+        return Read::Refused(Refusal::Record);
     }
     if !lent::lengths_ok(z, flash.len(), wear.len(), pspace.len(), bspace.len()) {
-        return refused(before, Refusal::Buffer);
+        return Read::Refused(Refusal::Buffer);
     }
     if page.len() != z.page_size as usize {
-        return refused(before, Refusal::Buffer);
+        return Read::Refused(Refusal::Buffer);
     }
     if z.blocks * z.pages_per_block <= n.0 {
-        return refused(before, Refusal::Page);
+        return Read::Refused(Refusal::Page);
     }
-    let r = reads::read(z, d, flash, pspace, bspace, n, page);
-    let next = r.directory;
-    let recency = next.recency;
-    Seen {
-        recency: recency,
-        answer: Read::Done { way: r.way },
-    }
-}
-
-// The order of use handed back unaltered.
-fn refused(recency: [u8; 8], why: Refusal) -> Seen
-    ensures { λ r. ⌜ r ≡ record { recency = recency; answer = Refused why } ⌝ }
-{
-    Seen {
-        recency: recency,
-        answer: Read::Refused(why),
-    }
+    let way = reads::read(
+        z,
+        slots,
+        frames,
+        valid,
+        recency,
+        flash,
+        pspace,
+        bspace,
+        n,
+        page,
+    );
+    Read::Done { way }
 }

@@ -7,13 +7,14 @@ use answer::Refusal;
 use answer::Write;
 use cache::Directory;
 use cache::Sizes;
-use writes::Written;
 ghost use mathlib.Core.Path.{_≡_};
 ghost use Rattle.model.specs.Policy.{leastRecent};
 ghost use Rattle.model.specs.Calls.{write, call};
+ghost use Rattle.model.specs.Soundness.{sound as isSound};
+ghost use Rattle.cache.specs.View.{sizesOf, numbers};
+ghost use Rattle.answer.specs.Numbers.{writeOf};
 ghost use Rattle.answer.specs.Carried.{buffers};
-ghost use Rattle.answer.specs.declared.Write.the-variants.{Refused};
-ghost use Rattle.store.specs.View.{storeOf, storeWith, wroteResult, writeResult};
+ghost use Rattle.store.specs.View.{storeOf, storeWith, resultWith, writeResult};
 
 impl Cache {
     // Writes the page buffer as page n, by document 01's ways 1 to 7.
@@ -30,53 +31,76 @@ impl Cache {
     {
         let z = self.sizes;
         let d = self.directory;
-        let w = attempt(z, d, flash, wear, pspace, bspace, n, page);
-        let next = w.directory;
-        let answer = w.answer;
+        let sound = d.sound(z);
+        let mut slots = d.page_numbers();
+        let mut frames = d.block_numbers();
+        let mut valid = d.valid;
+        let mut recency = d.recency;
+        let answer = attempt(
+            z,
+            sound,
+            &mut slots,
+            &mut frames,
+            &mut valid,
+            &mut recency,
+            flash,
+            wear,
+            pspace,
+            bspace,
+            n,
+            page,
+        );
         WriteOut {
             cache: Cache {
                 sizes: z,
-                directory: next,
+                directory: Directory::of(slots, frames, valid, recency),
             },
-            answer: answer,
+            answer,
         }
     }
 }
 
-// The checks, and the write. The record has one way out, so that it is handed on without copies of copies.
+// The other checks, and the write, on the directory's lists.
 fn attempt(
     z: Sizes,
-    d: Directory,
+    sound: bool,
+    slots: &mut [u32; 128],
+    frames: &mut [u32; 8],
+    valid: &mut [u64; 8],
+    recency: &mut [u8; 8],
     flash: &mut [u8],
     wear: &mut [u32],
     pspace: &mut [u8],
     bspace: &mut [u8],
     n: PageNo,
     page: &[u8],
-) -> Written
-    ensures { λ r. ⌜ wroteResult z r (buffers (now (flash .exit)) (now (wear .exit)) (now (pspace .exit)) (now (bspace .exit))) (now (page .entry)) ≡ call leastRecent (storeWith z d (buffers (now (flash .entry)) (now (wear .entry)) (now (pspace .entry)) (now (bspace .entry)))) (write (n .0) (now (page .entry))) ⌝ }
+) -> Write
+    requires { ⌜ sound ≡ isSound (sizesOf z) (numbers (now slots) (now frames) (now valid) (now recency)) ⌝ }
+    ensures { λ r. ⌜ resultWith (writeOf r) z (numbers (now (slots .exit)) (now (frames .exit)) (now (valid .exit)) (now (recency .exit))) (buffers (now (flash .exit)) (now (wear .exit)) (now (pspace .exit)) (now (bspace .exit))) (now (page .entry)) ≡ call leastRecent (storeWith z (numbers (now (slots .entry)) (now (frames .entry)) (now (valid .entry)) (now (recency .entry))) (buffers (now (flash .entry)) (now (wear .entry)) (now (pspace .entry)) (now (bspace .entry)))) (write (n .0) (now (page .entry))) ⌝ }
 {
-    if !d.sound(z) {
-        return refused(d, Refusal::Record);
+    if !sound {
+        return Write::Refused(Refusal::Record);
     }
     if !lent::lengths_ok(z, flash.len(), wear.len(), pspace.len(), bspace.len()) {
-        return refused(d, Refusal::Buffer);
+        return Write::Refused(Refusal::Buffer);
     }
     if page.len() != z.page_size as usize {
-        return refused(d, Refusal::Buffer);
+        return Write::Refused(Refusal::Buffer);
     }
     if z.blocks * z.pages_per_block <= n.0 {
-        return refused(d, Refusal::Page);
+        return Write::Refused(Refusal::Page);
     }
-    writes::write(z, d, flash, wear, pspace, bspace, n, page)
-}
-
-// The directory handed back unaltered.
-pub fn refused(d: Directory, why: Refusal) -> Written
-    ensures { λ r. ⌜ r ≡ record { directory = d; answer = Refused why } ⌝ }
-{
-    Written {
-        directory: d,
-        answer: Write::Refused(why),
-    }
+    writes::write(
+        z,
+        slots,
+        frames,
+        valid,
+        recency,
+        flash,
+        wear,
+        pspace,
+        bspace,
+        n,
+        page,
+    )
 }

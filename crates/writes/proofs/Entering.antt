@@ -2,34 +2,44 @@
 use mathlib.Core.Path.{_≡_, ap, _∙_}
 use mathlib.Core.List.{List, []}
 use Prim.Native.Nat.{ℕ, _*_, _<_}
+use native.Mathlib.Omega.{arith}
 use lib.ListN.{length, set}
 use borrow.Author.Tests.{lt-ltb}
 use Rattle.model.specs.Sizes.{Sizes, vacant}
 use Rattle.model.specs.Directory.{Directory}
 use Rattle.model.specs.Policy.{inSlots, slotOf}
-use Rattle.model.specs.Moves.{Memory, touched, putSlot, entered, joined, joinedPages, exchanged, putSlotPage}
+use Rattle.model.specs.Moves.{Memory, recencyAfter, touched, putSlot, entered, joined, joinedPages, exchanged, putSlotPage}
 use Rattle.model.specs.Calls.{Page, slotPages, framePages}
 use Rattle.model.proofs.Lookup.{found-slot}
 use Rattle.model.proofs.Kept.{joined-sound, exchanged-sound, exchanged-vacant}
 use Rattle.model.proofs.Plan.{some-bit, joined-vacant}
+use Rattle.cache.specs.View.{numbers}
 use Rattle.moves.specs.Spaces.{spaces, Joined}
 use Rattle.moves.specs.Exchange.{Exchanged}
+use Rattle.moves.proofs.Recency.{touched-is}
 use Rattle.writes.specs.Writes.{OverSlot}
 use Rattle.writes.specs.Enter.{Enters, Entered, JoinEnters, JoinEntered, ExchangeEnters, ExchangeEntered}
 
-module _ (sz : Sizes) (d : Directory) (f : ℕ) (pspace page : List ℕ) (q : Enters sz d f pspace page) where
-  pub slot-lt : (i : ℕ) → i ≡ slotOf sz d vacant → i < sz .P
-  slot-lt i e = rw e (found-slot sz d vacant (q .room) .0)
+module _ (sz : Sizes) (d : Directory) (f : ℕ) (pspace page : List ℕ) (q : Enters sz d f pspace page) (i : ℕ) (first-vacant : i ≡ slotOf sz (numbers (d .slots) [] [] []) vacant) where
+  slot-is : i ≡ slotOf sz d vacant
+  unfolding slotOf
+  slot-is = first-vacant
 
-  pub over : (i : ℕ) → i ≡ slotOf sz d vacant → OverSlot sz i pspace page
-  over i e = record { limits = q .sound .limits; slot-lt = slot-lt i e; pspace-length = q .pspace-length; page-length = q .page-length }
+  slot-lt : i < sz .P
+  slot-lt = rw slot-is (found-slot sz d vacant (q .room) .0)
 
-  pub enter-is : (n i : ℕ) (r : Directory) (pspace′ : List ℕ) → i ≡ slotOf sz d vacant → r ≡ putSlot (touched sz d f) i n
-      → slotPages sz pspace′ ≡ set (slotPages sz pspace) i page → Entered sz d f pspace n page r pspace′
-  unfolding entered touched slotOf
-  enter-is n i r pspace′ ei er ep = record {
-    directory-is = er ∙ ap (λ (x : ℕ). putSlot (touched sz d f) x n) ei;
-    pages-are = ep ∙ ap (λ (x : ℕ). set (slotPages sz pspace) x page) ei;
+  pub slot-small : i < 128
+  slot-small = let l = slot-lt in let h = q .sound .limits .P-high in omega arith
+
+  pub over : OverSlot sz i pspace page
+  over = record { limits = q .sound .limits; slot-lt = slot-lt; pspace-length = q .pspace-length; page-length = q .page-length }
+
+  pub enter-is : (n : ℕ) (order pspace′ : List ℕ) → order ≡ recencyAfter sz (numbers [] [] [] (d .recency)) f → slotPages sz pspace′ ≡ set (slotPages sz pspace) i page
+      → Entered sz d f pspace n page (numbers (set (d .slots) i n) (d .frames) (d .valid) order) pspace′
+  unfolding entered touched slotOf putSlot
+  enter-is n order pspace′ eo ep = record {
+    directory-is = ap (λ (x : Directory). putSlot x i n) (touched-is sz d f order eo) ∙ ap (λ (x : ℕ). putSlot (touched sz d f) x n) slot-is;
+    pages-are = ep ∙ ap (λ (x : ℕ). set (slotPages sz pspace) x page) slot-is;
   }
 
 module _ (sz : Sizes) (d : Directory) (v f : ℕ) (pspace bspace page : List ℕ) where

@@ -10,7 +10,7 @@ use Rattle.prelude.proofs.Tests.{by-test}
 use Rattle.model.specs.Sizes.{Sizes, vacant}
 use Rattle.model.specs.Directory.{Directory, frameAt}
 use Rattle.model.specs.Soundness.{Sound}
-use Rattle.model.specs.Policy.{Choice, slotOf, frameOf, validCount, slotCount, isWorn, Plan, slotHit, frameHit, freeSlot, join, fill, exchange, evict, plan, victim, leastRecent, mergeReads, due}
+use Rattle.model.specs.Policy.{Choice, slotOf, frameOf, validCount, slotCount, isWorn, Plan, slotHit, frameHit, freeSlot, join, fill, exchange, evict, plan, victim, leastRecent, due}
 use Rattle.model.specs.Moves.{Memory, wornBy, touched, putSlot, entered, stepped, written, steppedPages, writtenPages, putSlotPage, putFramePage, joined, joinedPages, filled, exchangedPages}
 use Rattle.model.specs.Calls.{Answer, writeDone, refused, writeOutcome, Page, Buffers, zeroPage, flashPages, slotPages, framePages, memoryOf}
 use Rattle.model.specs.Lists.{Picks}
@@ -20,8 +20,6 @@ use Rattle.model.proofs.Plan.{leastRecent-picks, victim-lt, victim-pos, sole-ow
 use Rattle.moves.specs.Spaces.{spaces}
 use Rattle.policy.specs.declared.decision.Plan as code
 use Rattle.policy.specs.Views.{planOf}
-use Rattle.cache.specs.declared.Directory as cache
-use Rattle.cache.specs.View.{directoryOf}
 use Rattle.clean.specs.Clean.{Cleanable, BlockCleaned}
 use Rattle.answer.specs.Carried.{Carried, buffers}
 use Rattle.writes.specs.Writes.{Writable, state, Wrote, Evicts}
@@ -81,21 +79,21 @@ module _ (sz : Sizes) (d : Directory) (flash wear pspace bspace : List ℕ) (v f
   block-below : frameAt d f < vacant
   block-below = block-vacant sz (q .ready .sound .limits) (frameAt d f) (q .changing .block-lt)
 
-  pub worn-way : (n b : ℕ) → b ≡ frameAt d f → sz .W ≤ getD wear b 0 → Wrote sz d evicting n page (evict v f) (refused 6 b) d evicting
+  pub worn-way : (n : ℕ) → sz .W ≤ getD wear (frameAt d f) 0 → Wrote sz d evicting n page (evict v f) (refused 6 (frameAt d f)) d evicting
   unfolding writeOutcome isWorn
-  worn-way n b e l = let t : isWorn sz wear (frameAt d f) ≡ true = rw (lt-ltb (frameAt d f) vacant block-below) (le-leb (sz .W) (getD wear (frameAt d f) 0) (rw e at l)) in
-      rw (t, writeOutcome) (record { answer-is = ap (refused 6) e; directory-is = refl; wear-is = refl; pages-are = refl })
+  worn-way n l = let t : isWorn sz wear (frameAt d f) ≡ true = rw (lt-ltb (frameAt d f) vacant block-below) (le-leb (sz .W) (getD wear (frameAt d f) 0) l) in
+      rw (t, writeOutcome) (record { answer-is = refl; directory-is = refl; wear-is = refl; pages-are = refl })
 
   -- the frame's block may be cleaned as by a flush step
   block-ready : steps.Ready sz d (frameAt d f) f
   block-ready = steps.ready-frame sz d (q .ready .sound) f (q .changing .frame-lt) block-below
 
-  pub cleanable : (b : ℕ) → b ≡ frameAt d f → getD wear b 0 < sz .W → Cleanable sz d evicting b f
-  cleanable b e l = record { ready = q .ready; block = rw e block-ready; unworn = l }
+  pub cleanable : getD wear (frameAt d f) 0 < sz .W → Cleanable sz d evicting (frameAt d f) f
+  cleanable l = record { ready = q .ready; block = block-ready; unworn = l }
 
   -- and the victim's pages may join the frame then
-  pub cleaned-joins : (b : ℕ) (e : Directory) (bspace₁ : List ℕ) → b ≡ frameAt d f → e ≡ stepped sz d (due b f) → length bspace₁ ≡ sz .B * sz .K * sz .S → JoinEnters sz e v f pspace bspace₁ page
-  cleaned-joins b e bspace₁ eb h l = let s = q .ready .sound in let g = q .changing in let a : ℕ = frameAt d f in rw (h, eb) (record {
+  pub cleaned-joins : (e : Directory) (bspace₁ : List ℕ) → e ≡ stepped sz d (due (frameAt d f) f) → length bspace₁ ≡ sz .B * sz .K * sz .S → JoinEnters sz e v f pspace bspace₁ page
+  cleaned-joins e bspace₁ h l = let s = q .ready .sound in let g = q .changing in let a : ℕ = frameAt d f in rw h (record {
     spaced = record { sound = steps.stepped-sound sz d s a f block-ready; pspace-length = q .ready .fits .pspace-length; bspace-length = l; page-length = q .page-length };
     joining = record {
       victim-lt = g .victim-lt;
@@ -105,21 +103,19 @@ module _ (sz : Sizes) (d : Directory) (flash wear pspace bspace : List ℕ) (v f
     };
   })
 
-  pub way-7 : (n b reads : ℕ) (e d′ : Directory) (flash′ wear′ pspace′ bspace₁ bspace′ : List ℕ) → b ≡ frameAt d f → getD wear b 0 < sz .W
-      → BlockCleaned sz d evicting b f e reads (buffers flash′ wear′ pspace bspace₁) → JoinEntered sz e v f pspace bspace₁ n page d′ pspace′ bspace′
-      → Wrote sz d evicting n page (evict v f) (writeDone 7 b reads) d′ (buffers flash′ wear′ pspace′ bspace′)
+  pub way-7 : (n reads : ℕ) (e d′ : Directory) (flash′ wear′ pspace′ bspace₁ bspace′ : List ℕ) → getD wear (frameAt d f) 0 < sz .W
+      → BlockCleaned sz d evicting (frameAt d f) f e reads (buffers flash′ wear′ pspace bspace₁) → JoinEntered sz e v f pspace bspace₁ n page d′ pspace′ bspace′
+      → Wrote sz d evicting n page (evict v f) (writeDone 7 (frameAt d f) reads) d′ (buffers flash′ wear′ pspace′ bspace′)
   unfolding writeOutcome isWorn written writtenPages
-  way-7 n b reads e d′ flash′ wear′ pspace′ bspace₁ bspace′ eb l w j =
-      let t : isWorn sz wear (frameAt d f) ≡ false = by-test (ltb (frameAt d f) vacant) (λ a. rw (a, lt-leb (sz .W) (getD wear (frameAt d f) 0) (rw eb at l))) (λ a. rw a) in
-      let ee : e ≡ stepped sz d (due (frameAt d f) f) = w .directory-is ∙ ap (λ (x : ℕ). stepped sz d (due x f)) eb in
+  way-7 n reads e d′ flash′ wear′ pspace′ bspace₁ bspace′ l w j =
+      let t : isWorn sz wear (frameAt d f) ≡ false = by-test (ltb (frameAt d f) vacant) (λ a. rw (a, lt-leb (sz .W) (getD wear (frameAt d f) 0) l)) (λ a. rw a) in
       rw (t, writeOutcome) (record {
-        answer-is = ap (λ (x : ℕ). writeDone 7 x reads) eb ∙ ap (writeDone 7 (frameAt d f)) (w .reads-are ∙ ap (λ (x : ℕ). mergeReads sz (joined sz d x f) f) eb);
-        directory-is = j .directory-is ∙ ap (λ (x : Directory). entered sz (touched sz (joined sz x v f) f) n) ee;
-        wear-is = w .wear-is ∙ ap (wornBy wear) eb;
+        answer-is = ap (writeDone 7 (frameAt d f)) (w .reads-are);
+        directory-is = j .directory-is ∙ ap (λ (x : Directory). entered sz (touched sz (joined sz x v f) f) n) (w .directory-is);
+        wear-is = w .wear-is;
         pages-are = joined-beside sz e d′ flash′ wear′ pspace bspace₁ pspace′ bspace′ v f n page j
-            ∙ ap (λ (x : Memory Page). putSlotPage (joinedPages (zeroPage sz) sz e x v f) (slotOf sz (joined sz e v f) vacant) page)
-            (w .pages-are ∙ ap (λ (x : ℕ). steppedPages (zeroPage sz) sz d (memoryOf sz evicting) (due x f)) eb)
-            ∙ ap (λ (x : Directory). putSlotPage (joinedPages (zeroPage sz) sz x (steppedPages (zeroPage sz) sz d (memoryOf sz evicting) (due (frameAt d f) f)) v f) (slotOf sz (joined sz x v f) vacant) page) ee;
+            ∙ ap (λ (x : Memory Page). putSlotPage (joinedPages (zeroPage sz) sz e x v f) (slotOf sz (joined sz e v f) vacant) page) (w .pages-are)
+            ∙ ap (λ (x : Directory). putSlotPage (joinedPages (zeroPage sz) sz x (steppedPages (zeroPage sz) sz d (memoryOf sz evicting) (due (frameAt d f) f)) v f) (slotOf sz (joined sz x v f) vacant) page) (w .directory-is);
       })
 
 -- ---- what holds of the plan
@@ -158,10 +154,6 @@ module _ (sz : Sizes) (d : Directory) (u : Buffers) (n : ℕ) (page : Page) (q :
 
   pub by-plan : {a : Answer} {d′ : Directory} {w′ : List ℕ} {m′ : Memory Page} → To (planOf shown) a d′ w′ m′ → To (plan leastRecent sz d (u .wear) n) a d′ w′ m′
   by-plan {a} {d′} {w′} {m′} w = subst (λ (p : Plan). To p a d′ w′ m′) (sym (ap planOf is-shown) ∙ is-plan) w
-
-  pub done-by : (way : ℕ) (a : Answer) (r t : cache.Directory) {w′ : List ℕ} {m′ : Memory Page} → (a ≡ writeDone way vacant 0) × (r ≡ t) → To (planOf shown) (writeDone way vacant 0) (directoryOf t) w′ m′
-      → To (plan leastRecent sz d (u .wear) n) a (directoryOf r) w′ m′
-  done-by way a r t e w = rw (e .0, e .1) (by-plan w)
 
   pub spaced : Spaced sz d (u .pspace) (u .bspace) page
   spaced = record { sound = q .ready .sound; pspace-length = q .ready .fits .pspace-length; bspace-length = q .ready .fits .bspace-length; page-length = q .page-length }

@@ -1,22 +1,22 @@
 // Way 7: the frame's block is cleaned as by a flush step, and the victim's pages fill the frame.
-use crate::Written;
 use crate::enter;
 use address::BlockNo;
 use address::PageNo;
-use answer::Erased;
 use answer::Refusal;
 use answer::Write;
-use cache::Directory;
 use cache::Sizes;
 ghost use Rattle.model.specs.Policy.{evict};
-ghost use Rattle.cache.specs.View.{sizesOf, directoryOf};
+ghost use Rattle.cache.specs.View.{sizesOf, numbers};
 ghost use Rattle.answer.specs.Numbers.{writeOf};
 ghost use Rattle.answer.specs.Carried.{buffers};
 ghost use Rattle.writes.specs.Writes.{Evicts, Wrote};
 
 pub fn evict(
     z: Sizes,
-    d: Directory,
+    slots: &mut [u32; 128],
+    frames: &mut [u32; 8],
+    valid: &mut [u64; 8],
+    recency: &mut [u8; 8],
     flash: &mut [u8],
     wear: &mut [u32],
     pspace: &mut [u8],
@@ -25,26 +25,40 @@ pub fn evict(
     f: usize,
     n: PageNo,
     page: &[u8],
-) -> Written
-    requires { ⌜ Evicts (sizesOf z) (directoryOf d) (buffers (now flash) (now wear) (now pspace) (now bspace)) (v .0) f (now page) ⌝ }
-    ensures { λ r. ⌜ Wrote (sizesOf z) (directoryOf d) (buffers (now (flash .entry)) (now (wear .entry)) (now (pspace .entry)) (now (bspace .entry))) (n .0) (now (page .entry)) (evict (v .0) f) (writeOf (r .answer)) (directoryOf (r .directory)) (buffers (now (flash .exit)) (now (wear .exit)) (now (pspace .exit)) (now (bspace .exit))) ⌝ }
+) -> Write
+    requires { ⌜ Evicts (sizesOf z) (numbers (now slots) (now frames) (now valid) (now recency)) (buffers (now flash) (now wear) (now pspace) (now bspace)) (v .0) f (now page) ⌝ }
+    ensures { λ r. ⌜ Wrote (sizesOf z) (numbers (now (slots .entry)) (now (frames .entry)) (now (valid .entry)) (now (recency .entry))) (buffers (now (flash .entry)) (now (wear .entry)) (now (pspace .entry)) (now (bspace .entry))) (n .0) (now (page .entry)) (evict (v .0) f) (writeOf r) (numbers (now (slots .exit)) (now (frames .exit)) (now (valid .exit)) (now (recency .exit))) (buffers (now (flash .exit)) (now (wear .exit)) (now (pspace .exit)) (now (bspace .exit))) ⌝ }
 {
-    let b = d.frames[f];
+    let b = BlockNo(frames[f]);
     let i = b.0 as usize;
     if z.wear_limit <= wear[i] {
-        return Written {
-            directory: d,
-            answer: Write::Refused(Refusal::Worn(b)),
-        };
+        return Write::Refused(Refusal::Worn(b));
     }
-    let cleaned = clean::clean_block(z, d, flash, wear, pspace, bspace, b, f);
-    let r = enter::join(z, cleaned.directory, pspace, bspace, v, f, n, page);
-    Written {
-        directory: r,
-        answer: Write::Done {
-            way: 7,
-            erased: Erased::Block(b),
-            merged: cleaned.merged,
-        },
-    }
+    let merged = clean::clean_block(
+        z,
+        slots,
+        frames,
+        valid,
+        recency,
+        flash,
+        wear,
+        pspace,
+        bspace,
+        b,
+        f,
+    );
+    enter::join(
+        z,
+        slots,
+        frames,
+        valid,
+        recency,
+        pspace,
+        bspace,
+        v,
+        f,
+        n,
+        page,
+    );
+    Write::Rewrote { block: b, merged }
 }

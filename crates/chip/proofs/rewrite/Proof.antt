@@ -1,10 +1,11 @@
 use mathlib.Core.Path.{_≡_, ap, _∙_}
+use mathlib.Core.List.{[]}
 use Prim.Native.Nat.{ℕ, _-_}
 use native.Mathlib.Omega.{arith}
 use borrow.Author.Needs.{needs}
+use Rattle.prelude.proofs.Bits.{count-within}
 use Rattle.model.specs.Policy.{validCount}
-use Rattle.model.proofs.Plan.{valid-ones}
-use Rattle.cache.specs.View.{sizesOf, directoryOf}
+use Rattle.cache.specs.View.{sizesOf, numbers}
 use Rattle.page.specs.Page.{HasPage}
 use Rattle.chip.proofs.Rewriting.{valid-le, in-bspace, rewritten-is}
 use Rattle.chip.proofs.rewrite.Statement.{statement}
@@ -13,9 +14,9 @@ use Rattle.chip.proofs.rewrite.Tie as tie
 abbrev start : tie.After-count → tie.Start
 start c = c .before .before .before .before .before
 
-counted : (c : tie.After-count) → c .count .result ≡ validCount (sizesOf (start c .args .z)) (directoryOf (start c .args .t2)) (start c .args .f)
-unfolding directoryOf
-counted c = c .count .ensures ∙ valid-ones _ _ (start c .pre .sound) (start c .args .f) (start c .pre .f-lt)
+counted : (c : tie.After-count) → c .count .result ≡ validCount (sizesOf (start c .args .z)) (numbers [] [] (start c .args .valid .now) []) (start c .args .f)
+unfolding validCount
+counted c = c .count .ensures ∙ count-within (start c .args .z .«pages_per_block») 64 _ (start c .pre .valid-lt) (start c .pre .limits .K-high)
 
 fits : (c : tie.After-block-size) → HasPage (c .block-size .result) (start (c .before .before) .args .bspace .now) (start (c .before .before) .args .f)
 fits c = rw (c .block-size .ensures) (in-bspace _ _ _ _ _ _ _ (start (c .before .before) .pre))
@@ -80,7 +81,6 @@ same-length-3 : tie.Need-same-length-3
 same-length-3 c = search needs
 
 returns : tie.Need-returns
-unfolding directoryOf
 returns c =
     let programs = c .before .before in
     let erased = programs .before .before .before .before .before .before .before .before in

@@ -11,43 +11,39 @@ use Rattle.clash_c.proofs.refused.Reads as refused-reads
 enum-known-a : tie.Need-enum-known-a
 enum-known-a c = search needs
 
-enum-known-erased : tie.Need-enum-known-erased
-enum-known-erased c = search needs
-
 done-requires : tie.Need-done-requires
 done-requires c κs = search needs
 
-enum-told : tie.Need-enum-told
-enum-told c = search needs
+enum-known-a-2 : tie.Need-enum-known-a-2
+enum-known-a-2 c = search needs
 
 done-requires-2 : tie.Need-done-requires-2
 done-requires-2 c κs = search needs
 
-enum-known-a-2 : tie.Need-enum-known-a-2
-enum-known-a-2 c = search needs
+enum-known-a-3 : tie.Need-enum-known-a-3
+enum-known-a-3 c = search needs
 
 refused-requires : tie.Need-refused-requires
 refused-requires c κs = search needs
 
 returns : tie.Need-returns
-returns c = rw (c .done .ensures) (rw (c .before .before .before .before .before .a .given .1) (rw (c .before .before .erased .given .1) refl))
+returns c = rw (c .done .ensures) (rw (c .before .before .a .given .1) refl)
 
 returns-2 : tie.Need-returns-2
-returns-2 c = rw (c .done2 .ensures) (rw (c .before .before .before .before .a .given .1) (rw (c .before .enum-told .given .1) refl))
+returns-2 c = rw (c .done2 .ensures) (rw (c .before .before .a2 .given .1) refl)
 
 returns-3 : tie.Need-returns-3
-returns-3 c = rw (c .refused .ensures .1) (c .refused .ensures .0 ∙ sym (ap writeOf (c .before .before .a2 .given .1)))
+returns-3 c = rw (c .refused .ensures .1) (c .refused .ensures .0 ∙ sym (ap writeOf (c .before .before .a3 .given .1)))
 
 pub write-answer-spec : {M : Type 1} → statement M
 write-answer-spec =
     tie.close
     (tie.spec
     enum-known-a
-    enum-known-erased
     done-requires
-    enum-told
-    done-requires-2
     enum-known-a-2
+    done-requires-2
+    enum-known-a-3
     refused-requires
     returns
     returns-2

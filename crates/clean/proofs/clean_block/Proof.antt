@@ -1,16 +1,33 @@
 use borrow.Author.Needs.{needs}
-use Rattle.clean.proofs.Cleaning.{frame-small, rewritable, cleaned}
+use native.Mathlib.Omega.{arith}
+use Rattle.model.specs.Moves.{vacated}
+use Rattle.clean.proofs.Cleaning.{frame-small, joined-is-sound, rewritable, cleaned}
 use Rattle.clean.proofs.clean_block.Statement.{statement}
 use Rattle.clean.proofs.clean_block.Tie as tie
+
+abbrev start : tie.After-join → tie.Start
+start c = c .before .before .before .before .before .before .before .before .before
 
 join-requires : tie.Need-join-requires
 join-requires c κs = search needs
 
 rewrite-requires : tie.Need-rewrite-requires
-rewrite-requires c κs = rewritable (c .before .before .before .before .before .before .before .before .before .before .before .pre) _ _ (c .before .before .before .before .before .join .ensures .directory) (c .before .before .before .before .before .join .kept .1 .1 .1 .0)
+rewrite-requires c κs =
+    let at = c .before .before .before .before .before .before in
+    let sound = joined-is-sound (start at .pre) _ (at .join .ensures .directory) in
+    rewritable (start at .pre) _ _ sound (at .join .kept .1 .1 .1 .1 .1 .1 .0)
 
-vacated-requires : tie.Need-vacated-requires
-vacated-requires c κs = frame-small (c .before .before .before .before .before .before .before .before .before .before .before .before .before .before .before .before .before .before .pre)
+mul-frames : tie.Need-mul-frames
+mul-frames c = let l = frame-small (start (c .before .before .before .before .before .before .before .before .before .before .before .before .before) .pre) in record { fits = omega arith }
+
+element-write-frames : tie.Need-element-write-frames
+element-write-frames c = frame-small (start (c .before .before .before .before .before .before .before .before .before .before .before .before .before) .pre)
+
+mul-valid : tie.Need-mul-valid
+mul-valid c = let l = frame-small (start (c .before .before .before .before .before .before .before .before .before .before .before .before .before) .pre) in record { fits = omega arith }
+
+element-write-valid : tie.Need-element-write-valid
+element-write-valid c = frame-small (start (c .before .before .before .before .before .before .before .before .before .before .before .before .before) .pre)
 
 same-length : tie.Need-same-length
 same-length c = search needs
@@ -22,7 +39,8 @@ same-length-3 : tie.Need-same-length-3
 same-length-3 c = search needs
 
 returns : tie.Need-returns
-returns c = cleaned (c .before .before .before .before .before .before .before .before .before .before .before .before .before .before .before .before .before .before .before .pre) _ _ (c .before .before .before .before .before .before .before .before .before .before .before .before .before .join .ensures) _ _ _ _ (c .before .before .before .before .before .before .before .rewrite .ensures) _ (c .vacated .ensures)
+unfolding vacated
+returns c = let at = c .before .before .before .before .before .before .before .before .before .before .before .before .before in cleaned (start at .pre) _ _ (at .join .ensures) _ _ _ _ (c .before .before .before .before .before .before .rewrite .ensures)
 
 pub clean-block-spec : {M : Type 1} → statement M
 clean-block-spec =
@@ -30,7 +48,10 @@ clean-block-spec =
     (tie.spec
     join-requires
     rewrite-requires
-    vacated-requires
+    mul-frames
+    element-write-frames
+    mul-valid
+    element-write-valid
     same-length
     same-length-2
     same-length-3

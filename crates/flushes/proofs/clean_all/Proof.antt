@@ -4,30 +4,33 @@ use mathlib.Core.Path.{_≡_, sym, ap, _∙_}
 use Prim.Native.Nat.{_-_}
 use Rattle.model.specs.Policy.{leastRecent, due, dueOf}
 use Rattle.answer.specs.Carried.{buffers}
-use Rattle.cache.specs.View.{sizesOf, directoryOf}
+use Rattle.cache.specs.View.{sizesOf, numbers}
 use Rattle.policy.specs.Views.{dueView}
+use Rattle.flushes.proofs.Stepping.{due-same}
 use Rattle.flushes.proofs.Flushing.{Underway, fits-kept, begins, flush-done, cleanable, left, merges-small, turns}
 use Rattle.flushes.proofs.clean_all.Statement.{statement}
 use Rattle.flushes.proofs.clean_all.Tie as tie
 
 abbrev Inv-loop : tie.InvT-loop
-Inv-loop z d₀ flash₀ wear₀ pspace bspace₀ rewrites₀ merged₀ d flash wear bspace rewrites merged = Underway (sizesOf z) (directoryOf d₀) (buffers flash₀ wear₀ pspace bspace₀) (directoryOf d) (buffers flash wear pspace bspace) rewrites merged
+Inv-loop z slots₀ frames₀ valid₀ recency flash₀ wear₀ pspace bspace₀ rewrites₀ merged₀ slots frames valid flash wear bspace rewrites merged =
+    Underway (sizesOf z) (numbers slots₀ frames₀ valid₀ recency) (buffers flash₀ wear₀ pspace bspace₀) (numbers slots frames valid recency) (buffers flash wear pspace bspace) rewrites merged
 
 abbrev μ-loop : tie.MeasureT-loop
-μ-loop z d₀ flash₀ wear₀ pspace bspace₀ rewrites₀ merged₀ d flash wear bspace rewrites merged = z .blocks - rewrites
+μ-loop z slots₀ frames₀ valid₀ recency flash₀ wear₀ pspace bspace₀ rewrites₀ merged₀ slots frames valid flash wear bspace rewrites merged = z .blocks - rewrites
 
 abbrev head : tie.After-due2 Inv-loop μ-loop → tie.At-loop Inv-loop μ-loop
-head c = c .before .before .before
+head c = c .before .before .before .before .before
 
 -- the block and the frame that are due
-found : (c : tie.After-due2 Inv-loop μ-loop) → due (c .due2 .given .0 .0 .0) (c .due2 .given .0 .1 .0) ≡ dueOf leastRecent (sizesOf (head c .before .before .before .before .before .args .z)) (directoryOf (head c .loop .d))
-found c = sym (ap dueView (c .due2 .given .1)) ∙ c .before .before .due .ensures
+found : (c : tie.After-due2 Inv-loop μ-loop) → let a = head c .before .before .before .before .before .args in due (c .due2 .given .0 .0 .0) (c .due2 .given .0 .1 .0)
+    ≡ dueOf leastRecent (sizesOf (a .z)) (numbers (head c .loop .slots) (head c .loop .frames) (head c .loop .valid) (a .recency .now))
+found c = sym (ap dueView (c .due2 .given .1)) ∙ c .before .before .due .ensures ∙ due-same _ _ _ _ _
 
 loop-holds : tie.Need-loop-holds Inv-loop μ-loop
 loop-holds c = begins (c .before .before .before .before .pre)
 
 due-requires : tie.Need-due-requires Inv-loop μ-loop
-due-requires c κs = search needs
+due-requires c κs = record { valid = _; sound = c .before .before .loop .inv .ready .sound }
 
 enum-known-due : tie.Need-enum-known-due Inv-loop μ-loop
 enum-known-due c = search needs
@@ -45,22 +48,25 @@ same-length-3 : tie.Need-same-length-3 Inv-loop μ-loop
 same-length-3 c = search needs
 
 returns : tie.Need-returns Inv-loop μ-loop
-returns c = flush-done (c .before .before .before .loop .inv) (c .before .before .before .before .before .before .before .before .pre) (sym (ap dueView (c .enum-told .given .1)) ∙ c .before .before .due .ensures)
+returns c = flush-done (c .before .before .before .before .before .loop .inv) (c .before .before .before .before .before .before .before .before .before .before .pre) (sym (ap dueView (c .enum-told .given .1)) ∙ c .before .before .due .ensures ∙ due-same _ _ _ _ _)
 
 clean-block-requires : tie.Need-clean-block-requires Inv-loop μ-loop
-clean-block-requires c κs = let at = c .before .before .before .before in cleanable (head at .loop .inv) _ _ (found at)
+clean-block-requires c κs = let at = c .before .before .before .before .before .before .before in cleanable (head at .loop .inv) _ _ (found at)
 
 add-rewrites : tie.Need-add-rewrites Inv-loop μ-loop
-add-rewrites c = let at = c .before .before .before .before .before .before .before .before .before .before .before .before in let l = left (head at .loop .inv) _ _ (found at) in let n = head at .loop .inv .ready .sound .limits .N-high in omega arith
+add-rewrites c = let at = c .before .before .before .before .before .before .before .before .before .before .before .before .before .before in let l = left (head at .loop .inv) _ _ (found at) in let n = head at .loop .inv .ready .sound .limits .N-high in omega arith
 
 add-merged : tie.Need-add-merged Inv-loop μ-loop
-add-merged c = let h = merges-small (head (c .before .before .before .before .before .before .before .before .before .before .before .before .before) .loop .inv) _ _ (found (c .before .before .before .before .before .before .before .before .before .before .before .before .before)) (c .before .before .before .before .before .before .before .before .clean-block .ensures) in omega arith
+add-merged c = let at = c .before .before .before .before .before .before .before .before .before .before .before .before .before .before in let h = merges-small (head at .loop .inv) _ _ (found at) (c .before .before .before .before .before .before .clean-block .ensures) in omega arith
 
 loop-less : tie.Need-loop-less Inv-loop μ-loop
-loop-less c = let at = c .before .before .before .before .before .before .before .before .before .before .before .before .before in let l = left (head at .loop .inv) _ _ (found at) in omega arith
+loop-less c = let at = c .before .before .before .before .before .before .before .before .before .before .before .before .before .before in let l = left (head at .loop .inv) _ _ (found at) in omega arith
 
 loop-again : tie.Need-loop-again Inv-loop μ-loop
-loop-again c = turns (head (c .before .before .before .before .before .before .before .before .before .before .before .before .before) .loop .inv) _ _ (found (c .before .before .before .before .before .before .before .before .before .before .before .before .before)) (c .before .before .before .before .before .before .before .before .clean-block .ensures) (fits-kept _ _ _ (head (c .before .before .before .before .before .before .before .before .before .before .before .before .before) .loop .inv .ready .fits) (c .before .before .before .before .before .before .before .before .clean-block .kept .1 .1 .0) (c .before .before .before .before .before .before .before .before .clean-block .kept .1 .1 .1 .0) (c .before .before .before .before .before .before .before .before .clean-block .kept .1 .1 .1 .1 .1 .0)) _ _ (omega arith) (omega arith)
+loop-again c =
+    let at = c .before .before .before .before .before .before .before .before .before .before .before .before .before .before in
+    let cleaned = c .before .before .before .before .before .before .clean-block in
+    turns (head at .loop .inv) _ _ (found at) (cleaned .ensures) (fits-kept _ _ _ (head at .loop .inv .ready .fits) (cleaned .kept .1 .1 .1 .1 .1 .0) (cleaned .kept .1 .1 .1 .1 .1 .1 .0) (cleaned .kept .1 .1 .1 .1 .1 .1 .1 .1 .0)) _ _ (omega arith) (omega arith)
 
 pub clean-all-spec : {M : Type 1} → statement M
 clean-all-spec =

@@ -1,19 +1,24 @@
 use borrow.Author.Needs.{needs}
-use Rattle.flushes.proofs.Flushing.{flush-worn}
+use mathlib.Core.Path.{_∙_}
+use native.Mathlib.Omega.{arith}
+use Rattle.flushes.proofs.Flushing.{worn-same, flush-worn}
 use Rattle.flushes.proofs.flush.Statement.{statement}
 use Rattle.flushes.proofs.flush.Tie as tie
 
 lowest-worn-requires : tie.Need-lowest-worn-requires
-lowest-worn-requires c κs = search needs
+lowest-worn-requires c κs = let q = c .before .before .before .before .before .before .before .pre in record { valid = _; recency = _; with-wear = record { sound = q .sound; wear-length = q .fits .wear-length } }
 
 same-length : tie.Need-same-length
 same-length c = search needs
 
 returns : tie.Need-returns
-returns c = flush-worn _ _ _ _ (c .before .before .lowest-worn .ensures) (c .if1 .taken)
+returns c = flush-worn _ _ _ _ (c .before .before .lowest-worn .ensures ∙ worn-same _ _ _ _ _ _) (c .if1 .taken)
 
 clean-all-requires : tie.Need-clean-all-requires
-clean-all-requires c κs = search needs
+clean-all-requires c κs =
+    let start = c .before .before .before .before .before .before .before .before .before .before .before .before .before .before .before .before in
+    let e = c .before .before .before .before .before .before .before .before .lowest-worn .ensures ∙ worn-same _ _ _ (start .args .valid .now) (start .args .recency .now) _ in
+    record { ready = start .pre; none-worn = omega arith }
 
 same-length-2 : tie.Need-same-length-2
 same-length-2 c = search needs

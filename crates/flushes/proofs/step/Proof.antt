@@ -1,21 +1,22 @@
 use borrow.Author.Needs.{needs}
 use mathlib.Core.Path.{_≡_, sym, ap, _∙_}
 use Rattle.model.specs.Policy.{leastRecent, due, dueOf}
-use Rattle.cache.specs.View.{sizesOf, directoryOf}
+use Rattle.cache.specs.View.{sizesOf, numbers}
 use Rattle.policy.specs.Views.{dueView}
-use Rattle.flushes.proofs.Stepping.{step-clean, has-wear, step-worn, cleanable, step-done}
+use Rattle.flushes.proofs.Stepping.{due-same, step-clean, has-wear, step-worn, cleanable, step-done}
 use Rattle.flushes.proofs.step.Statement.{statement}
 use Rattle.flushes.proofs.step.Tie as tie
 
 abbrev start : tie.After-due2 → tie.Start
-start c = c .before .before .before .before .before .before .before
+start c = c .before .before .before .before .before .before .before .before .before
 
 -- the block and the frame that are due
-found : (c : tie.After-due2) → due (c .due2 .given .0 .0 .0) (c .due2 .given .0 .1 .0) ≡ dueOf leastRecent (sizesOf (start c .args .z)) (directoryOf (start c .args .d))
-found c = sym (ap dueView (c .due2 .given .1)) ∙ c .before .before .due .ensures
+found : (c : tie.After-due2) → due (c .due2 .given .0 .0 .0) (c .due2 .given .0 .1 .0)
+    ≡ dueOf leastRecent (sizesOf (start c .args .z)) (numbers (start c .args .slots .now) (start c .args .frames .now) (start c .args .valid .now) (start c .args .recency .now))
+found c = sym (ap dueView (c .due2 .given .1)) ∙ c .before .before .due .ensures ∙ due-same _ _ _ _ _
 
 due-requires : tie.Need-due-requires
-due-requires c κs = search needs
+due-requires c κs = record { valid = _; sound = c .before .before .before .before .before .before .pre .sound }
 
 enum-known-due : tie.Need-enum-known-due
 enum-known-due c = search needs
@@ -24,7 +25,7 @@ enum-told : tie.Need-enum-told
 enum-told c = search needs
 
 returns : tie.Need-returns
-returns c = step-clean (c .before .before .before .before .before .before .before .pre) (sym (ap dueView (c .enum-told .given .1)) ∙ c .before .before .due .ensures)
+returns c = step-clean (c .before .before .before .before .before .before .before .before .before .pre) (sym (ap dueView (c .enum-told .given .1)) ∙ c .before .before .due .ensures ∙ due-same _ _ _ _ _)
 
 is-worn-requires : tie.Need-is-worn-requires
 is-worn-requires c κs = let at = c .before .before in has-wear (start at .pre) _ _ (found at)
@@ -36,7 +37,7 @@ returns-2 : tie.Need-returns-2
 returns-2 c = let at = c .before .before .before .before in step-worn (start at .pre) _ _ (found at) (sym (c .before .is-worn .ensures) ∙ c .if1 .taken)
 
 clean-block-requires : tie.Need-clean-block-requires
-clean-block-requires c κs = let at = c .before .before .before .before .before .before .before in cleanable (start at .pre) _ _ (found at) (sym (c .before .before .before .before .is-worn .ensures) ∙ c .before .before .before .if1 .left)
+clean-block-requires c κs = let at = c .before .before .before .before .before .before .before .before .before .before in cleanable (start at .pre) _ _ (found at) (sym (c .before .before .before .before .before .before .before .is-worn .ensures) ∙ c .before .before .before .before .before .before .if1 .left)
 
 same-length-2 : tie.Need-same-length-2
 same-length-2 c = search needs
@@ -48,7 +49,7 @@ same-length-4 : tie.Need-same-length-4
 same-length-4 c = search needs
 
 returns-3 : tie.Need-returns-3
-returns-3 c = step-done (start (c .before .before .before .before .before .before .before .before .before .before .before .before .before .before .before) .pre) _ _ (found (c .before .before .before .before .before .before .before .before .before .before .before .before .before .before .before)) (sym (c .before .before .before .before .before .before .before .before .before .before .before .before .is-worn .ensures) ∙ c .before .before .before .before .before .before .before .before .before .before .before .if1 .left) (c .before .before .before .before .before .before .before .clean-block .ensures)
+returns-3 c = let at = c .before .before .before .before .before .before .before .before .before .before .before .before .before .before .before .before .before in step-done (start at .pre) _ _ (found at) (sym (c .before .before .before .before .before .before .before .before .before .before .before .before .before .before .is-worn .ensures) ∙ c .before .before .before .before .before .before .before .before .before .before .before .before .before .if1 .left) (c .before .before .before .before .before .before .clean-block .ensures)
 
 pub step-spec : {M : Type 1} → statement M
 step-spec =

@@ -1,13 +1,18 @@
 use borrow.Author.Needs.{needs}
 use mathlib.Core.Path.{sym, ap, _∙_}
-use Rattle.cache.specs.View.{sizesOf, directoryOf}
-use Rattle.reads.proofs.Places.{wayOf, after, frame-below, read-out}
+use Rattle.model.specs.Sizes.{Sizes}
+use Rattle.model.specs.Directory.{Directory}
+use Rattle.cache.specs.View.{sizesOf, numbers}
+use Rattle.moves.proofs.Recency.{listed, touched-is}
+use Rattle.reads.proofs.Places.{wayOf, after, frame-below, read-out, peeked-any}
 use Rattle.reads.proofs.read.Statement.{statement}
 use Rattle.reads.proofs.read.Tie as tie
-use Rattle.reads.proofs.read.Reads as reads
-use Rattle.reads.proofs.read.Lts as lts
-use Rattle.moves.proofs.numbers.touched.Reads as touched-reads
-use Rattle.reads.proofs.peek.Reads as peek-reads
+
+abbrev sizes : tie.Start → Sizes
+sizes s = sizesOf (s .args .z)
+
+abbrev directory : tie.Start → Directory
+directory s = numbers (s .args .slots .now) (s .args .frames .now) (s .args .valid .now) (s .args .recency .now)
 
 peek-requires : tie.Need-peek-requires
 peek-requires c κs = search needs
@@ -18,8 +23,11 @@ enum-told c = search needs
 enum-known-found : tie.Need-enum-known-found
 enum-known-found c = search needs
 
-touched-requires : tie.Need-touched-requires
-touched-requires c κs = record { sound = c .before .before .before .before .before .before .before .before .before .before .before .pre .sound; frame-lt = frame-below _ _ _ (c .before .found .given .0 .0) (sym (c .before .found .given .1) ∙ c .before .before .before .before .before .peek .ensures .found-is) }
+touch-requires : tie.Need-touch-requires
+touch-requires c κs =
+    let s = c .before .before .before .before .before .before .before .before .before .before .before .before in
+    let k = peeked-any _ (c .before .before .before .before .before .before .peek .ensures) in
+    listed (sizes s) (directory s) _ (s .pre .0) (frame-below _ (directory s) _ _ (sym (c .before .before .found .given .1) ∙ k .found-is))
 
 enum-told-2 : tie.Need-enum-told-2
 enum-told-2 c = search needs
@@ -28,19 +36,26 @@ same-length : tie.Need-same-length
 same-length c = search needs
 
 returns : tie.Need-returns
-returns c = read-out _ _ _ _ _ (c .before .before .before .before .peek .ensures) (sym (ap (after (sizesOf (c .before .before .before .before .before .before .before .before .before .before .args .z)) (directoryOf (c .before .before .before .before .before .before .before .before .before .before .args .d))) (c .enum-told .given .1))) (sym (ap wayOf (c .enum-told .given .1)))
+returns c =
+    let s = c .before .before .before .before .before .before .before .before .before .before in let e = c .enum-told .given .1 in
+    read-out (sizes s) (directory s) _ _ _ _ (peeked-any _ (c .before .before .before .before .peek .ensures)) (sym (ap (after (sizes s) (directory s)) e)) (sym (ap wayOf e))
 
 same-length-2 : tie.Need-same-length-2
 same-length-2 c = search needs
 
 returns-2 : tie.Need-returns-2
-returns-2 c = read-out _ _ _ _ _ (c .before .before .before .before .before .before .peek .ensures) (c .touched .ensures ∙ sym (ap (after (sizesOf (c .before .before .before .before .before .before .before .before .before .before .before .before .args .z)) (directoryOf (c .before .before .before .before .before .before .before .before .before .before .before .before .args .d))) (c .before .before .found .given .1))) (sym (ap wayOf (c .before .before .found .given .1)))
+returns-2 c =
+    let s = c .before .before .before .before .before .before .before .before .before .before .before .before .before in
+    let e = c .before .before .before .found .given .1 in
+    read-out (sizes s) (directory s) _ _ _ _ (peeked-any _ (c .before .before .before .before .before .before .before .peek .ensures)) (touched-is (sizes s) (directory s) _ _ (c .touch .ensures) ∙ sym (ap (after (sizes s) (directory s)) e)) (sym (ap wayOf e))
 
 same-length-3 : tie.Need-same-length-3
 same-length-3 c = search needs
 
 returns-3 : tie.Need-returns-3
-returns-3 c = read-out _ _ _ _ _ (c .before .before .before .before .peek .ensures) (sym (ap (after (sizesOf (c .before .before .before .before .before .before .before .before .before .before .args .z)) (directoryOf (c .before .before .before .before .before .before .before .before .before .before .args .d))) (c .enum-told2 .given .1))) (sym (ap wayOf (c .enum-told2 .given .1)))
+returns-3 c =
+    let s = c .before .before .before .before .before .before .before .before .before .before in let e = c .enum-told2 .given .1 in
+    read-out (sizes s) (directory s) _ _ _ _ (peeked-any _ (c .before .before .before .before .peek .ensures)) (sym (ap (after (sizes s) (directory s)) e)) (sym (ap wayOf e))
 
 pub read-spec : {M : Type 1} → statement M
 read-spec =
@@ -49,7 +64,7 @@ read-spec =
     peek-requires
     enum-told
     enum-known-found
-    touched-requires
+    touch-requires
     enum-told-2
     same-length
     returns

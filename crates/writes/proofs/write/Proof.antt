@@ -1,19 +1,11 @@
 use borrow.Author.Needs.{needs}
 use native.Mathlib.Omega.{arith}
-use Rattle.writes.proofs.Ways.{way-1, way-2, way-3, way-4, way-5, way-6, holds, by-plan, done-by, spaced}
+use mathlib.Core.Path.{refl}
+use Rattle.model.specs.Moves.{putSlot}
+use Rattle.moves.proofs.Recency.{listed, touched-is}
+use Rattle.writes.proofs.Ways.{way-1, way-2, way-3, way-4, way-5, way-6, holds, by-plan, spaced}
 use Rattle.writes.proofs.write.Statement.{statement}
 use Rattle.writes.proofs.write.Tie as tie
-use Rattle.writes.proofs.write.Reads as reads
-use Rattle.writes.proofs.write.Lts as lts
-use Rattle.moves.proofs.numbers.put_slot.Reads as put-slot-reads
-use Rattle.moves.proofs.numbers.touched.Reads as touched-reads
-use Rattle.policy.proofs.plan.plan.Reads as plan-reads
-use Rattle.writes.proofs.done.Reads as done-reads
-use Rattle.writes.proofs.enter.exchange.Reads as exchange-reads
-use Rattle.writes.proofs.enter.join.Reads as join-reads
-use Rattle.writes.proofs.evict.evict.Reads as evict-reads
-use Rattle.writes.proofs.put.over_frame_page.Reads as over-frame-page-reads
-use Rattle.writes.proofs.put.over_slot.Reads as over-slot-reads
 
 plan-requires : tie.Need-plan-requires
 plan-requires c κs = search needs
@@ -22,82 +14,12 @@ enum-known-plan : tie.Need-enum-known-plan
 enum-known-plan c = search needs
 
 over-slot-requires : tie.Need-over-slot-requires
-over-slot-requires c κs = let q = c .before .before .before .before .before .before .before .before .before .before .before .pre in record {
+over-slot-requires c κs = let q = c .before .before .before .before .before .before .before .before .before .before .before .before .before .before .before .pre in record {
   limits = q .ready .sound .limits;
   slot-lt = holds _ _ _ _ _ q _ _ (c .before .before .before .before .plan .ensures) (c .before .before .plan2 .given .1);
   pspace-length = q .ready .fits .pspace-length;
   page-length = q .page-length;
 }
-
-done-requires : tie.Need-done-requires
-done-requires c κs = search needs
-
-enum-known-plan-2 : tie.Need-enum-known-plan-2
-enum-known-plan-2 c = search needs
-
-over-frame-page-requires : tie.Need-over-frame-page-requires
-over-frame-page-requires c κs = let q = c .before .before .before .before .before .before .before .before .before .before .before .pre in record {
-  limits = q .ready .sound .limits;
-  frame-lt = holds _ _ _ _ _ q _ _ (c .before .before .before .before .plan .ensures) (c .before .before .plan3 .given .1);
-  bspace-length = q .ready .fits .bspace-length;
-  page-length = q .page-length;
-}
-
-touched-requires : tie.Need-touched-requires
-touched-requires c κs = let q = c .before .before .before .before .before .before .before .before .before .before .before .before .before .before .pre in record { sound = q .ready .sound; frame-lt = holds _ _ _ _ _ q _ _ (c .before .before .before .before .before .before .before .plan .ensures) (c .before .before .before .before .before .plan3 .given .1) }
-
-done-requires-2 : tie.Need-done-requires-2
-done-requires-2 c κs = search needs
-
-enum-known-plan-3 : tie.Need-enum-known-plan-3
-enum-known-plan-3 c = search needs
-
-over-slot-requires-2 : tie.Need-over-slot-requires-2
-over-slot-requires-2 c κs = let q = c .before .before .before .before .before .before .before .before .before .before .before .pre in record {
-  limits = q .ready .sound .limits;
-  slot-lt = holds _ _ _ _ _ q _ _ (c .before .before .before .before .plan .ensures) (c .before .before .plan4 .given .1);
-  pspace-length = q .ready .fits .pspace-length;
-  page-length = q .page-length;
-}
-
-put-slot-requires : tie.Need-put-slot-requires
-put-slot-requires c κs = let q = c .before .before .before .before .before .before .before .before .before .before .before .before .before .before .pre in let l = holds _ _ _ _ _ q _ _ (c .before .before .before .before .before .before .before .plan .ensures) (c .before .before .before .before .before .plan4 .given .1) in let h = q .ready .sound .limits .P-high in omega arith
-
-done-requires-3 : tie.Need-done-requires-3
-done-requires-3 c κs = search needs
-
-enum-known-plan-4 : tie.Need-enum-known-plan-4
-enum-known-plan-4 c = search needs
-
-join-requires : tie.Need-join-requires
-join-requires c κs = let q = c .before .before .before .before .before .before .before .before .before .before .before .before .pre in let e = c .before .before .before .before .before .plan .ensures in let g = c .before .before .before .plan5 .given .1 in record { spaced = spaced _ _ _ _ _ q _ _ e g; joining = holds _ _ _ _ _ q _ _ e g }
-
-done-requires-4 : tie.Need-done-requires-4
-done-requires-4 c κs = search needs
-
-enum-known-plan-5 : tie.Need-enum-known-plan-5
-enum-known-plan-5 c = search needs
-
-join-requires-2 : tie.Need-join-requires-2
-join-requires-2 c κs = let q = c .before .before .before .before .before .before .before .before .before .before .before .before .pre in let e = c .before .before .before .before .before .plan .ensures in let g = c .before .before .before .plan6 .given .1 in record { spaced = spaced _ _ _ _ _ q _ _ e g; joining = holds _ _ _ _ _ q _ _ e g }
-
-done-requires-5 : tie.Need-done-requires-5
-done-requires-5 c κs = search needs
-
-enum-known-plan-6 : tie.Need-enum-known-plan-6
-enum-known-plan-6 c = search needs
-
-exchange-requires : tie.Need-exchange-requires
-exchange-requires c κs = let q = c .before .before .before .before .before .before .before .before .before .before .before .before .pre in let e = c .before .before .before .before .before .plan .ensures in let g = c .before .before .before .plan7 .given .1 in let h = holds _ _ _ _ _ q _ _ e g in record { spaced = spaced _ _ _ _ _ q _ _ e g; changing = h .0; fewer = h .1 }
-
-done-requires-6 : tie.Need-done-requires-6
-done-requires-6 c κs = search needs
-
-enum-known-plan-7 : tie.Need-enum-known-plan-7
-enum-known-plan-7 c = search needs
-
-evict-requires : tie.Need-evict-requires
-evict-requires c κs = let q = c .before .before .before .before .before .before .before .before .before .before .before .before .before .before .pre in let e = c .before .before .before .before .before .before .before .plan .ensures in let g = c .before .before .before .before .before .plan8 .given .1 in let h = holds _ _ _ _ _ q _ _ e g in record { ready = q .ready; page-length = q .page-length; changing = h .0; victim-pos = h .1 }
 
 same-length : tie.Need-same-length
 same-length c = search needs
@@ -106,7 +28,21 @@ same-length-2 : tie.Need-same-length-2
 same-length-2 c = search needs
 
 returns : tie.Need-returns
-returns c = done-by _ _ _ _ _ (c .before .before .before .before .before .before .before .before .before .before .before .before .before .before .before .pre) _ _ (c .before .before .before .before .before .before .before .before .plan .ensures) (c .before .before .before .before .before .before .plan2 .given .1) 1 _ _ _ (c .done .ensures) (way-1 _ _ _ _ _ _ _ _ _ _ (c .before .before .before .over-slot .ensures))
+returns c = by-plan _ _ _ _ _ (c .before .before .before .before .before .before .before .before .before .before .before .before .before .before .before .before .before .before .pre) _ _ (c .before .before .before .before .before .before .before .plan .ensures) (c .before .before .before .before .before .plan2 .given .1) (way-1 _ _ _ _ _ _ _ _ _ _ (c .before .before .over-slot .ensures))
+
+enum-known-plan-2 : tie.Need-enum-known-plan-2
+enum-known-plan-2 c = search needs
+
+over-frame-page-requires : tie.Need-over-frame-page-requires
+over-frame-page-requires c κs = let q = c .before .before .before .before .before .before .before .before .before .before .before .before .before .before .before .pre in record {
+  limits = q .ready .sound .limits;
+  frame-lt = holds _ _ _ _ _ q _ _ (c .before .before .before .before .plan .ensures) (c .before .before .plan3 .given .1);
+  bspace-length = q .ready .fits .bspace-length;
+  page-length = q .page-length;
+}
+
+touch-requires : tie.Need-touch-requires
+touch-requires c κs = let q = c .before .before .before .before .before .before .before .before .before .before .before .before .before .before .before .before .before .before .before .pre in listed _ _ _ (q .ready .sound) (holds _ _ _ _ _ q _ _ (c .before .before .before .before .before .before .before .before .plan .ensures) (c .before .before .before .before .before .before .plan3 .given .1))
 
 same-length-3 : tie.Need-same-length-3
 same-length-3 c = search needs
@@ -115,7 +51,24 @@ same-length-4 : tie.Need-same-length-4
 same-length-4 c = search needs
 
 returns-2 : tie.Need-returns-2
-returns-2 c = done-by _ _ _ _ _ (c .before .before .before .before .before .before .before .before .before .before .before .before .before .before .before .before .pre) _ _ (c .before .before .before .before .before .before .before .before .before .plan .ensures) (c .before .before .before .before .before .before .before .plan3 .given .1) 2 _ _ _ (c .done2 .ensures) (way-2 _ _ _ _ _ _ _ _ _ _ _ (c .before .touched .ensures) (c .before .before .before .before .over-frame-page .ensures))
+returns-2 c = by-plan _ _ _ _ _ (c .before .before .before .before .before .before .before .before .before .before .before .before .before .before .before .before .before .before .before .before .pre) _ _ (c .before .before .before .before .before .before .before .before .before .plan .ensures) (c .before .before .before .before .before .before .before .plan3 .given .1) (way-2 _ _ _ _ _ _ _ _ _ _ _ (touched-is _ _ _ _ (c .touch .ensures)) (c .before .before .before .before .over-frame-page .ensures))
+
+enum-known-plan-3 : tie.Need-enum-known-plan-3
+enum-known-plan-3 c = search needs
+
+over-slot-requires-2 : tie.Need-over-slot-requires-2
+over-slot-requires-2 c κs = let q = c .before .before .before .before .before .before .before .before .before .before .before .before .before .before .before .pre in record {
+  limits = q .ready .sound .limits;
+  slot-lt = holds _ _ _ _ _ q _ _ (c .before .before .before .before .plan .ensures) (c .before .before .plan4 .given .1);
+  pspace-length = q .ready .fits .pspace-length;
+  page-length = q .page-length;
+}
+
+mul-slots : tie.Need-mul-slots
+mul-slots c = let q = c .before .before .before .before .before .before .before .before .before .before .before .before .before .before .before .before .before .before .pre in let l = holds _ _ _ _ _ q _ _ (c .before .before .before .before .before .before .before .plan .ensures) (c .before .before .before .before .before .plan4 .given .1) in let h = q .ready .sound .limits .P-high in record { fits = omega arith }
+
+element-write-slots : tie.Need-element-write-slots
+element-write-slots c = let q = c .before .before .before .before .before .before .before .before .before .before .before .before .before .before .before .before .before .before .pre in let l = holds _ _ _ _ _ q _ _ (c .before .before .before .before .before .before .before .plan .ensures) (c .before .before .before .before .before .plan4 .given .1) in let h = q .ready .sound .limits .P-high in omega arith
 
 same-length-5 : tie.Need-same-length-5
 same-length-5 c = search needs
@@ -124,7 +77,14 @@ same-length-6 : tie.Need-same-length-6
 same-length-6 c = search needs
 
 returns-3 : tie.Need-returns-3
-returns-3 c = done-by _ _ _ _ _ (c .before .before .before .before .before .before .before .before .before .before .before .before .before .before .before .before .pre) _ _ (c .before .before .before .before .before .before .before .before .before .plan .ensures) (c .before .before .before .before .before .before .before .plan4 .given .1) 3 _ _ _ (c .done3 .ensures) (way-3 _ _ _ _ _ _ _ _ _ _ _ (c .before .put-slot .ensures) (c .before .before .before .before .over-slot2 .ensures))
+unfolding putSlot
+returns-3 c = by-plan _ _ _ _ _ (c .before .before .before .before .before .before .before .before .before .before .before .before .before .before .before .before .before .before .pre) _ _ (c .before .before .before .before .before .before .before .plan .ensures) (c .before .before .before .before .before .plan4 .given .1) (way-3 _ _ _ _ _ _ _ _ _ _ _ refl (c .before .before .over-slot2 .ensures))
+
+enum-known-plan-4 : tie.Need-enum-known-plan-4
+enum-known-plan-4 c = search needs
+
+join-requires : tie.Need-join-requires
+join-requires c κs = let q = c .before .before .before .before .before .before .before .before .before .before .before .before .before .before .before .before .before .before .before .before .pre in let e = c .before .before .before .before .before .before .before .before .before .plan .ensures in let g = c .before .before .before .before .before .before .before .plan5 .given .1 in record { spaced = spaced _ _ _ _ _ q _ _ e g; joining = holds _ _ _ _ _ q _ _ e g }
 
 same-length-7 : tie.Need-same-length-7
 same-length-7 c = search needs
@@ -136,7 +96,13 @@ same-length-9 : tie.Need-same-length-9
 same-length-9 c = search needs
 
 returns-4 : tie.Need-returns-4
-returns-4 c = done-by _ _ _ _ _ (c .before .before .before .before .before .before .before .before .before .before .before .before .before .before .before .before .before .before .pre) _ _ (c .before .before .before .before .before .before .before .before .before .before .before .plan .ensures) (c .before .before .before .before .before .before .before .before .before .plan5 .given .1) 4 _ _ _ (c .done4 .ensures) (way-4 _ _ _ _ _ _ _ _ _ _ _ _ _ (c .before .before .before .before .before .join .ensures))
+returns-4 c = by-plan _ _ _ _ _ (c .before .before .before .before .before .before .before .before .before .before .before .before .before .before .before .before .before .before .before .before .before .before .before .before .before .pre) _ _ (c .before .before .before .before .before .before .before .before .before .before .before .before .before .before .plan .ensures) (c .before .before .before .before .before .before .before .before .before .before .before .before .plan5 .given .1) (way-4 _ _ _ _ _ _ _ _ _ _ _ _ _ (c .before .before .before .before .join .ensures))
+
+enum-known-plan-5 : tie.Need-enum-known-plan-5
+enum-known-plan-5 c = search needs
+
+join-requires-2 : tie.Need-join-requires-2
+join-requires-2 c κs = let q = c .before .before .before .before .before .before .before .before .before .before .before .before .before .before .before .before .before .before .before .before .pre in let e = c .before .before .before .before .before .before .before .before .before .plan .ensures in let g = c .before .before .before .before .before .before .before .plan6 .given .1 in record { spaced = spaced _ _ _ _ _ q _ _ e g; joining = holds _ _ _ _ _ q _ _ e g }
 
 same-length-10 : tie.Need-same-length-10
 same-length-10 c = search needs
@@ -148,7 +114,13 @@ same-length-12 : tie.Need-same-length-12
 same-length-12 c = search needs
 
 returns-5 : tie.Need-returns-5
-returns-5 c = done-by _ _ _ _ _ (c .before .before .before .before .before .before .before .before .before .before .before .before .before .before .before .before .before .before .pre) _ _ (c .before .before .before .before .before .before .before .before .before .before .before .plan .ensures) (c .before .before .before .before .before .before .before .before .before .plan6 .given .1) 5 _ _ _ (c .done5 .ensures) (way-5 _ _ _ _ _ _ _ _ _ _ _ _ _ (c .before .before .before .before .before .join2 .ensures))
+returns-5 c = by-plan _ _ _ _ _ (c .before .before .before .before .before .before .before .before .before .before .before .before .before .before .before .before .before .before .before .before .before .before .before .before .before .pre) _ _ (c .before .before .before .before .before .before .before .before .before .before .before .before .before .before .plan .ensures) (c .before .before .before .before .before .before .before .before .before .before .before .before .plan6 .given .1) (way-5 _ _ _ _ _ _ _ _ _ _ _ _ _ (c .before .before .before .before .join2 .ensures))
+
+enum-known-plan-6 : tie.Need-enum-known-plan-6
+enum-known-plan-6 c = search needs
+
+exchange-requires : tie.Need-exchange-requires
+exchange-requires c κs = let q = c .before .before .before .before .before .before .before .before .before .before .before .before .before .before .before .before .before .before .before .before .pre in let e = c .before .before .before .before .before .before .before .before .before .plan .ensures in let g = c .before .before .before .before .before .before .before .plan7 .given .1 in let h = holds _ _ _ _ _ q _ _ e g in record { spaced = spaced _ _ _ _ _ q _ _ e g; changing = h .0; fewer = h .1 }
 
 same-length-13 : tie.Need-same-length-13
 same-length-13 c = search needs
@@ -160,7 +132,13 @@ same-length-15 : tie.Need-same-length-15
 same-length-15 c = search needs
 
 returns-6 : tie.Need-returns-6
-returns-6 c = done-by _ _ _ _ _ (c .before .before .before .before .before .before .before .before .before .before .before .before .before .before .before .before .before .before .pre) _ _ (c .before .before .before .before .before .before .before .before .before .before .before .plan .ensures) (c .before .before .before .before .before .before .before .before .before .plan7 .given .1) 6 _ _ _ (c .done6 .ensures) (way-6 _ _ _ _ _ _ _ _ _ _ _ _ _ (c .before .before .before .before .before .exchange .ensures))
+returns-6 c = by-plan _ _ _ _ _ (c .before .before .before .before .before .before .before .before .before .before .before .before .before .before .before .before .before .before .before .before .before .before .before .before .before .pre) _ _ (c .before .before .before .before .before .before .before .before .before .before .before .before .before .before .plan .ensures) (c .before .before .before .before .before .before .before .before .before .before .before .before .plan7 .given .1) (way-6 _ _ _ _ _ _ _ _ _ _ _ _ _ (c .before .before .before .before .exchange .ensures))
+
+enum-known-plan-7 : tie.Need-enum-known-plan-7
+enum-known-plan-7 c = search needs
+
+evict-requires : tie.Need-evict-requires
+evict-requires c κs = let q = c .before .before .before .before .before .before .before .before .before .before .before .before .before .before .before .before .before .before .before .before .before .before .pre in let h = holds _ _ _ _ _ q _ _ (c .before .before .before .before .before .before .before .before .before .before .before .plan .ensures) (c .before .before .before .before .before .before .before .before .before .plan8 .given .1) in record { ready = q .ready; page-length = q .page-length; changing = h .0; victim-pos = h .1 }
 
 same-length-16 : tie.Need-same-length-16
 same-length-16 c = search needs
@@ -175,7 +153,7 @@ same-length-19 : tie.Need-same-length-19
 same-length-19 c = search needs
 
 returns-7 : tie.Need-returns-7
-returns-7 c = by-plan _ _ _ _ _ (c .before .before .before .before .before .before .before .before .before .before .before .before .before .before .before .before .before .before .before .before .before .before .before .pre) _ _ (c .before .before .before .before .before .before .before .before .before .before .before .before .before .before .before .before .plan .ensures) (c .before .before .before .before .before .before .before .before .before .before .before .before .before .before .plan8 .given .1) (c .before .before .before .before .before .before .before .before .evict .ensures)
+returns-7 c = by-plan _ _ _ _ _ (c .before .before .before .before .before .before .before .before .before .before .before .before .before .before .before .before .before .before .before .before .before .before .before .before .before .before .before .before .before .before .before .pre) _ _ (c .before .before .before .before .before .before .before .before .before .before .before .before .before .before .before .before .before .before .before .before .plan .ensures) (c .before .before .before .before .before .before .before .before .before .before .before .before .before .before .before .before .before .before .plan8 .given .1) (c .before .before .before .before .before .before .before .before .evict .ensures)
 
 pub write-spec : {M : Type 1} → statement M
 write-spec =
@@ -184,41 +162,36 @@ write-spec =
     plan-requires
     enum-known-plan
     over-slot-requires
-    done-requires
     same-length
     same-length-2
     returns
     enum-known-plan-2
     over-frame-page-requires
-    touched-requires
-    done-requires-2
+    touch-requires
     same-length-3
     same-length-4
     returns-2
     enum-known-plan-3
     over-slot-requires-2
-    put-slot-requires
-    done-requires-3
+    mul-slots
+    element-write-slots
     same-length-5
     same-length-6
     returns-3
     enum-known-plan-4
     join-requires
-    done-requires-4
     same-length-7
     same-length-8
     same-length-9
     returns-4
     enum-known-plan-5
     join-requires-2
-    done-requires-5
     same-length-10
     same-length-11
     same-length-12
     returns-5
     enum-known-plan-6
     exchange-requires
-    done-requires-6
     same-length-13
     same-length-14
     same-length-15

@@ -8,8 +8,8 @@ use lib.ListN.{length, getD}
 use Rattle.prelude.specs.Scan.{all}
 use Rattle.prelude.proofs.Scan.{all-none, all-more, all-end}
 use Rattle.model.specs.Soundness.{frameOk}
-use Rattle.cache.specs.View.{sizesOf}
-use Rattle.cache.specs.Soundness.{numbers, Laid}
+use Rattle.cache.specs.View.{sizesOf, numbers}
+use Rattle.cache.specs.Soundness.{Laid}
 use Rattle.cache.proofs.Marks.{laid-length}
 use Rattle.cache.proofs.Parts.{laid-more}
 use Rattle.cache.proofs.soundness.frames_ok.Statement.{statement}

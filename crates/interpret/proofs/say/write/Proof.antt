@@ -13,14 +13,17 @@ use Rattle.interpret.proofs.say.write.Tie as tie
 enum-known-answer : tie.Need-enum-known-answer
 enum-known-answer c = search needs
 
-block-requires : tie.Need-block-requires
-block-requires c κs = search needs
-
 put-write-requires : tie.Need-put-write-requires
 put-write-requires c κs = search needs
 
 enum-known-answer-2 : tie.Need-enum-known-answer-2
 enum-known-answer-2 c = search needs
+
+put-write-requires-2 : tie.Need-put-write-requires-2
+put-write-requires-2 c κs = search needs
+
+enum-known-answer-3 : tie.Need-enum-known-answer-3
+enum-known-answer-3 c = search needs
 
 number-requires : tie.Need-number-requires
 number-requires c κs = search needs
@@ -32,25 +35,34 @@ same-length : tie.Need-same-length
 same-length c = search needs
 
 returns : tie.Need-returns
-returns c = rw (c .before .before .before .before .before .before .answer .given .1, ← c .before .before .before .block .ensures) (c .before .before .put-write .ensures)
+returns c = rw (c .before .before .before .before .before .answer .given .1) (c .before .before .put-write .ensures)
 
 same-length-2 : tie.Need-same-length-2
 same-length-2 c = search needs
 
 returns-2 : tie.Need-returns-2
-returns-2 c = rw (c .before .before .before .before .before .before .answer2 .given .1) (printed-as (omega arith) (ap (λ (l : List (List ℕ)). line "write" (decimal (c .before .before .before .before .before .before .before .before .before .args .n) ∷ l)) (said-refused (c .before .before .before .before .before .before .answer2 .given .0 .0) _ 0 0 (c .before .before .before .number .ensures))) (c .before .before .put-write-refused .ensures))
+returns-2 c = rw (c .before .before .before .before .before .answer2 .given .1) (c .before .before .put-write2 .ensures)
+
+same-length-3 : tie.Need-same-length-3
+same-length-3 c = search needs
+
+returns-3 : tie.Need-returns-3
+returns-3 c = rw (c .before .before .before .before .before .before .answer3 .given .1) (printed-as (omega arith) (ap (λ (l : List (List ℕ)). line "write" (decimal (c .before .before .before .before .before .before .before .before .before .args .n) ∷ l)) (said-refused (c .before .before .before .before .before .before .answer3 .given .0 .0) _ 0 0 (c .before .before .before .number .ensures))) (c .before .before .put-write-refused .ensures))
 
 pub write-spec : {M : Type 1} → statement M
 write-spec =
     tie.close
     (tie.spec
     enum-known-answer
-    block-requires
     put-write-requires
     enum-known-answer-2
+    put-write-requires-2
+    enum-known-answer-3
     number-requires
     put-write-refused-requires
     same-length
     returns
     same-length-2
-    returns-2)
+    returns-2
+    same-length-3
+    returns-3)

@@ -1,44 +1,60 @@
 use borrow.Author.Needs.{needs}
 use native.Mathlib.Omega.{arith}
-use mathlib.Core.Path.{sym, ap, _∙_}
+use mathlib.Core.Path.{_≡_, sym, ap, _∙_}
 use Prim.Native.Nat.{ℕ}
-use Rattle.model.specs.Directory.{frameAt}
-use Rattle.model.specs.Policy.{due}
-use Rattle.cache.specs.View.{sizesOf, directoryOf}
-use Rattle.cache.proofs.View.{frame-of}
+use Rattle.model.specs.Directory.{Directory, frameAt}
+use Rattle.model.specs.Policy.{leastRecent, occupied, inBlock, slotCount, lowestInSlots, dueOf, due}
+use Rattle.cache.specs.View.{sizesOf, numbers}
+use Rattle.policy.specs.Views.{oldestOccupied}
 use Rattle.policy.proofs.Oldest.{due-frame, due-slots, due-clean}
 use Rattle.policy.proofs.flush.due.Statement.{statement}
 use Rattle.policy.proofs.flush.due.Tie as tie
 
+-- the directory as the call began
+abbrev whole : tie.Start → Directory
+whole c = numbers (c .args .slots .now) (c .args .frames .now) (c .pre .valid) (c .args .recency .now)
+
+oldest : (c : tie.After-oldest-occupied) → c .oldest-occupied .result ≡ oldestOccupied (sizesOf (c .before .args .z)) (whole (c .before))
+unfolding oldestOccupied leastRecent occupied
+oldest c = c .oldest-occupied .ensures
+
+lowest : (c : tie.After-lowest-in-slots) → c .lowest-in-slots .result ≡ lowestInSlots (sizesOf (c .before .before .before .before .args .z)) (whole (c .before .before .before .before))
+unfolding lowestInSlots slotCount inBlock
+lowest c = c .lowest-in-slots .ensures
+
 oldest-occupied-requires : tie.Need-oldest-occupied-requires
-oldest-occupied-requires c κs = search needs
+oldest-occupied-requires c κs = record { slots = c .args .slots .now; valid = c .pre .valid; sound = c .pre .sound }
 
 cast-if1 : tie.Need-cast-if1
 cast-if1 c = search needs
 
-mul-b : tie.Need-mul-b
-mul-b c = search needs
+mul-t9 : tie.Need-mul-t9
+mul-t9 c = search needs
 
-array-copy-out-b : tie.Need-array-copy-out-b
-array-copy-out-b c = search needs
+element-copy-out-t12 : tie.Need-element-copy-out-t12
+element-copy-out-t12 c = search needs
 
 returns : tie.Need-returns
+unfolding dueOf leastRecent occupied lowestInSlots slotCount inBlock
 returns c =
-    let a = c .before .before .before .before .before .args in let sz = sizesOf (a .z) in let d = directoryOf (a .d) in let f = c .before .before .before .before .oldest-occupied .result in let e = c .before .before .before .before .oldest-occupied .ensures in
-    ap (λ (b : ℕ). due b f) (sym (frame-of (a .d) f)) ∙ ap (λ (g : ℕ). due (frameAt d g) g) e ∙ sym (due-frame sz d (c .before .before .before .before .before .pre) (omega arith))
+    let start = c .before .before .before .before in let e = oldest (c .before .before .before) in
+    ap (λ (g : ℕ). due (frameAt (whole start) g) g) e ∙ sym (due-frame (sizesOf (start .args .z)) (whole start) (start .pre .sound) (omega arith))
 
 lowest-in-slots-requires : tie.Need-lowest-in-slots-requires
-lowest-in-slots-requires c κs = search needs
+lowest-in-slots-requires c κs =
+    let start = c .before .before .before in record { frames = start .args .frames .now; valid = start .pre .valid; recency = start .args .recency .now; sound = start .pre .sound }
 
 returns-2 : tie.Need-returns-2
+unfolding dueOf leastRecent occupied lowestInSlots slotCount inBlock
 returns-2 c =
-    let a = c .before .before .before .before .before .before .args in let sz = sizesOf (a .z) in let d = directoryOf (a .d) in let e = c .before .before .before .before .before .oldest-occupied .ensures in let b = c .before .before .lowest-in-slots .ensures in
-    ap (λ (x : ℕ). due x 0) b ∙ sym (due-slots sz d (c .before .before .before .before .before .before .pre) (omega arith) (omega arith))
+    let start = c .before .before .before .before .before .before in let e = oldest (c .before .before .before .before .before) in let b = lowest (c .before .before) in
+    ap (λ (x : ℕ). due x 0) b ∙ sym (due-slots (sizesOf (start .args .z)) (whole start) (start .pre .sound) (omega arith) (omega arith))
 
 returns-3 : tie.Need-returns-3
+unfolding dueOf leastRecent occupied lowestInSlots slotCount inBlock
 returns-3 c =
-    let a = c .before .before .before .before .before .before .args in let sz = sizesOf (a .z) in let d = directoryOf (a .d) in let e = c .before .before .before .before .before .oldest-occupied .ensures in let b = c .before .before .lowest-in-slots .ensures in
-    sym (due-clean sz d (c .before .before .before .before .before .before .pre) (omega arith) (omega arith))
+    let start = c .before .before .before .before .before .before in let e = oldest (c .before .before .before .before .before) in let b = lowest (c .before .before) in
+    sym (due-clean (sizesOf (start .args .z)) (whole start) (start .pre .sound) (omega arith) (omega arith))
 
 pub due-spec : {M : Type 1} → statement M
 due-spec =
@@ -46,8 +62,8 @@ due-spec =
     (tie.spec
     oldest-occupied-requires
     cast-if1
-    mul-b
-    array-copy-out-b
+    mul-t9
+    element-copy-out-t12
     returns
     lowest-in-slots-requires
     returns-2

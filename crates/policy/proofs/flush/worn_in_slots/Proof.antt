@@ -1,41 +1,47 @@
 use borrow.Author.Needs.{needs}
 use native.Mathlib.Omega.{arith}
+use mathlib.Core.List.{List}
 use mathlib.Core.Path.{_≡_, ap, _∙_}
 use mathlib.Core.Logic.{inl, inr}
 use mathlib.Core.Bool.{Bool}
 use Prim.Native.Nat.{ℕ, _-_, _/_, _≤_}
 use lib.Dec.{ltb}
+use lib.ListN.{getD}
 use borrow.Author.Tests.{lt-ltb, le-ltb}
 use Rattle.prelude.specs.Scan.{least}
 use Rattle.model.specs.Sizes.{vacant}
-use Rattle.model.specs.Directory.{slotAt}
+use Rattle.model.specs.Directory.{Directory}
+use Rattle.model.specs.Policy.{inBlock, slotCount}
 use Rattle.model.proofs.Soundness.{K-pos}
 use Rattle.cache.specs.declared.Sizes.{Sizes}
-use Rattle.cache.specs.declared.Directory.{Directory}
-use Rattle.cache.specs.View.{sizesOf, directoryOf}
-use Rattle.cache.proofs.View.{slot-of}
+use Rattle.cache.specs.View.{sizesOf, numbers}
+use Rattle.policy.specs.Views.{wornInSlots}
 use Rattle.policy.proofs.Held.{Held, held, page-lt}
 use Rattle.policy.proofs.Lowest.{worn-block, worn-hit, worn-miss, worn-skip, slots-lowest}
 use Rattle.policy.proofs.flush.worn_in_slots.Statement.{statement}
 use Rattle.policy.proofs.flush.worn_in_slots.Tie as tie
 
-abbrev taken : Directory → ℕ → Bool
-taken d i = ltb (slotAt (directoryOf d) i) vacant
+abbrev taken : List ℕ → ℕ → Bool
+taken slots i = ltb (getD slots i 0) vacant
 
-abbrev block : Sizes → Directory → ℕ → ℕ
-block z d i = slotAt (directoryOf d) i / z .«pages_per_block»
+abbrev block : Sizes → List ℕ → ℕ → ℕ
+block z slots i = getD slots i 0 / z .«pages_per_block»
 
 abbrev Inv-loop : tie.InvT-loop
-Inv-loop z wear d m low₀ i₀ low i = (i ≤ z .slots) × (low ≡ least i (worn-block (sizesOf z) wear (taken d) (block z d)) (z .blocks))
+Inv-loop z slots wear m low₀ i₀ low i = (i ≤ z .slots) × (low ≡ least i (worn-block (sizesOf z) wear (taken slots) (block z slots)) (z .blocks))
 
 abbrev μ-loop : tie.MeasureT-loop
-μ-loop z wear d m low₀ i₀ low i = z .slots - i
+μ-loop z slots wear m low₀ i₀ low i = z .slots - i
+
+-- the directory as the call began
+abbrev whole : tie.Start Inv-loop μ-loop → Directory
+whole c = numbers (c .args .slots .now) (c .pre .frames) (c .pre .valid) (c .pre .recency)
 
 -- the page in the slot, and its block
-found : (c : tie.After-block-by Inv-loop μ-loop) → Held (sizesOf (c .before .before .before .before .before .before .before .before .before .args .z)) (directoryOf (c .before .before .before .before .before .before .before .before .before .args .t2)) (c .before .before .before .before .before .before .loop .i) (c .block-by .result .0)
+found : (c : tie.After-block-by Inv-loop μ-loop) → Held (sizesOf (c .before .before .before .before .before .before .before .before .args .z)) (whole (c .before .before .before .before .before .before .before .before)) (c .before .before .before .before .before .loop .i) (c .block-by .result .0)
 found c =
-    let start = c .before .before .before .before .before .before .before .before .before in
-    held (start .args .z) (start .args .t2) (start .pre .sound) (c .before .before .before .before .before .before .loop .i) _ (omega arith) (c .before .if2 .taken) (c .block-by .ensures)
+    let start = c .before .before .before .before .before .before .before .before in
+    held (start .args .z) (whole start) (start .pre .with-wear .sound) (c .before .before .before .before .before .loop .i) _ (omega arith) (c .before .if2 .taken) (c .block-by .ensures)
 
 reciprocal-requires : tie.Need-reciprocal-requires Inv-loop μ-loop
 reciprocal-requires c κs = search needs
@@ -55,11 +61,11 @@ element-copy-out-x c = search needs
 
 block-by-requires : tie.Need-block-by-requires Inv-loop μ-loop
 block-by-requires c κs =
-    let start = c .before .before .before .before .before .before .before .before in
-    (K-pos (sizesOf (start .args .z)) (start .pre .sound .limits), start .pre .sound .limits .K-high, page-lt (start .args .z) (start .args .t2) (start .pre .sound) (c .before .before .before .before .before .loop .i) (omega arith) (c .if2 .taken))
+    let start = c .before .before .before .before .before .before .before in let s = start .pre .with-wear .sound in
+    (K-pos (sizesOf (start .args .z)) (s .limits), s .limits .K-high, page-lt (start .args .z) (whole start) s (c .before .before .before .before .loop .i) (omega arith) (c .if2 .taken))
 
 is-worn-requires : tie.Need-is-worn-requires Inv-loop μ-loop
-is-worn-requires c κs = let k = found (c .before) .low in let e = c .before .before .before .before .before .before .before .before .before .before .pre .wear-length in omega arith
+is-worn-requires c κs = let k = found (c .before) .low in let e = c .before .before .before .before .before .before .before .before .before .pre .with-wear .wear-length in omega arith
 
 add-i : tie.Need-add-i Inv-loop μ-loop
 add-i c = search needs
@@ -69,22 +75,23 @@ loop-less c = search needs
 
 loop-again : tie.Need-loop-again Inv-loop μ-loop
 loop-again c =
-    let l = c .before .before .before .before .before .loop in let a = c .before .before .before .before .before .before .before .before .args in let sz = sizesOf (a .z) in let x : ℕ = slotAt (directoryOf (a .t2)) (l .i) in
+    let l = c .before .before .before .before .loop in let a = c .before .before .before .before .before .before .before .args in let sz = sizesOf (a .z) in let ss : List ℕ = a .slots .now in
     elim (c .if2 .came) [
       | inl w ↦ let p = found (record { before = record { before = c .before; if2 = w .0 }; block-by = w .1 }) in
-          (omega arith, w .5 ∙ worn-hit sz (a .wear .now) (taken (a .t2)) (block (a .z) (a .t2)) (l .i) (l .low) (l .inv .1) _ (lt-ltb x vacant (p .page)) (p .own) (rw (← (w .3 .ensures)) (w .4 .taken)))
+          (omega arith, w .5 ∙ worn-hit sz (a .wear .now) (taken ss) (block (a .z) ss) (l .i) (l .low) (l .inv .1) _ (lt-ltb _ vacant (p .page)) (p .own) (rw (← (w .3 .ensures)) (w .4 .taken)))
       | inr v ↦ elim v [
         | inl w ↦ let p = found (record { before = record { before = c .before; if2 = w .0 }; block-by = w .1 }) in
-            (omega arith, w .5 ∙ worn-miss sz (a .wear .now) (taken (a .t2)) (block (a .z) (a .t2)) (l .i) (l .low) (l .inv .1) _ (lt-ltb x vacant (p .page)) (p .own) (rw (← (w .3 .ensures)) (w .4 .left)))
-        | inr w ↦ (omega arith, w .1 ∙ worn-skip sz (a .wear .now) (taken (a .t2)) (block (a .z) (a .t2)) (l .i) (l .low) (l .inv .1) (le-ltb x vacant (rw (slot-of (a .t2) (l .i)) (w .0 .left))))
+            (omega arith, w .5 ∙ worn-miss sz (a .wear .now) (taken ss) (block (a .z) ss) (l .i) (l .low) (l .inv .1) _ (lt-ltb _ vacant (p .page)) (p .own) (rw (← (w .3 .ensures)) (w .4 .left)))
+        | inr w ↦ (omega arith, w .1 ∙ worn-skip sz (a .wear .now) (taken ss) (block (a .z) ss) (l .i) (l .low) (l .inv .1) (le-ltb _ vacant (w .0 .left)))
       ]
     ]
 
 returns : tie.Need-returns Inv-loop μ-loop
+unfolding wornInSlots slotCount inBlock
 returns c =
-    let l = c .before .before .loop in let a = c .before .before .before .before .before .args in let e : l .i ≡ a .z .slots = omega arith in
-    l .inv .1 ∙ ap (λ (n : ℕ). least n (worn-block (sizesOf (a .z)) (a .wear .now) (taken (a .t2)) (block (a .z) (a .t2))) (a .z .blocks)) e
-    ∙ slots-lowest (sizesOf (a .z)) (directoryOf (a .t2)) (c .before .before .before .before .before .pre .sound) (a .wear .now)
+    let l = c .before .before .loop in let start = c .before .before .before .before .before in let a = start .args in let e : l .i ≡ a .z .slots = omega arith in
+    l .inv .1 ∙ ap (λ (n : ℕ). least n (worn-block (sizesOf (a .z)) (a .wear .now) (taken (a .slots .now)) (block (a .z) (a .slots .now))) (a .z .blocks)) e
+    ∙ slots-lowest (sizesOf (a .z)) (whole start) (start .pre .with-wear .sound) (a .wear .now)
 
 pub worn-in-slots-spec : {M : Type 1} → statement M
 worn-in-slots-spec =

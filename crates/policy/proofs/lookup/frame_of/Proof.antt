@@ -1,31 +1,20 @@
 use borrow.Author.Needs.{needs}
 use native.Mathlib.Omega.{arith}
-use mathlib.Core.Path.{sym, _∙_}
-use mathlib.Core.Bool.{Bool}
-use mathlib.Core.List.{[]}
-use Prim.Native.Nat.{ℕ, _-_, _≤_}
+use Prim.Native.Nat.{_-_, _≤_}
 use lib.Dec.{eqb}
+use lib.ListN.{getD}
 use borrow.Author.Count.{below-none, below-more}
 use borrow.Author.Tests.{eq-eqb, ne-eqb}
-use Rattle.address.specs.declared.BlockNo.{BlockNo}
 use Rattle.prelude.proofs.Scan.{Missed, first-is}
-use Rattle.model.specs.Directory.{frameAt}
 use Rattle.model.specs.Policy.{frameOf}
-use Rattle.cache.specs.declared.Directory.{Directory}
-use Rattle.cache.specs.View.{directoryOf}
-use Rattle.cache.proofs.View.{frame-of}
-use Rattle.policy.proofs.Alone.{alone}
 use Rattle.policy.proofs.lookup.frame_of.Statement.{statement}
 use Rattle.policy.proofs.lookup.frame_of.Tie as tie
 
-abbrev holds : Directory → BlockNo → ℕ → Bool
-holds d b f = eqb (frameAt (directoryOf d) f) (b .0)
-
 abbrev Inv-loop : tie.InvT-loop
-Inv-loop b end frames f₀ f = (f ≤ end) × Missed (holds (alone frames [] []) b) f
+Inv-loop frames b end f₀ f = (f ≤ end) × Missed (λ g. eqb (getD frames g 0) (b .0)) f
 
 abbrev μ-loop : tie.MeasureT-loop
-μ-loop b end frames f₀ f = end - f
+μ-loop frames b end f₀ f = end - f
 
 cast-end : tie.Need-cast-end Inv-loop μ-loop
 cast-end c = search needs
@@ -33,17 +22,15 @@ cast-end c = search needs
 loop-holds : tie.Need-loop-holds Inv-loop μ-loop
 loop-holds c = (omega arith, below-none _)
 
-mul-x : tie.Need-mul-x Inv-loop μ-loop
-mul-x c = search needs
+mul-if1 : tie.Need-mul-if1 Inv-loop μ-loop
+mul-if1 c = search needs
 
-array-copy-out-x : tie.Need-array-copy-out-x Inv-loop μ-loop
-array-copy-out-x c = search needs
+element-copy-out-if1 : tie.Need-element-copy-out-if1 Inv-loop μ-loop
+element-copy-out-if1 c = search needs
 
 returns : tie.Need-returns Inv-loop μ-loop
-unfolding frameOf directoryOf
-returns c =
-    let l = c .before .before .before .before .before .loop in let a = c .before .before .before .before .before .before .before .before .args in
-    first-is (a .z .frames) (holds (alone (a .d .frames) [] []) (a .b)) (l .f) (l .inv .0) (l .inv .1) (λ k. eq-eqb _ _ (frame-of (alone (a .d .frames) [] []) (l .f) ∙ c .if1 .taken))
+unfolding frameOf
+returns c = let l = c .before .before .before .before .loop in first-is _ _ (l .f) (l .inv .0) (l .inv .1) (λ k. eq-eqb _ _ (c .if1 .taken))
 
 add-f : tie.Need-add-f Inv-loop μ-loop
 add-f c = search needs
@@ -52,15 +39,11 @@ loop-less : tie.Need-loop-less Inv-loop μ-loop
 loop-less c = search needs
 
 loop-again : tie.Need-loop-again Inv-loop μ-loop
-loop-again c =
-    let l = c .before .before .before .before .before .loop in let a = c .before .before .before .before .before .before .before .before .args in
-    (omega arith, below-more _ (l .f) (l .inv .1) (ne-eqb _ _ (λ e. c .if1 .left (sym (frame-of (alone (a .d .frames) [] []) (l .f)) ∙ e))))
+loop-again c = let l = c .before .before .before .before .loop in (omega arith, below-more _ (l .f) (l .inv .1) (ne-eqb _ _ (c .if1 .left)))
 
 returns-2 : tie.Need-returns-2 Inv-loop μ-loop
-unfolding frameOf directoryOf
-returns-2 c =
-    let l = c .before .loop in let a = c .before .before .before .before .args in
-    first-is (a .z .frames) (holds (alone (a .d .frames) [] []) (a .b)) (l .f) (l .inv .0) (l .inv .1) (λ k. absurd (omega arith))
+unfolding frameOf
+returns-2 c = let l = c .before .loop in first-is _ _ (l .f) (l .inv .0) (l .inv .1) (λ k. absurd (omega arith))
 
 pub frame-of-spec : {M : Type 1} → statement M
 frame-of-spec =
@@ -70,8 +53,8 @@ frame-of-spec =
     μ-loop
     cast-end
     loop-holds
-    mul-x
-    array-copy-out-x
+    mul-if1
+    element-copy-out-if1
     returns
     add-f
     loop-less

@@ -1,22 +1,43 @@
 use borrow.Author.Needs.{needs}
 use native.Mathlib.Omega.{arith}
-use mathlib.Core.Path.{sym, ap, _∙_}
-use Rattle.model.specs.Policy.{leastRecent, slotHit, frameHit, freeSlot}
+use mathlib.Core.Path.{_≡_, sym, ap, _∙_}
+use Rattle.model.specs.Sizes.{Sizes, vacant}
+use Rattle.model.specs.Directory.{Directory, inFrame}
+use Rattle.model.specs.Policy.{slotOf, frameWith, leastRecent, slotHit, frameHit, freeSlot}
 use Rattle.model.proofs.Plan.{plan-1, plan-2, plan-3, plan-full}
-use Rattle.cache.specs.View.{sizesOf, directoryOf}
+use Rattle.cache.specs.View.{sizesOf, numbers}
 use Rattle.policy.proofs.plan.plan.Statement.{statement}
 use Rattle.policy.proofs.plan.plan.Tie as tie
 
-find-requires : tie.Need-find-requires
-find-requires c κs = search needs
+abbrev sizes : tie.Start → Sizes
+sizes s = sizesOf (s .args .z)
+
+abbrev directory : tie.Start → Directory
+directory s = numbers (s .args .slots .now) (s .args .frames .now) (s .args .valid .now) (s .args .recency .now)
+
+-- what each search finds, in the whole record
+slot-is : (c : tie.After-slot-of) → c .slot-of .result ≡ slotOf (sizes (c .before .before)) (directory (c .before .before)) (c .before .before .args .n .0)
+unfolding slotOf
+slot-is c = c .slot-of .ensures
+
+frame-is : (c : tie.After-frame-with) → c .frame-with .result ≡ frameWith (sizes (c .before .before .before .before .before)) (directory (c .before .before .before .before .before)) (c .before .before .before .before .before .args .n .0)
+unfolding frameWith inFrame
+frame-is c = c .frame-with .ensures
+
+free-is : (c : tie.After-slot-of2) → c .slot-of2 .result ≡ slotOf (sizes (c .before .before .before .before .before .before .before .before)) (directory (c .before .before .before .before .before .before .before .before)) vacant
+unfolding slotOf
+free-is c = c .slot-of2 .ensures
+
+slot-of-requires : tie.Need-slot-of-requires
+slot-of-requires c κs = search needs
 
 cast-if1 : tie.Need-cast-if1
 cast-if1 c = search needs
 
 returns : tie.Need-returns
 returns c =
-    let a = c .before .before .before .before .before .args in let e = c .before .before .before .find .ensures .0 in
-    ap slotHit e ∙ sym (plan-1 leastRecent (sizesOf (a .z)) (directoryOf (a .d)) (a .wear .now) (a .n .0) (omega arith))
+    let s = c .before .before .before .before in let e = slot-is (c .before .before) in
+    ap slotHit e ∙ sym (plan-1 leastRecent (sizes s) (directory s) (s .args .wear .now) (s .args .n .0) (omega arith))
 
 frame-with-requires : tie.Need-frame-with-requires
 frame-with-requires c κs = search needs
@@ -26,36 +47,40 @@ cast-if2 c = search needs
 
 returns-2 : tie.Need-returns-2
 returns-2 c =
-    let a = c .before .before .before .before .before .before .before .before .args in let e = c .before .before .before .before .before .before .find .ensures .0 in let f = c .before .before .frame-with .ensures in
-    ap frameHit f ∙ sym (plan-2 leastRecent (sizesOf (a .z)) (directoryOf (a .d)) (a .wear .now) (a .n .0) (omega arith) (omega arith))
+    let s = c .before .before .before .before .before .before .before in let e = slot-is (c .before .before .before .before .before) in let f = frame-is (c .before .before) in
+    ap frameHit f ∙ sym (plan-2 leastRecent (sizes s) (directory s) (s .args .wear .now) (s .args .n .0) (omega arith) (omega arith))
+
+slot-of-requires-2 : tie.Need-slot-of-requires-2
+slot-of-requires-2 c κs = search needs
 
 cast-if3 : tie.Need-cast-if3
 cast-if3 c = search needs
 
 returns-3 : tie.Need-returns-3
 returns-3 c =
-    let a = c .before .before .before .before .before .before .before .before .before .before .before .args in let e = c .before .before .before .before .before .before .before .before .before .find .ensures .0 in let f = c .before .before .before .before .before .frame-with .ensures in let g = c .before .before .before .before .before .before .before .before .before .find .ensures .1 (c .before .before .before .before .before .before .if1 .left) in
-    ap freeSlot g ∙ sym (plan-3 leastRecent (sizesOf (a .z)) (directoryOf (a .d)) (a .wear .now) (a .n .0) (omega arith) (omega arith) (omega arith))
+    let s = c .before .before .before .before .before .before .before .before .before .before in let e = slot-is (c .before .before .before .before .before .before .before .before) in let f = frame-is (c .before .before .before .before .before) in let g = free-is (c .before .before) in
+    ap freeSlot g ∙ sym (plan-3 leastRecent (sizes s) (directory s) (s .args .wear .now) (s .args .n .0) (omega arith) (omega arith) (omega arith))
 
-make-room-requires : tie.Need-make-room-requires
-make-room-requires c κs = search needs
+eviction-plan-requires : tie.Need-eviction-plan-requires
+eviction-plan-requires c κs = search needs
 
 returns-4 : tie.Need-returns-4
 returns-4 c =
-    let a = c .before .before .before .before .before .before .before .before .before .before .before .before .before .before .before .before .args in let e = c .before .before .before .before .before .before .before .before .before .before .before .before .before .before .find .ensures .0 in let f = c .before .before .before .before .before .before .before .before .before .before .frame-with .ensures in let g = c .before .before .before .before .before .before .before .before .before .before .before .before .before .before .find .ensures .1 (c .before .before .before .before .before .before .before .before .before .before .before .if1 .left) in
-    c .make-room .ensures ∙ sym (plan-full leastRecent (sizesOf (a .z)) (directoryOf (a .d)) (a .wear .now) (a .n .0) (omega arith) (omega arith) (omega arith))
+    let s = c .before .before .before .before .before .before .before .before .before .before .before in let e = slot-is (c .before .before .before .before .before .before .before .before .before) in let f = frame-is (c .before .before .before .before .before .before) in let g = free-is (c .before .before .before) in
+    rw (plan-full leastRecent (sizes s) (directory s) (s .args .wear .now) (s .args .n .0) (omega arith) (omega arith) (omega arith)) (c .eviction-plan .ensures)
 
 pub plan-spec : {M : Type 1} → statement M
 plan-spec =
     tie.close
     (tie.spec
-    find-requires
+    slot-of-requires
     cast-if1
     returns
     frame-with-requires
     cast-if2
     returns-2
+    slot-of-requires-2
     cast-if3
     returns-3
-    make-room-requires
+    eviction-plan-requires
     returns-4)

@@ -1,7 +1,7 @@
 use borrow.Author.Needs.{needs}
 use native.Mathlib.Omega.{arith}
 use mathlib.Core.Path.{_≡_, ap, _∙_}
-use mathlib.Core.List.{[]}
+use mathlib.Core.List.{List, []}
 use mathlib.Core.Logic.{inl, inr}
 use Prim.Native.Nat.{ℕ, suc, _-_, _≤_}
 use Rattle.prelude.specs.Scan.{least}
@@ -9,18 +9,15 @@ use Rattle.prelude.proofs.Scan.{least-hit, least-miss}
 use Rattle.model.specs.Policy.{validCount, fewestValid}
 use Rattle.model.proofs.Plan.{valid-ones}
 use Rattle.cache.specs.declared.Sizes.{Sizes}
-use Rattle.cache.specs.declared.Directory.{Directory}
-use Rattle.cache.specs.View.{sizesOf, directoryOf}
-use Rattle.cache.proofs.View.{valid-of}
-use Rattle.policy.proofs.Alone.{alone}
+use Rattle.cache.specs.View.{sizesOf, numbers}
 use Rattle.policy.proofs.victim.fewest_valid.Statement.{statement}
 use Rattle.policy.proofs.victim.fewest_valid.Tie as tie
 
-abbrev pages : Sizes → Directory → ℕ → ℕ
-pages z d f = validCount (sizesOf z) (directoryOf d) f
+abbrev pages : Sizes → List ℕ → ℕ → ℕ
+pages z valid = validCount (sizesOf z) (numbers [] [] valid [])
 
 abbrev Inv-loop : tie.InvT-loop
-Inv-loop z valid fewest₀ f₀ fewest f = (f ≤ z .frames) × (fewest ≡ least f (pages z (alone [] valid [])) (suc (z .«pages_per_block»)))
+Inv-loop z valid fewest₀ f₀ fewest f = (f ≤ z .frames) × (fewest ≡ least f (pages z valid) (suc (z .«pages_per_block»)))
 
 abbrev μ-loop : tie.MeasureT-loop
 μ-loop z valid fewest₀ f₀ fewest f = z .frames - f
@@ -35,11 +32,11 @@ loop-holds c = omega arith
 cast-if1 : tie.Need-cast-if1 Inv-loop μ-loop
 cast-if1 c = search needs
 
-mul-v : tie.Need-mul-v Inv-loop μ-loop
-mul-v c = search needs
+mul-count : tie.Need-mul-count Inv-loop μ-loop
+mul-count c = search needs
 
-array-read-v : tie.Need-array-read-v Inv-loop μ-loop
-array-read-v c = search needs
+element-copy-out-count : tie.Need-element-copy-out-count Inv-loop μ-loop
+element-copy-out-count c = search needs
 
 count-requires : tie.Need-count-requires Inv-loop μ-loop
 count-requires c κs = search needs
@@ -51,20 +48,21 @@ loop-less : tie.Need-loop-less Inv-loop μ-loop
 loop-less c = search needs
 
 loop-again : tie.Need-loop-again Inv-loop μ-loop
-unfolding directoryOf validCount
+unfolding validCount
 loop-again c =
-    let l = c .before .before .before .before .loop in let a = c .before .before .before .before .before .before .before .args in let e = l .inv .1 in let top : ℕ = suc (a .z .«pages_per_block») in
-    let n : c .before .count .result ≡ pages (a .z) (alone [] (a .d .valid) []) (l .f) = c .before .count .ensures ∙ rw (← (valid-of (a .d) (l .f))) (valid-ones (sizesOf (a .z)) (directoryOf (a .d)) (c .before .before .before .before .before .before .before .pre) (l .f) (omega arith)) in
+    let l = c .before .before .before .before .before .loop in let a = c .before .before .before .before .before .before .before .args in let q = c .before .before .before .before .before .before .before .pre in
+    let e = l .inv .1 in let top : ℕ = suc (a .z .«pages_per_block») in
+    let n : c .before .count .result ≡ pages (a .z) (a .valid .now) (l .f) = c .before .count .ensures ∙ valid-ones (sizesOf (a .z)) (numbers (q .slots) (q .frames) (a .valid .now) (q .recency)) (q .sound) (l .f) (omega arith) in
     elim (c .if2 .came) [
-      | inl w ↦ (omega arith, w .1 ∙ n ∙ least-hit (l .f) (pages (a .z) (alone [] (a .d .valid) [])) top (let t = w .0 .taken in omega arith))
-      | inr w ↦ (omega arith, w .1 ∙ e ∙ least-miss (l .f) (pages (a .z) (alone [] (a .d .valid) [])) top (let t = w .0 .left in omega arith))
+      | inl w ↦ (omega arith, w .1 ∙ n ∙ least-hit (l .f) (pages (a .z) (a .valid .now)) top (let t = w .0 .taken in omega arith))
+      | inr w ↦ (omega arith, w .1 ∙ e ∙ least-miss (l .f) (pages (a .z) (a .valid .now)) top (let t = w .0 .left in omega arith))
     ]
 
 returns : tie.Need-returns Inv-loop μ-loop
-unfolding fewestValid directoryOf validCount
+unfolding fewestValid
 returns c =
-    let l = c .before .before .loop in let a = c .before .before .before .before .before .args in let e : l .f ≡ a .z .frames = omega arith in
-    l .inv .1 ∙ ap (λ (x : ℕ). least x (pages (a .z) (alone [] (a .d .valid) [])) (suc (a .z .«pages_per_block»))) e
+    let l = c .before .before .loop in let a = c .before .before .before .before .args in let e : l .f ≡ a .z .frames = omega arith in
+    l .inv .1 ∙ ap (λ (x : ℕ). least x (pages (a .z) (a .valid .now)) (suc (a .z .«pages_per_block»))) e
 
 pub fewest-valid-spec : {M : Type 1} → statement M
 fewest-valid-spec =
@@ -75,8 +73,8 @@ fewest-valid-spec =
     add-fewest
     loop-holds
     cast-if1
-    mul-v
-    array-read-v
+    mul-count
+    element-copy-out-count
     count-requires
     add-f
     loop-less

@@ -1,5 +1,6 @@
 use borrow.Author.Needs.{needs}
 use native.Mathlib.Omega.{arith}
+use mathlib.Core.List.{[]}
 use mathlib.Core.Path.{_≡_, refl}
 use mathlib.Core.Logic.{inl, inr}
 use Prim.Native.Nat.{_-_, _≤_, _<_}
@@ -8,37 +9,36 @@ use Rattle.prelude.proofs.Scan.{count-le}
 use Rattle.model.specs.Policy.{inBlock}
 use Rattle.model.proofs.Soundness.{K-pos}
 use Rattle.model.proofs.Plan.{slot-vacant}
-use Rattle.cache.specs.View.{sizesOf, directoryOf}
-use Rattle.cache.proofs.View.{slot-of}
+use Rattle.cache.specs.View.{sizesOf, numbers}
 use Rattle.policy.proofs.Held.{Held, held, page-lt}
 use Rattle.policy.proofs.Counts.{Counted, counted-none, counted-vacant, counted-taken, counted-kept, counted-all}
 use Rattle.policy.proofs.victim.victim.Statement.{statement}
 use Rattle.policy.proofs.victim.victim.Tie as tie
 
 abbrev Inv-loop : tie.InvT-loop
-Inv-loop z d end m counts₀ lead₀ i₀ counts lead i = (i ≤ end) × Counted (sizesOf z) (directoryOf d) i counts lead
+Inv-loop z slots end m counts₀ lead₀ i₀ counts lead i = (i ≤ end) × Counted (sizesOf z) (numbers slots [] [] []) i counts lead
 
 abbrev μ-loop : tie.MeasureT-loop
-μ-loop z d end m counts₀ lead₀ i₀ counts lead i = end - i
+μ-loop z slots end m counts₀ lead₀ i₀ counts lead i = end - i
 
 -- the page in the slot, and its block
-found : (c : tie.After-block-by Inv-loop μ-loop) → Held (sizesOf (c .before .before .before .before .before .before .before .before .args .z)) (directoryOf (c .before .before .before .before .before .before .before .before .args .t2)) (c .before .before .before .before .before .loop .i) (c .block-by .result .0)
+found : (c : tie.After-block-by Inv-loop μ-loop) → Held (sizesOf (c .before .before .before .before .before .before .before .args .z)) (numbers (c .before .before .before .before .before .before .before .args .slots .now) [] [] []) (c .before .before .before .before .loop .i) (c .block-by .result .0)
 found c =
-    let start = c .before .before .before .before .before .before .before .before in
-    held (start .args .z) (start .args .t2) (start .pre) (c .before .before .before .before .before .loop .i) _ (omega arith) (c .before .if1 .taken) (c .block-by .ensures)
+    let start = c .before .before .before .before .before .before .before in let h = held (start .args .z) _ (start .pre .sound) (c .before .before .before .before .loop .i) _ (omega arith) (c .before .if1 .taken) (c .block-by .ensures) in
+    record { page = h .page; own = h .own; low = h .low }
 
 -- a block has no more pages than there are slots, so a rank is small
-few : (c : tie.After-block-by Inv-loop μ-loop) → getD (c .before .before .before .before .before .loop .counts) (c .block-by .result .0) 0 < 128
+few : (c : tie.After-block-by Inv-loop μ-loop) → getD (c .before .before .before .before .loop .counts) (c .block-by .result .0) 0 < 128
 few c =
-    let start = c .before .before .before .before .before .before .before .before in let l = c .before .before .before .before .before .loop in
-    let e = l .inv .1 .each (c .block-by .result .0) (found c .low) in let m = count-le (l .i) (inBlock (sizesOf (start .args .z)) (directoryOf (start .args .t2)) (c .block-by .result .0)) in
-    let p = start .pre .limits .P-high in omega arith
+    let start = c .before .before .before .before .before .before .before in let l = c .before .before .before .before .loop in
+    let e = l .inv .1 .each (c .block-by .result .0) (found c .low) in let m = count-le (l .i) (inBlock (sizesOf (start .args .z)) (numbers (start .args .slots .now) [] [] []) (c .block-by .result .0)) in
+    let p = start .pre .sound .limits .P-high in omega arith
 
 highest : (c : tie.After-loop Inv-loop μ-loop) → c .before .loop .lead < 1048576
 highest c =
     let start = c .before .before .before .before in let l = c .before .loop in
-    let e = l .inv .1 .leads in let m = count-le (l .i) (inBlock (sizesOf (start .args .z)) (directoryOf (start .args .t2)) (l .inv .1 .leader)) in
-    let p = start .pre .limits .P-high in let i = l .inv .0 in omega arith
+    let e = l .inv .1 .leads in let m = count-le (l .i) (inBlock (sizesOf (start .args .z)) (numbers (start .args .slots .now) [] [] []) (l .inv .1 .leader)) in
+    let p = start .pre .sound .limits .P-high in let i = l .inv .0 in omega arith
 
 cast-end : tie.Need-cast-end Inv-loop μ-loop
 cast-end c = search needs
@@ -47,7 +47,7 @@ reciprocal-requires : tie.Need-reciprocal-requires Inv-loop μ-loop
 reciprocal-requires c κs = search needs
 
 loop-holds : tie.Need-loop-holds Inv-loop μ-loop
-loop-holds c = (omega arith, counted-none (sizesOf (c .before .before .args .z)) (directoryOf (c .before .before .args .t2)) (c .before .before .pre))
+loop-holds c = (omega arith, counted-none _ _ (c .before .before .pre .sound .limits))
 
 mul-x : tie.Need-mul-x Inv-loop μ-loop
 mul-x c = search needs
@@ -57,20 +57,20 @@ element-copy-out-x c = search needs
 
 block-by-requires : tie.Need-block-by-requires Inv-loop μ-loop
 block-by-requires c κs =
-    let start = c .before .before .before .before .before .before .before in
-    (K-pos (sizesOf (start .args .z)) (start .pre .limits), start .pre .limits .K-high, page-lt (start .args .z) (start .args .t2) (start .pre) (c .before .before .before .before .loop .i) (omega arith) (c .if1 .taken))
+    let start = c .before .before .before .before .before .before in let s = start .pre .sound in
+    (K-pos (sizesOf (start .args .z)) (s .limits), s .limits .K-high, page-lt (start .args .z) _ s (c .before .before .before .loop .i) (omega arith) (c .if1 .taken))
 
 cast-at : tie.Need-cast-at Inv-loop μ-loop
 cast-at c = search needs
 
 array-read-pages : tie.Need-array-read-pages Inv-loop μ-loop
-array-read-pages c = let k = found (c .before) .low in let n = c .before .before .before .before .before .before .before .before .before .pre .limits .N-high in let l = c .before .before .before .before .before .before .loop .inv .1 .long in omega arith
+array-read-pages c = let k = found (c .before) .low in let n = c .before .before .before .before .before .before .before .before .pre .sound .limits .N-high in let l = c .before .before .before .before .before .loop .inv .1 .long in omega arith
 
 add-pages : tie.Need-add-pages Inv-loop μ-loop
 add-pages c = let f = few (c .before) in record { fits = omega arith }
 
 array-write-counts : tie.Need-array-write-counts Inv-loop μ-loop
-array-write-counts c = let k = found (c .before) .low in let n = c .before .before .before .before .before .before .before .before .before .pre .limits .N-high in let l = c .before .before .before .before .before .before .loop .inv .1 .long in omega arith
+array-write-counts c = let k = found (c .before) .low in let n = c .before .before .before .before .before .before .before .before .pre .sound .limits .N-high in let l = c .before .before .before .before .before .loop .inv .1 .long in omega arith
 
 cast-rank : tie.Need-cast-rank Inv-loop μ-loop
 cast-rank c = let f = few (c .before) in record { fits = omega arith }
@@ -79,7 +79,7 @@ mul-rank : tie.Need-mul-rank Inv-loop μ-loop
 mul-rank c = let f = few (c .before) in record { fits = omega arith }
 
 sub-rank : tie.Need-sub-rank Inv-loop μ-loop
-sub-rank c = let k = found (c .before .before) .low in let n = c .before .before .before .before .before .before .before .before .before .before .pre .limits .N-high in omega arith
+sub-rank c = let k = found (c .before .before) .low in let n = c .before .before .before .before .before .before .before .before .before .pre .sound .limits .N-high in omega arith
 
 add-i : tie.Need-add-i Inv-loop μ-loop
 add-i c = search needs
@@ -89,14 +89,14 @@ loop-less c = search needs
 
 loop-again : tie.Need-loop-again Inv-loop μ-loop
 loop-again c =
-    let l = c .before .before .before .before .loop in let a = c .before .before .before .before .before .before .before .args in let s = c .before .before .before .before .before .before .before .pre in let sz = sizesOf (a .z) in let d = directoryOf (a .t2) in
+    let l = c .before .before .before .loop in let start = c .before .before .before .before .before .before in let s = start .pre .sound in let sz = sizesOf (start .args .z) in let d = numbers (start .args .slots .now) [] [] [] in
     elim (c .if1 .came) [
       | inl w ↦ let p = found (record { before = record { before = c .before; if1 = w .0 }; block-by = w .1 }) in
-          (omega arith, rw (w .5, w .6) (counted-taken sz d s (l .i) (l .counts) (l .lead) (l .inv .1) _ _ p refl (w .4 .taken)))
+          (omega arith, rw (w .5, w .6) (counted-taken sz d (s .limits) (l .i) (l .counts) (l .lead) (l .inv .1) _ _ p refl (w .4 .taken)))
       | inr v ↦ elim v [
         | inl w ↦ let p = found (record { before = record { before = c .before; if1 = w .0 }; block-by = w .1 }) in
-            (omega arith, rw (w .5, w .6) (counted-kept sz d s (l .i) (l .counts) (l .lead) (l .inv .1) _ _ p refl (w .4 .left)))
-        | inr w ↦ (omega arith, rw (w .1, w .2) (counted-vacant sz d s (l .i) (l .counts) (l .lead) (l .inv .1) (slot-vacant sz d s (l .i) (omega arith) (rw (slot-of (a .t2) (l .i)) (w .0 .left)))))
+            (omega arith, rw (w .5, w .6) (counted-kept sz d (s .limits) (l .i) (l .counts) (l .lead) (l .inv .1) _ _ p refl (w .4 .left)))
+        | inr w ↦ (omega arith, rw (w .1, w .2) (counted-vacant sz d (s .limits) (l .i) (l .counts) (l .lead) (l .inv .1) (slot-vacant sz _ s (l .i) (omega arith) (w .0 .left))))
       ]
     ]
 
@@ -111,8 +111,8 @@ sub-block c = omega arith
 
 returns : tie.Need-returns Inv-loop μ-loop
 returns c =
-    let l = c .before .loop in let a = c .before .before .before .before .args in let e : l .i ≡ a .z .slots = omega arith in
-    counted-all (sizesOf (a .z)) (directoryOf (a .t2)) (c .before .before .before .before .pre) (l .counts) (l .lead) (rw e at (l .inv .1))
+    let l = c .before .loop in let start = c .before .before .before .before in let e : l .i ≡ start .args .z .slots = omega arith in
+    counted-all _ _ (start .pre .sound .limits) (l .counts) (l .lead) (rw e at (l .inv .1))
 
 pub victim-spec : {M : Type 1} → statement M
 victim-spec =

@@ -14,7 +14,7 @@ peek-requires : tie.Need-peek-requires
 peek-requires c κs = c .before .before .before .before .before .before .pre .0
 
 lay-requires : tie.Need-lay-requires
-lay-requires c κs = let p = c .before .before .before .before .before .before .before .before .before .before .pre in let h = p .0 .sound .limits .S-high in let r = p .1 in let e = p .0 .page-length in let k = c .before .before .before .peek .kept .1 .1 .1 .1 .1 .1 .0 in (omega arith, omega arith)
+lay-requires c κs = let p = c .before .before .before .before .before .before .before .before .before .before .pre in let h = p .0 .limits .S-high in let r = p .1 in let e = p .0 .page-length in let k = c .before .before .before .peek .kept .1 .1 .1 .1 .1 .1 .1 .1 .0 in (omega arith, omega arith)
 
 same-length : tie.Need-same-length
 same-length c = search needs

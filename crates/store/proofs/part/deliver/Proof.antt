@@ -3,9 +3,6 @@ use mathlib.Core.Path.{_∙_}
 use Rattle.store.proofs.Parts.{laid-whole, stays}
 use Rattle.store.proofs.part.deliver.Statement.{statement}
 use Rattle.store.proofs.part.deliver.Tie as tie
-use Rattle.store.proofs.part.deliver.Reads as reads
-use Rattle.store.proofs.part.deliver.Lts as lts
-use Rattle.page.proofs.lay.Reads as lay-reads
 
 enum-told : tie.Need-enum-told
 enum-told c = search needs
@@ -16,15 +13,38 @@ lay-requires c κs = search needs
 enum-told-2 : tie.Need-enum-told-2
 enum-told-2 c = search needs
 
+lay-requires-2 : tie.Need-lay-requires-2
+lay-requires-2 c κs = search needs
+
+enum-told-3 : tie.Need-enum-told-3
+enum-told-3 c = search needs
+
 same-length : tie.Need-same-length
 same-length c = search needs
 
 returns : tie.Need-returns
 returns c = rw (c .before .before .before .before .enum-told .given .1) (c .before .before .lay .ensures ∙ laid-whole _ _ (c .before .before .before .before .before .before .before .before .pre .1))
 
+same-length-2 : tie.Need-same-length-2
+same-length-2 c = search needs
+
 returns-2 : tie.Need-returns-2
-returns-2 c = stays _ _ (c .enum-told2 .given .1) _ _
+returns-2 c = rw (c .before .before .before .before .enum-told2 .given .1) (c .before .before .lay2 .ensures ∙ laid-whole _ _ (c .before .before .before .before .before .before .before .before .pre .1))
+
+returns-3 : tie.Need-returns-3
+returns-3 c = stays _ _ (c .enum-told3 .given .1) _ _
 
 pub deliver-spec : {M : Type 1} → statement M
 deliver-spec =
-    tie.close (tie.spec enum-told lay-requires enum-told-2 same-length returns returns-2)
+    tie.close
+    (tie.spec
+    enum-told
+    lay-requires
+    enum-told-2
+    lay-requires-2
+    enum-told-3
+    same-length
+    returns
+    same-length-2
+    returns-2
+    returns-3)

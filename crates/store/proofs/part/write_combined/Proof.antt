@@ -4,20 +4,15 @@ use mathlib.Core.Path.{_∙_}
 use Rattle.store.proofs.Parts.{part-readable, part-writable, part-wrote}
 use Rattle.store.proofs.part.write_combined.Statement.{statement}
 use Rattle.store.proofs.part.write_combined.Tie as tie
-use Rattle.store.proofs.part.write_combined.Reads as reads
-use Rattle.store.proofs.part.write_combined.Lts as lts
-use Rattle.store.proofs.part.combine.Reads as combine-reads
-use Rattle.store.proofs.part.deliver.Reads as deliver-reads
-use Rattle.writes.proofs.write.Reads as write-reads
 
 combine-requires : tie.Need-combine-requires
-combine-requires c κs = let p = c .before .before .before .before .before .before .before .before .before .before .before .pre in (part-readable _ _ _ _ _ _ _ (p .0) _ (p .1), p .0 .reach)
+combine-requires c κs = let p = c .before .before .before .before .before .before .before .before .before .before .before .before .before .before .pre in (part-readable _ _ _ _ _ _ _ (p .0) _ (p .1), p .0 .reach)
 
 write-requires : tie.Need-write-requires
-write-requires c κs = let p = c .before .before .before .before .before .before .before .before .before .before .before .before .before .before .before .before .before .before .before .pre in part-writable _ _ _ _ _ _ _ (p .0) _ (c .before .before .before .before .before .before .before .combine .kept .1 .1 .1 .1 .1 .1 .1 .1 .0 ∙ p .1)
+write-requires c κs = let p = c .before .before .before .before .before .before .before .before .before .before .before .before .before .before .before .before .before .before .before .before .before .before .before .before .before .before .pre in part-writable _ _ _ _ _ _ _ (p .0) _ (c .before .before .before .before .before .before .before .before .before .before .before .combine .kept .1 .1 .1 .1 .1 .1 .1 .1 .1 .1 .0 ∙ p .1)
 
 deliver-requires : tie.Need-deliver-requires
-deliver-requires c κs = let p = c .before .before .before .before .before .before .before .before .before .before .before .before .before .before .before .before .before .before .before .before .before .before .before .before .before .before .before .before .before .before .pre in let h = p .0 .ready .sound .limits .S-high in let e = c .before .before .before .before .before .before .before .before .before .before .before .before .before .before .before .before .before .before .combine .kept .1 .1 .1 .1 .1 .1 .1 .1 .0 ∙ p .1 in let g = p .0 .page-length in (omega arith, omega arith)
+deliver-requires c κs = let p = c .before .before .before .before .before .before .before .before .before .before .before .before .before .before .before .before .before .before .before .before .before .before .before .before .before .before .before .before .before .before .before .before .before .before .before .before .before .pre in let h = p .0 .ready .sound .limits .S-high in let e = c .before .before .before .before .before .before .before .before .before .before .before .before .before .before .before .before .before .before .before .before .before .before .combine .kept .1 .1 .1 .1 .1 .1 .1 .1 .1 .1 .0 ∙ p .1 in let g = p .0 .page-length in (omega arith, omega arith)
 
 same-length : tie.Need-same-length
 same-length c = search needs
@@ -38,7 +33,7 @@ same-length-6 : tie.Need-same-length-6
 same-length-6 c = search needs
 
 returns : tie.Need-returns
-returns c = part-wrote _ _ _ _ _ _ _ _ _ _ _ _ (c .before .before .before .before .before .before .before .before .before .before .before .before .before .before .before .before .before .before .before .before .before .combine .ensures) (c .before .before .before .before .before .before .before .before .before .before .before .before .before .write .ensures) (c .before .before .deliver .ensures)
+returns c = part-wrote _ _ _ _ _ _ _ _ _ _ _ _ _ _ _ (c .before .before .before .before .before .before .before .before .before .before .before .before .before .before .before .before .before .before .before .before .before .before .before .before .before .combine .ensures) (c .before .before .before .before .before .before .before .before .before .before .before .before .before .write .ensures) (c .before .before .deliver .ensures)
 
 pub write-combined-spec : {M : Type 1} → statement M
 write-combined-spec =

@@ -3,13 +3,9 @@ use mathlib.Core.Path.{_∙_}
 use Rattle.writes.proofs.Entering.{exchange-enters, exchange-entered}
 use Rattle.writes.proofs.enter.exchange.Statement.{statement}
 use Rattle.writes.proofs.enter.exchange.Tie as tie
-use Rattle.writes.proofs.enter.exchange.Reads as reads
-use Rattle.writes.proofs.enter.exchange.Lts as lts
-use Rattle.moves.proofs.exchange.exchange.Reads as exchange-reads
-use Rattle.writes.proofs.enter.enter.Reads as enter-reads
 
 exchange-requires : tie.Need-exchange-requires
-exchange-requires c κs = let q = c .before .before .before .before .before .pre in record {
+exchange-requires c κs = let q = c .before .before .before .before .before .before .before .before .before .pre in record {
   joins = record {
     sound = q .spaced .sound;
     block-lt = q .changing .victim-lt;
@@ -21,7 +17,7 @@ exchange-requires c κs = let q = c .before .before .before .before .before .pre
 }
 
 enter-requires : tie.Need-enter-requires
-enter-requires c κs = exchange-enters _ _ _ _ _ _ _ (c .before .before .before .before .before .before .before .before .before .before .before .pre) _ _ (c .before .before .before .before .before .exchange .ensures .directory) (c .before .before .before .before .before .exchange .kept .1 .1 .0 ∙ c .before .before .before .before .before .before .before .before .before .before .before .pre .spaced .pspace-length)
+enter-requires c κs = exchange-enters _ _ _ _ _ _ _ (c .before .before .before .before .before .before .before .before .before .before .before .before .before .before .before .before .before .before .before .pre) _ _ (c .before .before .before .before .before .before .before .before .before .exchange .ensures .directory) (c .before .before .before .before .before .before .before .before .before .exchange .kept .1 .1 .1 .1 .1 .0 ∙ c .before .before .before .before .before .before .before .before .before .before .before .before .before .before .before .before .before .before .before .pre .spaced .pspace-length)
 
 same-length : tie.Need-same-length
 same-length c = search needs
@@ -30,7 +26,7 @@ same-length-2 : tie.Need-same-length-2
 same-length-2 c = search needs
 
 returns : tie.Need-returns
-returns c = exchange-entered _ _ _ _ _ _ _ _ _ _ _ _ _ (c .before .before .before .before .before .before .before .before .exchange .ensures) (c .before .before .enter .ensures)
+returns c = exchange-entered _ _ _ _ _ _ _ _ _ _ _ _ _ (c .before .before .before .before .before .before .before .before .before .before .before .before .exchange .ensures) (c .before .before .enter .ensures)
 
 pub exchange-spec : {M : Type 1} → statement M
 exchange-spec =

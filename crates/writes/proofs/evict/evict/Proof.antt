@@ -1,34 +1,33 @@
 use borrow.Author.Needs.{needs}
 use native.Mathlib.Omega.{arith}
-use mathlib.Core.Path.{sym, _∙_}
-use Rattle.cache.proofs.View.{frame-of}
+use mathlib.Core.Path.{_∙_}
 use Rattle.writes.proofs.Ways.{worn-way, cleanable, cleaned-joins, way-7}
 use Rattle.writes.proofs.evict.evict.Statement.{statement}
 use Rattle.writes.proofs.evict.evict.Tie as tie
 
-mul-b : tie.Need-mul-b
-mul-b c = search needs
+mul-if1 : tie.Need-mul-if1
+mul-if1 c = let q = c .before .before .before .before .before .pre in let l = q .changing .frame-lt in let h = q .ready .sound .limits .B-high in record { fits = omega arith }
 
-element-copy-out-b : tie.Need-element-copy-out-b
-element-copy-out-b c = search needs
+element-copy-out-if1 : tie.Need-element-copy-out-if1
+element-copy-out-if1 c = let q = c .before .before .before .before .before .pre in let l = q .changing .frame-lt in let h = q .ready .sound .limits .B-high in omega arith
 
 cast-i : tie.Need-cast-i
 cast-i c = search needs
 
-mul-if1 : tie.Need-mul-if1
-mul-if1 c = search needs
+mul-if1-2 : tie.Need-mul-if1-2
+mul-if1-2 c = search needs
 
 slice-read-if1 : tie.Need-slice-read-if1
-slice-read-if1 c = let q = c .before .before .before .before .before .before .before .before .pre in let e = frame-of (c .before .before .before .before .before .before .before .before .args .t2) (c .before .before .before .before .before .before .before .before .args .f) in let l = q .changing .block-lt in let w = q .ready .fits .wear-length in omega arith
+slice-read-if1 c = let q = c .before .before .before .before .before .before .before .before .pre in let l = q .changing .block-lt in let w = q .ready .fits .wear-length in omega arith
 
 returns : tie.Need-returns
-returns c = worn-way _ _ _ _ _ _ _ _ _ (c .before .before .before .before .before .before .before .before .before .before .pre) _ _ (sym (frame-of (c .before .before .before .before .before .before .before .before .before .before .args .t2) (c .before .before .before .before .before .before .before .before .before .before .args .f))) (c .if1 .taken)
+returns c = worn-way _ _ _ _ _ _ _ _ _ (c .before .before .before .before .before .before .before .before .before .before .pre) _ (c .if1 .taken)
 
 clean-block-requires : tie.Need-clean-block-requires
-clean-block-requires c κs = cleanable _ _ _ _ _ _ _ _ _ (c .before .before .before .before .before .before .before .before .before .before .before .before .before .before .pre) _ (sym (frame-of (c .before .before .before .before .before .before .before .before .before .before .before .before .before .before .args .t2) (c .before .before .before .before .before .before .before .before .before .before .before .before .before .before .args .f))) (c .before .before .before .before .if1 .left)
+clean-block-requires c κs = cleanable _ _ _ _ _ _ _ _ _ (c .before .before .before .before .before .before .before .before .before .before .before .before .before .before .before .before .before .before .pre) (c .before .before .before .before .before .before .before .before .if1 .left)
 
 join-requires : tie.Need-join-requires
-join-requires c κs = cleaned-joins _ _ _ _ _ _ _ _ _ (c .before .before .before .before .before .before .before .before .before .before .before .before .before .before .before .before .before .before .before .before .before .before .before .pre) _ _ _ (sym (frame-of (c .before .before .before .before .before .before .before .before .before .before .before .before .before .before .before .before .before .before .before .before .before .before .before .args .t2) (c .before .before .before .before .before .before .before .before .before .before .before .before .before .before .before .before .before .before .before .before .before .before .before .args .f))) (c .before .before .before .before .before .before .before .before .clean-block .ensures .directory-is) (c .before .before .before .before .before .before .before .before .clean-block .kept .1 .1 .1 .1 .1 .0 ∙ c .before .before .before .before .before .before .before .before .before .before .before .before .before .before .before .before .before .before .before .before .before .before .before .pre .ready .fits .bspace-length)
+join-requires c κs = cleaned-joins _ _ _ _ _ _ _ _ _ (c .before .before .before .before .before .before .before .before .before .before .before .before .before .before .before .before .before .before .before .before .before .before .before .before .before .before .before .before .before .before .before .pre) _ _ (c .before .before .before .before .before .before .before .before .before .before .before .before .clean-block .ensures .directory-is) (c .before .before .before .before .before .before .before .before .before .before .before .before .clean-block .kept .1 .1 .1 .1 .1 .1 .1 .1 .0 ∙ c .before .before .before .before .before .before .before .before .before .before .before .before .before .before .before .before .before .before .before .before .before .before .before .before .before .before .before .before .before .before .before .pre .ready .fits .bspace-length)
 
 same-length : tie.Need-same-length
 same-length c = search needs
@@ -43,16 +42,16 @@ same-length-4 : tie.Need-same-length-4
 same-length-4 c = search needs
 
 returns-2 : tie.Need-returns-2
-returns-2 c = way-7 _ _ _ _ _ _ _ _ _ (c .before .before .before .before .before .before .before .before .before .before .before .before .before .before .before .before .before .before .before .before .before .before .before .before .before .before .before .before .pre) _ _ _ _ _ _ _ _ _ _ (sym (frame-of (c .before .before .before .before .before .before .before .before .before .before .before .before .before .before .before .before .before .before .before .before .before .before .before .before .before .before .before .before .args .t2) (c .before .before .before .before .before .before .before .before .before .before .before .before .before .before .before .before .before .before .before .before .before .before .before .before .before .before .before .before .args .f))) (c .before .before .before .before .before .before .before .before .before .before .before .before .before .before .before .before .before .before .if1 .left) (c .before .before .before .before .before .before .before .before .before .before .before .before .before .clean-block .ensures) (c .before .before .before .before .join .ensures)
+returns-2 c = way-7 _ _ _ _ _ _ _ _ _ (c .before .before .before .before .before .before .before .before .before .before .before .before .before .before .before .before .before .before .before .before .before .before .before .before .before .before .before .before .before .before .before .before .before .before .before .before .pre) _ _ _ _ _ _ _ _ _ (c .before .before .before .before .before .before .before .before .before .before .before .before .before .before .before .before .before .before .before .before .before .before .before .before .before .before .if1 .left) (c .before .before .before .before .before .before .before .before .before .before .before .before .before .before .before .before .before .clean-block .ensures) (c .before .before .before .before .join .ensures)
 
 pub evict-spec : {M : Type 1} → statement M
 evict-spec =
     tie.close
     (tie.spec
-    mul-b
-    element-copy-out-b
-    cast-i
     mul-if1
+    element-copy-out-if1
+    cast-i
+    mul-if1-2
     slice-read-if1
     returns
     clean-block-requires

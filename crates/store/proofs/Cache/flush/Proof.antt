@@ -1,0 +1,53 @@
+use borrow.Author.Needs.{needs}
+use mathlib.Core.Path.{_≡_, sym, ap, _∙_}
+use Rattle.model.specs.Soundness.{sound}
+use Rattle.cache.specs.View.{sizesOf, directoryOf, numbers}
+use Rattle.cache.proofs.View.{lists-of}
+use Rattle.store.proofs.Carrying.{on-lists}
+use Rattle.store.proofs.Cache.flush.Statement.{statement}
+use Rattle.store.proofs.Cache.flush.Tie as tie
+
+sound-requires : tie.Need-sound-requires
+sound-requires c κs = search needs
+
+page-numbers-requires : tie.Need-page-numbers-requires
+page-numbers-requires c κs = search needs
+
+block-numbers-requires : tie.Need-block-numbers-requires
+block-numbers-requires c κs = search needs
+
+-- the lists are the directory's
+lists : (c : tie.After-block-numbers) → let d = c .before .before .before .before .before .before .before .before .before .args .self .directory in numbers (c .before .page-numbers .result) (c .block-numbers .result) (d .valid) (d .recency) ≡ directoryOf d
+lists c = lists-of (c .before .before .before .before .before .before .before .before .before .args .self .directory) _ _ (c .before .page-numbers .ensures) (c .block-numbers .ensures)
+
+attempt-flush-requires : tie.Need-attempt-flush-requires
+attempt-flush-requires c κs = let b = c .before .before .before .before .before .before .before .before .before in b .before .before .sound .ensures ∙ ap (sound (sizesOf (c .before .before .before .before .before .before .before .before .before .before .before .before .before .before .before .before .before .before .args .self .sizes))) (sym (lists b))
+
+of-requires : tie.Need-of-requires
+of-requires c κs = search needs
+
+same-length : tie.Need-same-length
+same-length c = search needs
+
+same-length-2 : tie.Need-same-length-2
+same-length-2 c = search needs
+
+same-length-3 : tie.Need-same-length-3
+same-length-3 c = search needs
+
+returns : tie.Need-returns
+returns c = on-lists _ _ _ _ _ _ _ _ _ _ (lists (c .before .before .before .before .before .before .before .before .before .before .before .before .before .before .before .before .before)) (c .of .ensures) (c .before .before .before .before .before .before .before .attempt-flush .ensures)
+
+pub flush-spec : {M : Type 1} → statement M
+flush-spec =
+    tie.close
+    (tie.spec
+    sound-requires
+    page-numbers-requires
+    block-numbers-requires
+    attempt-flush-requires
+    of-requires
+    same-length
+    same-length-2
+    same-length-3
+    returns)

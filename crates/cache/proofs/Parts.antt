@@ -1,18 +1,19 @@
 -- What a turn of the soundness test's loops adds.
 use mathlib.Core.Path.{_≡_, refl, sym, ap, _∙_}
-use mathlib.Core.Logic.{inl, inr}
-use mathlib.Core.Bool.{Bool, true, false, not, _&&_, _||_, and-assoc}
+use mathlib.Core.Logic.{_≢_, inl, inr}
+use mathlib.Core.Bool.{Bool, true, false, not, _&&_, _||_, and-assoc, and-true}
 use mathlib.Core.List.{List}
 use Prim.Native.Nat.{ℕ, _+_, _*_, _/_, _%_, _<_}
 use native.Mathlib.Nat.{div-add-mod', mod-lt, div-lt-iff-lt-mul}
 use native.Mathlib.Omega.{arith}
 use lib.Dec.{ltb, eqb}
-use lib.ListN.{length}
+use lib.ListN.{length, getD}
 use borrow.Author.Tests.{ltb-true, ltb-false, eqb-true, eqb-false, lt-ltb, eq-eqb, ne-eqb}
-use Rattle.prelude.specs.Bits.{bit}
+use Rattle.prelude.specs.Bits.{bit, withBit}
 use Rattle.prelude.specs.Scan.{all}
 use Rattle.prelude.proofs.Tests.{by-test, clash, and-l, and-r, and-i, or-l, or-r, not-i}
-use Rattle.prelude.proofs.Scan.{all-at, all-of, all-more, all-or}
+use Rattle.prelude.proofs.Scan.{all-at, all-of, all-none, all-more, all-or}
+use Rattle.prelude.proofs.Bits.{bit-with-same, bit-with-other}
 use Rattle.model.specs.Sizes.{Sizes, InLimits, vacant}
 use Rattle.model.specs.Directory.{Directory, slotAt, frameAt, validAt, inFrame}
 use Rattle.model.specs.Soundness.{slotOk, slotsDiffer, cachedOnce}
@@ -24,6 +25,46 @@ use Rattle.cache.proofs.Marks.{laid-keeps, laid-has}
 spread : (a t u v : Bool) → (a || ((t && u) && v)) ≡ ((a || t) && ((a || u) && (a || v)))
 spread true t u v = refl
 spread false t u v = and-assoc t u v
+
+-- ---- blocks that differ
+
+module _ (l : List ℕ) where
+  -- frame g differs from each before it
+  abbrev pub apart : ℕ → Bool
+  apart g = all g (λ e. eqb (getD l g 0) vacant || not (eqb (getD l e 0) (getD l g 0)))
+
+  -- the frames below f are compared, with ok as the answer, and met has the remainders of their blocks
+  pub record Compared (f met : ℕ) (ok : Bool) : Type 0 where
+    pub marked : (e : ℕ) → e < f → getD l e 0 ≢ vacant → bit met (getD l e 0 % 64) ≡ true
+    pub answer : ok ≡ all f apart
+
+  pub compared-none : Compared 0 0 true
+  compared-none = record { marked = λ e k q. absurd (omega arith); answer = sym (all-none apart) }
+
+  module _ (f met : ℕ) (ok : Bool) (h : Compared f met ok) where
+    pub compared-vacant : vacant ≡ getD l f 0 → Compared (f + 1) met ok
+    compared-vacant v = record {
+      marked = λ e k q. h .marked e (by-test (eqb e f) (λ t. let n = eqb-true e f t in absurd (q (ap (λ (x : ℕ). getD l x 0) n ∙ sym v))) (λ t. let n = eqb-false e f t in omega arith)) q;
+      answer = let alone : apart f ≡ true = all-of f _ (λ e k. or-l _ (eq-eqb (getD l f 0) vacant (sym v))) in all-more apart f (h .answer) (sym (ap (λ (x : Bool). ok && x) alone ∙ and-true ok));
+    }
+
+    marked-more : (e : ℕ) → e < f + 1 → getD l e 0 ≢ vacant → bit (withBit met (getD l f 0 % 64)) (getD l e 0 % 64) ≡ true
+    marked-more e k q = by-test (eqb (getD l f 0 % 64) (getD l e 0 % 64))
+        (λ t. rw (← (eqb-true (getD l f 0 % 64) (getD l e 0 % 64) t)) (bit-with-same met (getD l f 0 % 64)))
+        (λ t. let ne = eqb-false (getD l f 0 % 64) (getD l e 0 % 64) t in bit-with-other met (getD l f 0 % 64) (getD l e 0 % 64) ne
+        ∙ h .marked e (by-test (eqb e f) (λ u. absurd (ne (ap (λ (x : ℕ). getD l x 0 % 64) (sym (eqb-true e f u))))) (λ u. let n = eqb-false e f u in omega arith)) q)
+
+    module _ (page : getD l f 0 ≢ vacant) where
+      differs : (t : Bool) → t ≡ all f (λ e. not (eqb (getD l e 0) (getD l f 0))) → t ≡ apart f
+      differs t e = e ∙ all-or f false _ ∙ ap (λ (a : Bool). all f (λ e. a || not (eqb (getD l e 0) (getD l f 0)))) (sym (ne-eqb (getD l f 0) vacant page))
+
+      pub compared-with : (t : Bool) → t ≡ all f (λ e. not (eqb (getD l e 0) (getD l f 0))) → Compared (f + 1) (withBit met (getD l f 0 % 64)) (ok && t)
+      compared-with t e = record { marked = marked-more; answer = all-more apart f (h .answer) (ap (λ (x : Bool). ok && x) (differs t e)) }
+
+      -- its remainder is met for the first time
+      pub compared-new : bit met (getD l f 0 % 64) ≡ false → Compared (f + 1) (withBit met (getD l f 0 % 64)) ok
+      compared-new clear = rw (← (and-true ok)) (compared-with true (sym (all-of f _ (λ e k. not-i (ne-eqb (getD l e 0) (getD l f 0)
+          (λ q. clash (sym (ap (λ (x : ℕ). bit met (x % 64)) q) ∙ h .marked e k (λ v. page (sym q ∙ v))) clear))))))
 
 module _ (sz : Sizes) (d : Directory) where
   -- ---- frames

@@ -75,16 +75,23 @@ fn frames_ok(sizes: Sizes, frames: &[u32; 8], valid: &[u64; 8], seen: &mut [u64;
     ok
 }
 
-// No block stands in two frames.
+// No block stands in two frames. Frames whose blocks have different remainders by 64 are not compared.
 fn frames_apart(sizes: Sizes, frames: &[u32; 8]) -> bool
     requires { ⌜ InLimits (sizesOf sizes) ⌝ }
     ensures { λ r. ⌜ r ≡ allPairs (sizesOf sizes .B) (framesDiffer (sizesOf sizes) (numbers [] (now (frames .entry)) [] [])) ⌝ }
 {
     let b = sizes.frames as usize;
+    let mut met = 0u64;
     let mut ok = true;
     let mut f = 0;
     while f < b {
-        ok = ok & ((frames[f] == VACANT) | new_at(frames, f));
+        let x = frames[f];
+        if x != VACANT {
+            if bitmap::has(met, x % 64) {
+                ok = ok & new_at(frames, f);
+            }
+            met = bitmap::with(met, x % 64);
+        }
         f += 1;
     }
     ok

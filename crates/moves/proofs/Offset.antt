@@ -4,7 +4,7 @@ use mathlib.Core.Bool.{Bool, true, false, _&&_, _||_}
 use Prim.Native.Nat.{ℕ, _+_, _-_, _*_, _/_, _%_, _^_, _≤_, _<_}
 use native.Mathlib.Omega.{arith}
 use lib.Dec.{ltb, eqb}
-use borrow.Author.Tests.{eqb-true, eqb-false, lt-ltb, le-ltb, eq-eqb, ne-eqb}
+use borrow.Author.Tests.{ltb-true, ltb-false, eqb-true, eqb-false, lt-ltb, le-ltb, eq-eqb, ne-eqb}
 use Rattle.prelude.specs.Scan.{first}
 use Rattle.prelude.specs.Bits.{bit, mask, withBit}
 use Rattle.prelude.proofs.Tests.{by-test, clash, and-r, or-r, or-false}
@@ -35,6 +35,14 @@ module _ (k b n : ℕ) (k-pos : 0 < k) where
   pub offset-inside : b * k + k ≤ vacant → b * k ≤ n → n - b * k < k → n - b * k ≡ offsetIn k b n
   unfolding offsetIn
   offset-inside v l h = let r = in-range k b n l (omega arith) in rw (lt-ltb n vacant (omega arith), eq-eqb (n / k) b (r .0)) (sym (r .1))
+
+  -- the difference from the block's first page, which wraps
+  module _ (o : ℕ) (v : b * k + k ≤ vacant) (e : (o + b * k) % 2 ^ 32 ≡ n) where
+    pub offset-wrapped : o < k → o ≡ offsetIn k b n
+    offset-wrapped h = let i : o ≡ n - b * k = omega arith in i ∙ offset-inside v (omega arith) (omega arith)
+
+    pub offset-past : o < 2 ^ 32 → k ≤ o → k ≡ offsetIn k b n
+    offset-past l h = by-test (ltb n (b * k)) (λ t. offset-before (ltb-true n (b * k) t)) (λ t. let q = ltb-false n (b * k) t in offset-after (omega arith))
 
 -- ---- the page in slot i
 

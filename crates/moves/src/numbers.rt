@@ -54,15 +54,13 @@ fn wide(x: u8) -> usize
     x as usize
 }
 
-// The offset of page n in block b, k where n is no page of it. The pages of b are the k from its first on: no division.
+// The offset of page n in block b, k where n is no page of it. The pages of b are the k from its first on, and a number before
+// that wraps to one past them: no division, and one comparison.
 pub(crate) fn offset_in(n: PageNo, b: BlockNo, k: u32) -> u32
     requires { ⌜ (0 < k) × (b .0 * k + k ≤ vacant) ⌝ }
     ensures { λ r. ⌜ r ≡ offsetIn k (b .0) (n .0) ⌝ }
 {
     let first = address::page_of(b, 0, k);
-    if n.0 < first.0 {
-        return k;
-    }
-    let o = n.0 - first.0;
+    let o = std::num::wrapping_sub_u32(n.0, first.0);
     if o < k { o } else { k }
 }

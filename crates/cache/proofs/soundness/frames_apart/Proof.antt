@@ -1,37 +1,43 @@
 use borrow.Author.Needs.{needs}
 use native.Mathlib.Omega.{arith}
-use mathlib.Core.Path.{_≡_, sym}
-use mathlib.Core.Bool.{not, _||_}
+use mathlib.Core.Path.{_≡_, sym, _∙_}
+use mathlib.Core.Logic.{inl, inr}
 use Prim.Native.Nat.{_-_, _≤_}
-use lib.Dec.{eqb}
 use lib.ListN.{getD}
-use Rattle.prelude.specs.Scan.{all, allPairs}
-use Rattle.prelude.proofs.Scan.{all-none, all-more, all-end, all-or}
+use Rattle.prelude.specs.Scan.{allPairs}
+use Rattle.prelude.proofs.Scan.{all-end}
 use Rattle.model.specs.Sizes.{vacant}
 use Rattle.model.specs.Soundness.{framesDiffer}
+use Rattle.cache.proofs.Parts.{Compared, compared-none, compared-vacant, compared-with, compared-new}
 use Rattle.cache.proofs.soundness.frames_apart.Statement.{statement}
 use Rattle.cache.proofs.soundness.frames_apart.Tie as tie
 
 abbrev Inv-loop : tie.InvT-loop
-Inv-loop frames b ok₀ f₀ ok f = (f ≤ b) × (ok ≡ all f (λ g. all g (λ e. eqb (getD frames g 0) vacant || not (eqb (getD frames e 0) (getD frames g 0)))))
+Inv-loop frames b met₀ ok₀ f₀ met ok f = (f ≤ b) × Compared frames f met ok
 
 abbrev μ-loop : tie.MeasureT-loop
-μ-loop frames b ok₀ f₀ ok f = b - f
+μ-loop frames b met₀ ok₀ f₀ met ok f = b - f
 
 cast-b : tie.Need-cast-b Inv-loop μ-loop
 cast-b c = search needs
 
 loop-holds : tie.Need-loop-holds Inv-loop μ-loop
-loop-holds c = (omega arith, sym (all-none _))
+loop-holds c = (omega arith, compared-none _)
 
-mul-ok : tie.Need-mul-ok Inv-loop μ-loop
-mul-ok c = search needs
+mul-x : tie.Need-mul-x Inv-loop μ-loop
+mul-x c = search needs
 
-element-copy-out-ok : tie.Need-element-copy-out-ok Inv-loop μ-loop
-element-copy-out-ok c = search needs
+element-copy-out-x : tie.Need-element-copy-out-x Inv-loop μ-loop
+element-copy-out-x c = search needs
+
+has-requires : tie.Need-has-requires Inv-loop μ-loop
+has-requires c κs = search needs
 
 new-at-requires : tie.Need-new-at-requires Inv-loop μ-loop
 new-at-requires c κs = search needs
+
+with-requires : tie.Need-with-requires Inv-loop μ-loop
+with-requires c κs = search needs
 
 add-f : tie.Need-add-f Inv-loop μ-loop
 add-f c = search needs
@@ -40,11 +46,19 @@ loop-less : tie.Need-loop-less Inv-loop μ-loop
 loop-less c = search needs
 
 loop-again : tie.Need-loop-again Inv-loop μ-loop
-loop-again c = (omega arith, all-more _ (c .before .before .before .before .loop .f) (c .before .before .before .before .loop .inv .1) (rw (c .new-at .ensures, all-or)))
+loop-again c =
+    let l = c .before .before .before .loop in let a = c .before .before .before .before .before .args in
+    elim (c .if1 .came) [
+      | inl w ↦ elim (w .2 .came) [
+        | inl v ↦ (omega arith, rw (w .4 ∙ w .3 .ensures, w .5 ∙ v .3) (compared-with (a .frames .now) (l .f) (l .met) (l .ok) (l .inv .1) (w .0 .taken) _ (v .2 .ensures)))
+        | inr v ↦ (omega arith, rw (w .4 ∙ w .3 .ensures, w .5 ∙ v .1) (compared-new (a .frames .now) (l .f) (l .met) (l .ok) (l .inv .1) (w .0 .taken) (sym (w .1 .ensures) ∙ v .0 .left)))
+      ]
+      | inr w ↦ (omega arith, rw (w .1, w .2) (compared-vacant (a .frames .now) (l .f) (l .met) (l .ok) (l .inv .1) (sym (w .0 .left))))
+    ]
 
 returns : tie.Need-returns Inv-loop μ-loop
 unfolding framesDiffer allPairs
-returns c = all-end _ (c .before .loop .f) _ (c .before .loop .inv .1) (omega arith)
+returns c = let l = c .before .loop in all-end _ (l .f) _ (l .inv .1 .answer) (omega arith)
 
 pub frames-apart-spec : {M : Type 1} → statement M
 frames-apart-spec =
@@ -54,9 +68,11 @@ frames-apart-spec =
     μ-loop
     cast-b
     loop-holds
-    mul-ok
-    element-copy-out-ok
+    mul-x
+    element-copy-out-x
+    has-requires
     new-at-requires
+    with-requires
     add-f
     loop-less
     loop-again

@@ -32,7 +32,7 @@ impl Directory {
 }
 
 // The same of the directory's lists.
-fn lists_sound(
+pub fn lists_sound(
     sizes: Sizes,
     slots: &[u32; 128],
     frames: &[u32; 8],

@@ -8,12 +8,13 @@ use answer::Refusal;
 use answer::Step;
 use cache::Directory;
 use cache::Sizes;
+use cache::soundness::lists_sound;
 ghost use mathlib.Core.Path.{_≡_};
 ghost use mathlib.Core.List.{[]};
 ghost use Rattle.model.specs.Policy.{leastRecent};
 ghost use Rattle.model.specs.Calls.{step, flush, call};
-ghost use Rattle.model.specs.Soundness.{sound as isSound};
-ghost use Rattle.cache.specs.View.{sizesOf, numbers};
+ghost use Rattle.model.specs.Soundness.{Shape};
+ghost use Rattle.cache.specs.View.{numbers};
 ghost use Rattle.answer.specs.Numbers.{stepOf, flushOf};
 ghost use Rattle.answer.specs.Carried.{buffers};
 ghost use Rattle.store.specs.View.{storeOf, storeWith, resultWith, stepResult, flushResult};
@@ -31,14 +32,12 @@ impl Cache {
     {
         let z = self.sizes;
         let d = self.directory;
-        let sound = d.sound(z);
         let mut slots = d.page_numbers();
         let mut frames = d.block_numbers();
         let mut valid = d.valid;
         let recency = d.recency;
         let answer = attempt_step(
             z,
-            sound,
             &mut slots,
             &mut frames,
             &mut valid,
@@ -69,14 +68,12 @@ impl Cache {
     {
         let z = self.sizes;
         let d = self.directory;
-        let sound = d.sound(z);
         let mut slots = d.page_numbers();
         let mut frames = d.block_numbers();
         let mut valid = d.valid;
         let recency = d.recency;
         let answer = attempt_flush(
             z,
-            sound,
             &mut slots,
             &mut frames,
             &mut valid,
@@ -96,10 +93,9 @@ impl Cache {
     }
 }
 
-// The other checks, and the step, on the directory's lists.
+// The checks, and the step, on the directory's lists.
 fn attempt_step(
     z: Sizes,
-    sound: bool,
     slots: &mut [u32; 128],
     frames: &mut [u32; 8],
     valid: &mut [u64; 8],
@@ -109,10 +105,10 @@ fn attempt_step(
     pspace: &[u8],
     bspace: &mut [u8],
 ) -> Step
-    requires { ⌜ sound ≡ isSound (sizesOf z) (numbers (now slots) (now frames) (now valid) (now recency)) ⌝ }
+    requires { ⌜ Shape (numbers (now slots) (now frames) (now valid) (now recency)) ⌝ }
     ensures { λ r. ⌜ resultWith (stepOf r) z (numbers (now (slots .exit)) (now (frames .exit)) (now (valid .exit)) (now (recency .entry))) (buffers (now (flash .exit)) (now (wear .exit)) (now (pspace .entry)) (now (bspace .exit))) [] ≡ call leastRecent (storeWith z (numbers (now (slots .entry)) (now (frames .entry)) (now (valid .entry)) (now (recency .entry))) (buffers (now (flash .entry)) (now (wear .entry)) (now (pspace .entry)) (now (bspace .entry)))) step ⌝ }
 {
-    if !sound {
+    if !lists_sound(z, slots, frames, valid, recency) {
         return Step::Refused(Refusal::Record);
     }
     if !lent::lengths_ok(z, flash.len(), wear.len(), pspace.len(), bspace.len()) {
@@ -131,10 +127,9 @@ fn attempt_step(
     )
 }
 
-// The other checks, and the flush, on the directory's lists.
+// The checks, and the flush, on the directory's lists.
 fn attempt_flush(
     z: Sizes,
-    sound: bool,
     slots: &mut [u32; 128],
     frames: &mut [u32; 8],
     valid: &mut [u64; 8],
@@ -144,10 +139,10 @@ fn attempt_flush(
     pspace: &[u8],
     bspace: &mut [u8],
 ) -> Flush
-    requires { ⌜ sound ≡ isSound (sizesOf z) (numbers (now slots) (now frames) (now valid) (now recency)) ⌝ }
+    requires { ⌜ Shape (numbers (now slots) (now frames) (now valid) (now recency)) ⌝ }
     ensures { λ r. ⌜ resultWith (flushOf r) z (numbers (now (slots .exit)) (now (frames .exit)) (now (valid .exit)) (now (recency .entry))) (buffers (now (flash .exit)) (now (wear .exit)) (now (pspace .entry)) (now (bspace .exit))) [] ≡ call leastRecent (storeWith z (numbers (now (slots .entry)) (now (frames .entry)) (now (valid .entry)) (now (recency .entry))) (buffers (now (flash .entry)) (now (wear .entry)) (now (pspace .entry)) (now (bspace .entry)))) flush ⌝ }
 {
-    if !sound {
+    if !lists_sound(z, slots, frames, valid, recency) {
         return Flush::Refused(Refusal::Record);
     }
     if !lent::lengths_ok(z, flash.len(), wear.len(), pspace.len(), bspace.len()) {

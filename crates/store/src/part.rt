@@ -7,13 +7,14 @@ use answer::Refusal;
 use answer::Write;
 use cache::Directory;
 use cache::Sizes;
+use cache::soundness::lists_sound;
 ghost use mathlib.Core.Path.{_≡_};
 ghost use mathlib.Core.Bool.{cond};
 ghost use mathlib.Core.List.{[]};
 ghost use Prim.Native.Nat.{_+_, _≤_};
 ghost use lib.ListN.{length};
 ghost use Rattle.model.specs.Policy.{leastRecent};
-ghost use Rattle.model.specs.Soundness.{sound as isSound};
+ghost use Rattle.model.specs.Soundness.{Shape};
 ghost use Rattle.model.specs.Calls.{isRefused, part, zeroPage, combined, call};
 ghost use Rattle.cache.specs.View.{sizesOf, numbers};
 ghost use Rattle.answer.specs.Numbers.{writeOf};
@@ -40,14 +41,12 @@ impl Cache {
     {
         let z = self.sizes;
         let d = self.directory;
-        let sound = d.sound(z);
         let mut slots = d.page_numbers();
         let mut frames = d.block_numbers();
         let mut valid = d.valid;
         let mut recency = d.recency;
         let answer = attempt(
             z,
-            sound,
             &mut slots,
             &mut frames,
             &mut valid,
@@ -71,10 +70,9 @@ impl Cache {
     }
 }
 
-// The other checks, and the write, on the directory's lists.
+// The checks, and the write, on the directory's lists.
 fn attempt(
     z: Sizes,
-    sound: bool,
     slots: &mut [u32; 128],
     frames: &mut [u32; 8],
     valid: &mut [u64; 8],
@@ -88,10 +86,10 @@ fn attempt(
     bytes: &[u8],
     page: &mut [u8],
 ) -> Write
-    requires { ⌜ sound ≡ isSound (sizesOf z) (numbers (now slots) (now frames) (now valid) (now recency)) ⌝ }
+    requires { ⌜ Shape (numbers (now slots) (now frames) (now valid) (now recency)) ⌝ }
     ensures { λ r. ⌜ resultWith (writeOf r) z (numbers (now (slots .exit)) (now (frames .exit)) (now (valid .exit)) (now (recency .exit))) (buffers (now (flash .exit)) (now (wear .exit)) (now (pspace .exit)) (now (bspace .exit))) (now (page .exit)) ≡ call leastRecent (storeWith z (numbers (now (slots .entry)) (now (frames .entry)) (now (valid .entry)) (now (recency .entry))) (buffers (now (flash .entry)) (now (wear .entry)) (now (pspace .entry)) (now (bspace .entry)))) (part (n .0) first (now (bytes .entry)) (now (page .entry))) ⌝ }
 {
-    if !sound {
+    if !lists_sound(z, slots, frames, valid, recency) {
         return Write::Refused(Refusal::Record);
     }
     if !lent::lengths_ok(z, flash.len(), wear.len(), pspace.len(), bspace.len()) {

@@ -7,11 +7,12 @@ use answer::Read;
 use answer::Refusal;
 use cache::Directory;
 use cache::Sizes;
+use cache::soundness::lists_sound;
 ghost use mathlib.Core.Path.{_≡_};
 ghost use Rattle.model.specs.Policy.{leastRecent};
 ghost use Rattle.model.specs.Calls.{read, call};
-ghost use Rattle.model.specs.Soundness.{sound as isSound};
-ghost use Rattle.cache.specs.View.{sizesOf, numbers};
+ghost use Rattle.model.specs.Soundness.{Shape};
+ghost use Rattle.cache.specs.View.{numbers};
 ghost use Rattle.answer.specs.Numbers.{readOf};
 ghost use Rattle.answer.specs.Carried.{buffers};
 ghost use Rattle.store.specs.View.{storeOf, storeWith, resultWith, readResult};
@@ -32,14 +33,12 @@ impl Cache {
     {
         let z = self.sizes;
         let d = self.directory;
-        let sound = d.sound(z);
         let slots = d.page_numbers();
         let frames = d.block_numbers();
         let valid = d.valid;
         let mut recency = d.recency;
         let answer = attempt(
             z,
-            sound,
             &slots,
             &frames,
             &valid,
@@ -68,10 +67,9 @@ impl Cache {
     }
 }
 
-// The other checks, and the read, on the directory's lists.
+// The checks, and the read, on the directory's lists.
 fn attempt(
     z: Sizes,
-    sound: bool,
     slots: &[u32; 128],
     frames: &[u32; 8],
     valid: &[u64; 8],
@@ -83,10 +81,10 @@ fn attempt(
     n: PageNo,
     page: &mut [u8],
 ) -> Read
-    requires { ⌜ sound ≡ isSound (sizesOf z) (numbers (now slots) (now frames) (now valid) (now recency)) ⌝ }
+    requires { ⌜ Shape (numbers (now slots) (now frames) (now valid) (now recency)) ⌝ }
     ensures { λ r. ⌜ resultWith (readOf r) z (numbers (now (slots .entry)) (now (frames .entry)) (now (valid .entry)) (now (recency .exit))) (buffers (now (flash .entry)) (now (wear .entry)) (now (pspace .entry)) (now (bspace .entry))) (now (page .exit)) ≡ call leastRecent (storeWith z (numbers (now (slots .entry)) (now (frames .entry)) (now (valid .entry)) (now (recency .entry))) (buffers (now (flash .entry)) (now (wear .entry)) (now (pspace .entry)) (now (bspace .entry)))) (read (n .0) (now (page .entry))) ⌝ }
 {
-    if !sound {
+    if !lists_sound(z, slots, frames, valid, recency) {
         return Read::Refused(Refusal::Record);
     }
     if !lent::lengths_ok(z, flash.len(), wear.len(), pspace.len(), bspace.len()) {

@@ -7,11 +7,12 @@ use answer::Refusal;
 use answer::Write;
 use cache::Directory;
 use cache::Sizes;
+use cache::soundness::lists_sound;
 ghost use mathlib.Core.Path.{_≡_};
 ghost use Rattle.model.specs.Policy.{leastRecent};
 ghost use Rattle.model.specs.Calls.{write, call};
-ghost use Rattle.model.specs.Soundness.{sound as isSound};
-ghost use Rattle.cache.specs.View.{sizesOf, numbers};
+ghost use Rattle.model.specs.Soundness.{Shape};
+ghost use Rattle.cache.specs.View.{numbers};
 ghost use Rattle.answer.specs.Numbers.{writeOf};
 ghost use Rattle.answer.specs.Carried.{buffers};
 ghost use Rattle.store.specs.View.{storeOf, storeWith, resultWith, writeResult};
@@ -31,14 +32,12 @@ impl Cache {
     {
         let z = self.sizes;
         let d = self.directory;
-        let sound = d.sound(z);
         let mut slots = d.page_numbers();
         let mut frames = d.block_numbers();
         let mut valid = d.valid;
         let mut recency = d.recency;
         let answer = attempt(
             z,
-            sound,
             &mut slots,
             &mut frames,
             &mut valid,
@@ -60,10 +59,9 @@ impl Cache {
     }
 }
 
-// The other checks, and the write, on the directory's lists.
+// The checks, and the write, on the directory's lists.
 fn attempt(
     z: Sizes,
-    sound: bool,
     slots: &mut [u32; 128],
     frames: &mut [u32; 8],
     valid: &mut [u64; 8],
@@ -75,10 +73,10 @@ fn attempt(
     n: PageNo,
     page: &[u8],
 ) -> Write
-    requires { ⌜ sound ≡ isSound (sizesOf z) (numbers (now slots) (now frames) (now valid) (now recency)) ⌝ }
+    requires { ⌜ Shape (numbers (now slots) (now frames) (now valid) (now recency)) ⌝ }
     ensures { λ r. ⌜ resultWith (writeOf r) z (numbers (now (slots .exit)) (now (frames .exit)) (now (valid .exit)) (now (recency .exit))) (buffers (now (flash .exit)) (now (wear .exit)) (now (pspace .exit)) (now (bspace .exit))) (now (page .entry)) ≡ call leastRecent (storeWith z (numbers (now (slots .entry)) (now (frames .entry)) (now (valid .entry)) (now (recency .entry))) (buffers (now (flash .entry)) (now (wear .entry)) (now (pspace .entry)) (now (bspace .entry)))) (write (n .0) (now (page .entry))) ⌝ }
 {
-    if !sound {
+    if !lists_sound(z, slots, frames, valid, recency) {
         return Write::Refused(Refusal::Record);
     }
     if !lent::lengths_ok(z, flash.len(), wear.len(), pspace.len(), bspace.len()) {

@@ -1,14 +1,10 @@
 use borrow.Author.Needs.{needs}
-use mathlib.Core.Path.{_≡_, sym, ap, _∙_}
-use Rattle.model.specs.Soundness.{sound}
-use Rattle.cache.specs.View.{sizesOf, directoryOf, numbers}
-use Rattle.cache.proofs.View.{lists-of}
+use mathlib.Core.Path.{_≡_}
+use Rattle.cache.specs.View.{directoryOf, numbers}
+use Rattle.cache.proofs.View.{shape-of, lists-of}
 use Rattle.store.proofs.Carrying.{on-lists}
 use Rattle.store.proofs.Cache.flush.Statement.{statement}
 use Rattle.store.proofs.Cache.flush.Tie as tie
-
-sound-requires : tie.Need-sound-requires
-sound-requires c κs = search needs
 
 page-numbers-requires : tie.Need-page-numbers-requires
 page-numbers-requires c κs = search needs
@@ -17,11 +13,11 @@ block-numbers-requires : tie.Need-block-numbers-requires
 block-numbers-requires c κs = search needs
 
 -- the lists are the directory's
-lists : (c : tie.After-block-numbers) → let d = c .before .before .before .before .before .before .before .before .before .args .self .directory in numbers (c .before .page-numbers .result) (c .block-numbers .result) (d .valid) (d .recency) ≡ directoryOf d
-lists c = lists-of (c .before .before .before .before .before .before .before .before .before .args .self .directory) _ _ (c .before .page-numbers .ensures) (c .block-numbers .ensures)
+lists : (c : tie.After-block-numbers) → let d = c .before .before .before .before .before .before .before .before .args .self .directory in numbers (c .before .page-numbers .result) (c .block-numbers .result) (d .valid) (d .recency) ≡ directoryOf d
+lists c = lists-of (c .before .before .before .before .before .before .before .before .args .self .directory) _ _ (c .before .page-numbers .ensures) (c .block-numbers .ensures)
 
 attempt-flush-requires : tie.Need-attempt-flush-requires
-attempt-flush-requires c κs = let b = c .before .before .before .before .before .before .before .before .before in b .before .before .sound .ensures ∙ ap (sound (sizesOf (c .before .before .before .before .before .before .before .before .before .before .before .before .before .before .before .before .before .before .args .self .sizes))) (sym (lists b))
+attempt-flush-requires c κs = let s = c .before .before .before .before .before .before .before .before .before .before .before .before .before .before .before .before .before in rw (lists (c .before .before .before .before .before .before .before .before .before)) (shape-of (s .args .self .directory) _ (s .good .0 .1 .1 .1 .0 .1 .1))
 
 of-requires : tie.Need-of-requires
 of-requires c κs = search needs
@@ -42,7 +38,6 @@ pub flush-spec : {M : Type 1} → statement M
 flush-spec =
     tie.close
     (tie.spec
-    sound-requires
     page-numbers-requires
     block-numbers-requires
     attempt-flush-requires

@@ -1,5 +1,6 @@
-// Times the proved soundness test, linked from the static library of the crate bench_sound, beside a plain Rust test that takes the
-// record by value or by reference. Both use a filter of 4,096 bits. First all three must agree on sound and on spoilt records.
+// Times the proved soundness test, linked from the static library of the crate bench_sound, beside a plain Rust test. The proved one
+// takes the record by value or is lent its lists, as in the store's calls; the other takes it by value or by reference. Both use a filter
+// of 4,096 bits. First all must agree on sound and on spoilt records.
 #[allow(dead_code)]
 #[path = "store/src/random.rs"]
 mod random;
@@ -16,10 +17,16 @@ use std::time::Instant;
 
 extern "C" {
     fn record_sound(r: Cache) -> bool;
+    fn lists_sound(sizes: Sizes, slots: &[u32; 128], frames: &[u32; 8], valid: &[u64; 8], recency: &[u8; 8]) -> bool;
 }
 
 fn proved(r: Cache) -> bool {
     unsafe { record_sound(r) }
+}
+
+fn lent(r: &Cache) -> bool {
+    let d = &r.directory;
+    unsafe { lists_sound(r.sizes, &d.slots, &d.frames, &d.valid, &d.recency) }
 }
 
 #[inline(never)]
@@ -88,13 +95,14 @@ fn agree(random: &mut Random) {
         for _ in 0..500 {
             let next = spoilt(random, r);
             let answer = proved(next);
+            assert_eq!(answer, lent(&next));
             assert_eq!(answer, by_value(next));
             assert_eq!(answer, by_reference(&next));
             all += 1;
             unsound += !answer as u32;
         }
     }
-    println!("{all} records, {unsound} of them unsound: all three tests agree");
+    println!("{all} records, {unsound} of them unsound: all four tests agree");
 }
 
 // The time of one call in nanoseconds.
@@ -111,15 +119,16 @@ fn batch(records: &[Cache], mut test: impl FnMut(&Cache) -> bool) -> f64 {
 fn measure(random: &mut Random, pages_per_block: u32, blocks: u32, slots: u32, frames: u32) {
     let sizes = black_box(Sizes { page_size: 2048, pages_per_block, blocks, slots, frames, wear_limit: 1000 });
     let records: Vec<Cache> = (0..16).map(|_| filled(random, sizes)).collect();
-    let mut best = [f64::MAX; 3];
+    let mut best = [f64::MAX; 4];
     for _ in 0..1000 {
         best[0] = best[0].min(batch(&records, |r| proved(*r)));
         best[1] = best[1].min(batch(&records, |r| by_value(*r)));
-        best[2] = best[2].min(batch(&records, by_reference));
+        best[2] = best[2].min(batch(&records, lent));
+        best[3] = best[3].min(batch(&records, by_reference));
     }
     println!(
-        "K={pages_per_block} N={blocks} P={slots} B={frames}: proved {:.0} ns, Rust by value {:.0} ns, by reference {:.0} ns; proved to by value {:.2}, to by reference {:.2}",
-        best[0], best[1], best[2], best[0] / best[1], best[0] / best[2]
+        "K={pages_per_block} N={blocks} P={slots} B={frames}: by value {:.0} ns, Rust {:.0} ns, ratio {:.2}; lent {:.0} ns, Rust by reference {:.0} ns, ratio {:.2}",
+        best[0], best[1], best[0] / best[1], best[2], best[3], best[2] / best[3]
     );
 }
 

@@ -2,8 +2,8 @@
 use cache::Directory;
 use cache::Sizes;
 ghost use mathlib.Core.Path.{_≡_};
-ghost use Rattle.model.specs.Soundness.{sound};
-ghost use Rattle.cache.specs.View.{sizesOf, directoryOf};
+ghost use Rattle.model.specs.Soundness.{sound, Shape};
+ghost use Rattle.cache.specs.View.{sizesOf, directoryOf, numbers};
 
 // The numbers of a cache record.
 #[repr(C)]
@@ -20,4 +20,19 @@ pub extern "C" fn record_sound(r: Record) -> bool
     let sizes = r.sizes;
     let directory = r.directory;
     directory.sound(sizes)
+}
+
+// The same of the directory's lists, as the store's calls have it tested. Each list has as many entries as its type says.
+#[no_mangle]
+pub extern "C" fn lists_sound(
+    sizes: Sizes,
+    slots: &[u32; 128],
+    frames: &[u32; 8],
+    valid: &[u64; 8],
+    recency: &[u8; 8],
+) -> bool
+    requires { ⌜ Shape (numbers (now slots) (now frames) (now valid) (now recency)) ⌝ }
+    ensures { λ s. ⌜ s ≡ sound (sizesOf sizes) (numbers (now (slots .entry)) (now (frames .entry)) (now (valid .entry)) (now (recency .entry))) ⌝ }
+{
+    cache::soundness::lists_sound(sizes, slots, frames, valid, recency)
 }

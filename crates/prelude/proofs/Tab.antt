@@ -1,7 +1,7 @@
--- Laws of lists built by a rule or mapped, and of loops that settle a list entry by entry.
+-- Laws of lists built by a rule, and of loops that settle a list entry by entry.
 use mathlib.Core.Path.{_≡_, refl, sym, ap, _∙_}
 use mathlib.Core.Bool.{cond}
-use mathlib.Core.List.{List, [], _∷_, map}
+use mathlib.Core.List.{List}
 use Prim.Native.Nat.{ℕ, zero, suc, _+_, _≤_, _<_}
 use native.Mathlib.Nat.{not-suc-le-zero, add-zero, zero-add}
 use native.Mathlib.Omega.{arith}
@@ -84,11 +84,3 @@ module _ {A : Type 0} (d : A) (n : ℕ) (new : ℕ → A) (old : List A) where
 
   pub done-all : (o : ℕ) (l : List A) → Done d n new old o l → n ≤ o → l ≡ tab n new
   done-all o l h a = done-rest o l h (λ j p q. absurd (omega arith))
-
--- ---- maps
-
-module _ {A B : Type 0} (f : A → B) where
-  pub map-set : (l : List A) (i : ℕ) (x : A) → map f (set l i x) ≡ set (map f l) i (f x)
-  map-set [] i x = refl
-  map-set (y ∷ l) zero x = refl
-  map-set (y ∷ l) (suc i) x = ap (λ (t : List B). f y ∷ t) (map-set l i x)

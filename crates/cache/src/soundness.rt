@@ -172,7 +172,7 @@ fn slots_ok(
 }
 
 // The first slot from i on, below P, whose number is out of range or may be in the filter; P where there is none. The
-// numbers passed go into the filter.
+// numbers passed go into the filter; one that changes no word of it may be there already.
 fn first_met(sizes: Sizes, slots: &[u32; 128], seen: &mut [u64; 64], i: usize) -> usize
     requires { ⌜ InLimits (sizesOf sizes) × (i ≤ sizesOf sizes .P) × (length (now seen) ≡ 64) ⌝ }
     ensures { λ r. ⌜ FirstMet (sizesOf sizes .N * sizesOf sizes .K) (sizesOf sizes .P) (now (slots .entry)) i (now (seen .entry)) (now (seen .exit)) r ⌝ }
@@ -185,10 +185,11 @@ fn first_met(sizes: Sizes, slots: &[u32; 128], seen: &mut [u64; 64], i: usize) -
         if y < end {
             let w = (y % 4096 / 64) as usize;
             let v = seen[w];
-            if bitmap::has(v, y % 64) {
+            let next = bitmap::with(v, y % 64);
+            if next == v {
                 return j;
             }
-            seen[w] = bitmap::with(v, y % 64);
+            seen[w] = next;
         } else if y != VACANT {
             return j;
         }

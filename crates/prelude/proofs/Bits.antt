@@ -167,6 +167,13 @@ module _ (v i : ℕ) where
   pub bit-with-same : bit (withBit v i) i ≡ true
   bit-with-same = ap (λ (x : ℕ). bit x i) (sym or-with) ∙ bit-or v (2 ^ i) i ∙ or-r (bit v i) (bit-one i)
 
+  -- i is in the set exactly where putting it in changes nothing
+  pub with-met : withBit v i ≡ v → bit v i ≡ true
+  with-met h = rw (← h) bit-with-same
+
+  pub with-unmet : withBit v i ≢ v → bit v i ≡ false
+  with-unmet h = by-test (bit v i) (λ t. absurd (h (with-again t))) (λ t. t)
+
   pub bit-with-other : (j : ℕ) → i ≢ j → bit (withBit v i) j ≡ bit v j
   bit-with-other j ne = ap (λ (x : ℕ). bit x j) (sym or-with) ∙ bit-or v (2 ^ i) j ∙ rw (bit-one-other i j ne) (or-false (bit v j))
 

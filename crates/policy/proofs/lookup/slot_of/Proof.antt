@@ -1,17 +1,18 @@
 use borrow.Author.Needs.{needs}
 use native.Mathlib.Omega.{arith}
-use Prim.Native.Nat.{_-_, _≤_}
+use Prim.Native.Nat.{_-_}
 use lib.Dec.{eqb}
 use lib.ListN.{getD}
-use borrow.Author.Count.{below-none, below-more}
+use borrow.Author.Count.{below-more}
 use borrow.Author.Tests.{eq-eqb, ne-eqb}
-use Rattle.prelude.proofs.Scan.{Missed, first-is}
+use Rattle.prelude.proofs.Tests.{not-t}
+use Rattle.prelude.proofs.Scan.{Missed, all-at, first-is}
 use Rattle.model.specs.Policy.{slotOf}
 use Rattle.policy.proofs.lookup.slot_of.Statement.{statement}
 use Rattle.policy.proofs.lookup.slot_of.Tie as tie
 
 abbrev Inv-loop : tie.InvT-loop
-Inv-loop slots n end i₀ i = (i ≤ end) × Missed (λ j. eqb (getD slots j 0) (n .0)) i
+Inv-loop slots n end i₀ i = Missed (λ j. eqb (getD slots j 0) (n .0)) i
 
 abbrev μ-loop : tie.MeasureT-loop
 μ-loop slots n end i₀ i = end - i
@@ -19,8 +20,11 @@ abbrev μ-loop : tie.MeasureT-loop
 cast-end : tie.Need-cast-end Inv-loop μ-loop
 cast-end c = search needs
 
+passed-requires : tie.Need-passed-requires Inv-loop μ-loop
+passed-requires c κs = search needs
+
 loop-holds : tie.Need-loop-holds Inv-loop μ-loop
-loop-holds c = (omega arith, below-none _)
+loop-holds c j l = not-t (all-at _ _ (c .passed .ensures) j l)
 
 mul-if1 : tie.Need-mul-if1 Inv-loop μ-loop
 mul-if1 c = search needs
@@ -30,7 +34,7 @@ element-copy-out-if1 c = search needs
 
 returns : tie.Need-returns Inv-loop μ-loop
 unfolding slotOf
-returns c = let l = c .before .before .before .before .loop in first-is _ _ (l .i) (l .inv .0) (l .inv .1) (λ k. eq-eqb _ _ (c .if1 .taken))
+returns c = let l = c .before .before .before .before .loop in first-is _ _ (l .i) (omega arith) (l .inv) (λ k. eq-eqb _ _ (c .if1 .taken))
 
 add-i : tie.Need-add-i Inv-loop μ-loop
 add-i c = search needs
@@ -39,11 +43,11 @@ loop-less : tie.Need-loop-less Inv-loop μ-loop
 loop-less c = search needs
 
 loop-again : tie.Need-loop-again Inv-loop μ-loop
-loop-again c = let l = c .before .before .before .before .loop in (omega arith, below-more _ (l .i) (l .inv .1) (ne-eqb _ _ (c .if1 .left)))
+loop-again c = let l = c .before .before .before .before .loop in below-more _ (l .i) (l .inv) (ne-eqb _ _ (c .if1 .left))
 
 returns-2 : tie.Need-returns-2 Inv-loop μ-loop
 unfolding slotOf
-returns-2 c = let l = c .before .loop in first-is _ _ (l .i) (l .inv .0) (l .inv .1) (λ k. absurd (omega arith))
+returns-2 c = let l = c .before .loop in first-is _ _ _ (omega arith) (λ j b. l .inv j (omega arith)) (λ k. absurd (omega arith))
 
 pub slot-of-spec : {M : Type 1} → statement M
 slot-of-spec =
@@ -52,6 +56,7 @@ slot-of-spec =
     Inv-loop
     μ-loop
     cast-end
+    passed-requires
     loop-holds
     mul-if1
     element-copy-out-if1

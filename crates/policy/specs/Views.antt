@@ -14,7 +14,9 @@ use Rattle.model.specs.Policy.{frameOf, validCount, slotCount, leastRecent, vic
 use Rattle.cache.specs.View.{blockNo, numbers}
 use Rattle.policy.specs.declared.decision.Victim.{Victim}
 use Rattle.policy.specs.declared.decision.Plan.{Plan}
-use Rattle.policy.specs.declared.decision.Plan.the-variants.{SlotHit, FrameHit, FreeSlot, Join, Fill, Exchange, Evict}
+use Rattle.policy.specs.declared.decision.Plan.the-variants.{SlotHit, FrameHit, FreeSlot, MakeRoom}
+use Rattle.policy.specs.declared.decision.Room.{Room}
+use Rattle.policy.specs.declared.decision.Room.the-variants.{Join, Fill, Exchange, Evict}
 use Rattle.policy.specs.declared.decision.Due.{Due}
 use Rattle.policy.specs.declared.decision.Due.the-variants.{Clean, Block}
 
@@ -22,15 +24,19 @@ use Rattle.policy.specs.declared.decision.Due.the-variants.{Clean, Block
 unfoldable pub victimOf : Sizes → Directory → Victim
 victimOf sz d = record { block = blockNo (victim sz d); pages = slotCount sz d (victim sz d) }
 
--- the plan of a write, by its ways
+-- the plan of a write, by its ways: 4 to 7
+abbrev pub roomOf : Room → model.Plan
+roomOf (Join v f) = join (v .0) f
+roomOf (Fill v f) = fill (v .0) f
+roomOf (Exchange v f) = exchange (v .0) f
+roomOf (Evict v f) = evict (v .0) f
+
+-- and all of them
 abbrev pub planOf : Plan → model.Plan
 planOf (SlotHit i) = slotHit i
 planOf (FrameHit f) = frameHit f
 planOf (FreeSlot i) = freeSlot i
-planOf (Join v f) = join (v .0) f
-planOf (Fill v f) = fill (v .0) f
-planOf (Exchange v f) = exchange (v .0) f
-planOf (Evict v f) = evict (v .0) f
+planOf (MakeRoom r) = roomOf r
 
 -- what a flush step is due to do
 abbrev pub dueView : Due → model.Due

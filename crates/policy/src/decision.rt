@@ -8,8 +8,7 @@ pub struct Victim {
     pub pages: u32,
 }
 
-// What a write does, by document 01's ways: the slot or frame of the page, the free slot, or the victim and the frame that
-// takes it.
+// What a write does, by document 01's ways.
 pub enum Plan {
     // Way 1: the page is in this slot.
     SlotHit(usize),
@@ -17,7 +16,13 @@ pub enum Plan {
     FrameHit(usize),
     // Way 3: this slot is the first vacant one.
     FreeSlot(usize),
-    // Way 4: the victim's pages join the frame, which is the victim's.
+    // Ways 4 to 7: no slot is vacant.
+    MakeRoom(Room),
+}
+
+// How a write makes room in the slots: the victim, and the frame that takes its pages.
+pub enum Room {
+    // Way 4: they join the frame, which is the victim's.
     Join(BlockNo, usize),
     // Way 5: they fill the frame, which is vacant.
     Fill(BlockNo, usize),

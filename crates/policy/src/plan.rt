@@ -1,5 +1,6 @@
 // What a write does.
 use crate::decision::Plan;
+use crate::decision::Room;
 use crate::lookup;
 use crate::victim;
 use address::BlockNo;
@@ -9,7 +10,7 @@ use cache::VACANT;
 ghost use mathlib.Core.Path.{_≡_};
 ghost use Rattle.model.specs.Policy.{leastRecent, victim, evictionPlan, plan};
 ghost use Rattle.cache.specs.View.{sizesOf, numbers};
-ghost use Rattle.policy.specs.Views.{planOf, WithWear};
+ghost use Rattle.policy.specs.Views.{planOf, roomOf, WithWear};
 
 // The plan of a write of page n. The wear is for the choice of way 7.
 pub fn plan(
@@ -36,7 +37,7 @@ pub fn plan(
     if free < z.slots as usize {
         return Plan::FreeSlot(free);
     }
-    eviction_plan(z, slots, frames, valid, recency, wear)
+    Plan::MakeRoom(eviction_plan(z, slots, frames, valid, recency, wear))
 }
 
 // Ways 4 to 7, for the victim.
@@ -47,25 +48,25 @@ pub fn eviction_plan(
     valid: &[u64; 8],
     recency: &[u8; 8],
     wear: &[u32],
-) -> Plan
+) -> Room
     requires { ⌜ WithWear (sizesOf z) (numbers (now slots) (now frames) (now valid) (now recency)) (now wear) ⌝ }
-    ensures { λ r. ⌜ planOf r ≡ evictionPlan leastRecent (sizesOf z) (numbers (now (slots .entry)) (now (frames .entry)) (now (valid .entry)) (now (recency .entry))) (now (wear .entry)) (victim (sizesOf z) (numbers (now (slots .entry)) (now (frames .entry)) (now (valid .entry)) (now (recency .entry)))) ⌝ }
+    ensures { λ r. ⌜ roomOf r ≡ evictionPlan leastRecent (sizesOf z) (numbers (now (slots .entry)) (now (frames .entry)) (now (valid .entry)) (now (recency .entry))) (now (wear .entry)) (victim (sizesOf z) (numbers (now (slots .entry)) (now (frames .entry)) (now (valid .entry)) (now (recency .entry)))) ⌝ }
 {
     let v = victim::victim(z, slots);
     let b = v.block;
     let own = lookup::frame_of(z, frames, b);
     if own < z.frames as usize {
-        return Plan::Join(b, own);
+        return Room::Join(b, own);
     }
     let free = lookup::frame_of(z, frames, BlockNo(VACANT));
     if free < z.frames as usize {
-        return Plan::Fill(b, free);
+        return Room::Fill(b, free);
     }
     let fewest = victim::fewest_valid(z, valid);
     if fewest < v.pages {
         let f = victim::least_recent_with(z, valid, recency, fewest);
-        return Plan::Exchange(b, f);
+        return Room::Exchange(b, f);
     }
     let f = victim::evict_frame(z, frames, recency, wear);
-    Plan::Evict(b, f)
+    Room::Evict(b, f)
 }

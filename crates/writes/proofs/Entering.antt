@@ -7,18 +7,19 @@ use lib.ListN.{length, set}
 use borrow.Author.Tests.{lt-ltb}
 use Rattle.model.specs.Sizes.{Sizes, vacant}
 use Rattle.model.specs.Directory.{Directory}
-use Rattle.model.specs.Policy.{inSlots, slotOf}
-use Rattle.model.specs.Moves.{Memory, recencyAfter, touched, putSlot, entered, joined, joinedPages, exchanged, putSlotPage}
-use Rattle.model.specs.Calls.{Page, slotPages, framePages}
+use Rattle.model.specs.Soundness.{Sound}
+use Rattle.model.specs.Policy.{inSlots, slotOf, validCount, slotCount}
+use Rattle.model.specs.Moves.{Memory, recencyAfter, touched, putSlot, entered, joined, joinedPages, exchanged, exchangedPages, putSlotPage}
+use Rattle.model.specs.Calls.{Page, zeroPage, slotPages, framePages}
 use Rattle.model.proofs.Lookup.{found-slot}
 use Rattle.model.proofs.Kept.{joined-sound, exchanged-sound, exchanged-vacant}
 use Rattle.model.proofs.Plan.{some-bit, joined-vacant}
 use Rattle.cache.specs.View.{numbers}
-use Rattle.moves.specs.Spaces.{spaces, Joined}
+use Rattle.moves.specs.Spaces.{spaces, Joins, Joined}
 use Rattle.moves.specs.Exchange.{Exchanged}
 use Rattle.moves.proofs.Recency.{touched-is}
 use Rattle.writes.specs.Writes.{OverSlot}
-use Rattle.writes.specs.Enter.{Enters, Entered, JoinEnters, JoinEntered, ExchangeEnters, ExchangeEntered}
+use Rattle.writes.specs.Enter.{Joining, Changing, Enters, Entered}
 
 module _ (sz : Sizes) (d : Directory) (f : ℕ) (pspace page : List ℕ) (q : Enters sz d f pspace page) (i : ℕ) (first-vacant : i ≡ slotOf sz (numbers (d .slots) [] [] []) vacant) where
   slot-is : i ≡ slotOf sz d vacant
@@ -42,15 +43,27 @@ module _ (sz : Sizes) (d : Directory) (f : ℕ) (pspace page : List ℕ) (q : En
     pages-are = ep ∙ ap (λ (x : ℕ). set (slotPages sz pspace) x page) slot-is;
   }
 
-module _ (sz : Sizes) (d : Directory) (v f : ℕ) (pspace bspace page : List ℕ) where
+-- the page has entered after a join, and after an exchange
+pub record JoinEntered (sz : Sizes) (d : Directory) (v f : ℕ) (pspace bspace : List ℕ) (n : ℕ) (page : Page) (d′ : Directory) (pspace′ bspace′ : List ℕ) : Type 0 where
+  pub directory-is : d′ ≡ entered sz (touched sz (joined sz d v f) f) n
+  pub pages-are : spaces sz pspace′ bspace′ ≡ putSlotPage (joinedPages (zeroPage sz) sz d (spaces sz pspace bspace) v f) (slotOf sz (joined sz d v f) vacant) page
+
+pub record ExchangeEntered (sz : Sizes) (d : Directory) (v f : ℕ) (pspace bspace : List ℕ) (n : ℕ) (page : Page) (d′ : Directory) (pspace′ bspace′ : List ℕ) : Type 0 where
+  pub directory-is : d′ ≡ entered sz (touched sz (exchanged sz d v f) f) n
+  pub pages-are : spaces sz pspace′ bspace′ ≡ putSlotPage (exchangedPages (zeroPage sz) sz d (spaces sz pspace bspace) v f) (slotOf sz (exchanged sz d v f) vacant) page
+
+module _ (sz : Sizes) (d : Directory) (v f : ℕ) (pspace bspace page : List ℕ) (s : Sound sz d) where
+  pub joins : v < sz .N → f < sz .B → length pspace ≡ sz .P * sz .S → length bspace ≡ sz .B * sz .K * sz .S → Joins sz d v f pspace bspace
+  joins vl fl lp lb = record { sound = s; block-lt = vl; frame-lt = fl; pspace-long = lp; bspace-long = lb }
+
   -- after a join
-  pub join-enters : JoinEnters sz d v f pspace bspace page → (j : Directory) → j ≡ joined sz d v f → Enters sz j f pspace page
-  join-enters q j e = let g = q .joining in let s = q .spaced .sound in rw e (record {
+  pub join-enters : Joining sz d v f → length pspace ≡ sz .P * sz .S → length page ≡ sz .S → (j : Directory) → j ≡ joined sz d v f → Enters sz j f pspace page
+  join-enters g lp lx j e = rw e (record {
     sound = joined-sound sz d s v f (g .frame-lt) (g .victim-lt) (g .sole) (some-bit sz d s v f (g .victim-pos));
     frame-lt = g .frame-lt;
     room = joined-vacant sz d s v f (g .frame-lt) (g .victim-pos);
-    pspace-length = q .spaced .pspace-length;
-    page-length = q .spaced .page-length;
+    pspace-length = lp;
+    page-length = lx;
   })
 
   pub join-entered : (n : ℕ) (j d′ : Directory) (pspace′ bspace′ : List ℕ) → Joined sz d v f pspace bspace j bspace′ → Entered sz j f pspace n page d′ pspace′
@@ -66,14 +79,15 @@ module _ (sz : Sizes) (d : Directory) (v f : ℕ) (pspace bspace page : List ℕ
   }
 
   -- after an exchange
-  pub exchange-enters : ExchangeEnters sz d v f pspace bspace page → (j : Directory) (pspace₁ : List ℕ) → j ≡ exchanged sz d v f → length pspace₁ ≡ sz .P * sz .S → Enters sz j f pspace₁ page
+  pub exchange-enters : Changing sz d v f → validCount sz d f < slotCount sz d v → length page ≡ sz .S → (j : Directory) (pspace₁ : List ℕ) → j ≡ exchanged sz d v f → length pspace₁ ≡ sz .P * sz .S
+      → Enters sz j f pspace₁ page
   unfolding inSlots
-  exchange-enters q j pspace₁ e l = let g = q .changing in let s = q .spaced .sound in rw e (record {
-    sound = exchanged-sound sz d s v f (g .frame-lt) (g .victim-lt) (q .fewer) (g .block-lt) (g .victim-out);
+  exchange-enters g fewer lx j pspace₁ e l = rw e (record {
+    sound = exchanged-sound sz d s v f (g .frame-lt) (g .victim-lt) fewer (g .block-lt) (g .victim-out);
     frame-lt = g .frame-lt;
-    room = lt-ltb _ (sz .P) (exchanged-vacant sz (s .limits) d (s .shape) (s .entries) v f (g .frame-lt) (g .victim-lt) (q .fewer) (g .block-lt) (g .victim-out));
+    room = lt-ltb _ (sz .P) (exchanged-vacant sz (s .limits) d (s .shape) (s .entries) v f (g .frame-lt) (g .victim-lt) fewer (g .block-lt) (g .victim-out));
     pspace-length = l;
-    page-length = q .spaced .page-length;
+    page-length = lx;
   })
 
   pub exchange-entered : (n : ℕ) (j d′ : Directory) (pspace₁ pspace′ bspace′ : List ℕ) → Exchanged sz d v f pspace bspace j pspace₁ bspace′ → Entered sz j f pspace₁ n page d′ pspace′

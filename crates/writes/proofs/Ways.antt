@@ -19,11 +19,13 @@ use Rattle.model.proofs.Steps as steps
 use Rattle.model.proofs.Plan.{leastRecent-picks, victim-lt, victim-pos, sole-own, occupied-all, fewest-pick, evict-pick, plan-elim, eviction-elim}
 use Rattle.moves.specs.Spaces.{spaces}
 use Rattle.policy.specs.declared.decision.Plan as code
-use Rattle.policy.specs.Views.{planOf}
+use Rattle.policy.specs.declared.decision.Room as room
+use Rattle.policy.specs.Views.{planOf, roomOf}
 use Rattle.clean.specs.Clean.{Cleanable, BlockCleaned}
 use Rattle.answer.specs.Carried.{Carried, buffers}
-use Rattle.writes.specs.Writes.{Writable, state, Wrote, Evicts}
-use Rattle.writes.specs.Enter.{Joining, Changing, Spaced, JoinEnters, JoinEntered, ExchangeEntered}
+use Rattle.writes.specs.Writes.{Writable, state, Wrote, PlanHolds, MakesRoom}
+use Rattle.writes.specs.Enter.{Joining}
+use Rattle.writes.proofs.Entering.{JoinEntered, ExchangeEntered}
 
 -- ---- ways 1 to 6
 
@@ -72,12 +74,12 @@ joined-beside : (sz : Sizes) (e d′ : Directory) (flash wear pspace bspace pspa
 unfolding putSlotPage joinedPages filled spaces memoryOf
 joined-beside sz e d′ flash wear pspace bspace pspace′ bspace′ v f n page j = beside sz e flash wear pspace bspace n page _ pspace′ bspace′ (j .pages-are)
 
-module _ (sz : Sizes) (d : Directory) (flash wear pspace bspace : List ℕ) (v f : ℕ) (page : Page) (q : Evicts sz d (buffers flash wear pspace bspace) v f page) where
+module _ (sz : Sizes) (d : Directory) (flash wear pspace bspace : List ℕ) (v f : ℕ) (page : Page) (q : MakesRoom sz d (buffers flash wear pspace bspace) (evict v f) page) where
   abbrev evicting : Buffers
   evicting = buffers flash wear pspace bspace
 
   block-below : frameAt d f < vacant
-  block-below = block-vacant sz (q .ready .sound .limits) (frameAt d f) (q .changing .block-lt)
+  block-below = block-vacant sz (q .ready .sound .limits) (frameAt d f) (q .holds .0 .block-lt)
 
   pub worn-way : (n : ℕ) → sz .W ≤ getD wear (frameAt d f) 0 → Wrote sz d evicting n page (evict v f) (refused 6 (frameAt d f)) d evicting
   unfolding writeOutcome isWorn
@@ -86,22 +88,22 @@ module _ (sz : Sizes) (d : Directory) (flash wear pspace bspace : List ℕ) (v f
 
   -- the frame's block may be cleaned as by a flush step
   block-ready : steps.Ready sz d (frameAt d f) f
-  block-ready = steps.ready-frame sz d (q .ready .sound) f (q .changing .frame-lt) block-below
+  block-ready = steps.ready-frame sz d (q .ready .sound) f (q .holds .0 .frame-lt) block-below
 
   pub cleanable : getD wear (frameAt d f) 0 < sz .W → Cleanable sz d evicting (frameAt d f) f
   cleanable l = record { ready = q .ready; block = block-ready; unworn = l }
 
   -- and the victim's pages may join the frame then
-  pub cleaned-joins : (e : Directory) (bspace₁ : List ℕ) → e ≡ stepped sz d (due (frameAt d f) f) → length bspace₁ ≡ sz .B * sz .K * sz .S → JoinEnters sz e v f pspace bspace₁ page
-  cleaned-joins e bspace₁ h l = let s = q .ready .sound in let g = q .changing in let a : ℕ = frameAt d f in rw h (record {
-    spaced = record { sound = steps.stepped-sound sz d s a f block-ready; pspace-length = q .ready .fits .pspace-length; bspace-length = l; page-length = q .page-length };
-    joining = record {
+  pub cleaned : (e : Directory) → e ≡ stepped sz d (due (frameAt d f) f) → Sound sz e × Joining sz e v f
+  cleaned e h = let s = q .ready .sound in let g = q .holds .0 in let a : ℕ = frameAt d f in rw h (
+    steps.stepped-sound sz d s a f block-ready,
+    record {
       victim-lt = g .victim-lt;
-      victim-pos = rw (steps.stepped-count sz d s a f block-ready v (λ t. g .victim-out f (g .frame-lt) (sym t))) (q .victim-pos);
+      victim-pos = rw (steps.stepped-count sz d s a f block-ready v (λ t. g .victim-out f (g .frame-lt) (sym t))) (q .holds .1);
       frame-lt = g .frame-lt;
       sole = λ k kl ne t. g .victim-out k kl (sym (steps.stepped-frame′ sz d s a f block-ready k ne) ∙ t);
-    };
-  })
+    },
+  )
 
   pub way-7 : (n reads : ℕ) (e d′ : Directory) (flash′ wear′ pspace′ bspace₁ bspace′ : List ℕ) → getD wear (frameAt d f) 0 < sz .W
       → BlockCleaned sz d evicting (frameAt d f) f e reads (buffers flash′ wear′ pspace bspace₁) → JoinEntered sz e v f pspace bspace₁ n page d′ pspace′ bspace′
@@ -120,15 +122,6 @@ module _ (sz : Sizes) (d : Directory) (flash wear pspace bspace : List ℕ) (v f
 
 -- ---- what holds of the plan
 
-abbrev pub PlanHolds : Sizes → Directory → Plan → Type 0
-PlanHolds sz d (slotHit i) = i < sz .P
-PlanHolds sz d (frameHit f) = f < sz .B
-PlanHolds sz d (freeSlot i) = i < sz .P
-PlanHolds sz d (join v f) = Joining sz d v f
-PlanHolds sz d (fill v f) = Joining sz d v f
-PlanHolds sz d (exchange v f) = Changing sz d v f × (validCount sz d f < slotCount sz d v)
-PlanHolds sz d (evict v f) = Changing sz d v f × (0 < slotCount sz d v)
-
 pub plan-holds : (pick : Choice) → Picks pick → (sz : Sizes) (d : Directory) → Sound sz d → (w : List ℕ) (n : ℕ) → PlanHolds sz d (plan pick sz d w n)
 plan-holds pick picks sz d s w n = let Q = PlanHolds sz d in let v : ℕ = victim sz d in let vl = victim-lt sz d s in plan-elim pick sz d w Q n
     (λ h. found-slot sz d n h .0)
@@ -144,16 +137,22 @@ plan-holds pick picks sz d s w n = let Q = PlanHolds sz d in let v : ℕ = victi
 
 -- ---- from the plan that was found to the model's
 
+-- Wrote, of the wear and the pages that the buffers hold at the end
+abbrev To : Sizes → Directory → Buffers → ℕ → Page → Plan → Answer → Directory → List ℕ → Memory Page → Type 0
+To sz d u n page p a d′ w′ m′ = Carried (writeOutcome sz (state d u) n p) (memoryOf sz u) (writtenPages (zeroPage sz) sz d (memoryOf sz u) n page p) a d′ w′ m′
+
 module _ (sz : Sizes) (d : Directory) (u : Buffers) (n : ℕ) (page : Page) (q : Writable sz d u n page) (found shown : code.Plan) (is-plan : planOf found ≡ plan leastRecent sz d (u .wear) n) (is-shown : found ≡ shown) where
   pub holds : PlanHolds sz d (planOf shown)
   holds = subst (PlanHolds sz d) (sym is-plan ∙ ap planOf is-shown) (plan-holds leastRecent leastRecent-picks sz d (q .ready .sound) (u .wear) n)
 
-  -- Wrote, of the wear and the pages that the buffers hold at the end
-  abbrev To : Plan → Answer → Directory → List ℕ → Memory Page → Type 0
-  To p a d′ w′ m′ = Carried (writeOutcome sz (state d u) n p) (memoryOf sz u) (writtenPages (zeroPage sz) sz d (memoryOf sz u) n page p) a d′ w′ m′
+  pub by-plan : {a : Answer} {d′ : Directory} {w′ : List ℕ} {m′ : Memory Page} → To sz d u n page (planOf shown) a d′ w′ m′ → To sz d u n page (plan leastRecent sz d (u .wear) n) a d′ w′ m′
+  by-plan {a} {d′} {w′} {m′} w = subst (λ (p : Plan). To sz d u n page p a d′ w′ m′) (sym (ap planOf is-shown) ∙ is-plan) w
 
-  pub by-plan : {a : Answer} {d′ : Directory} {w′ : List ℕ} {m′ : Memory Page} → To (planOf shown) a d′ w′ m′ → To (plan leastRecent sz d (u .wear) n) a d′ w′ m′
-  by-plan {a} {d′} {w′} {m′} w = subst (λ (p : Plan). To p a d′ w′ m′) (sym (ap planOf is-shown) ∙ is-plan) w
+-- ---- and of ways 4 to 7
 
-  pub spaced : Spaced sz d (u .pspace) (u .bspace) page
-  spaced = record { sound = q .ready .sound; pspace-length = q .ready .fits .pspace-length; bspace-length = q .ready .fits .bspace-length; page-length = q .page-length }
+module _ (sz : Sizes) (d : Directory) (u : Buffers) (n : ℕ) (page : Page) (found shown : room.Room) (q : MakesRoom sz d u (roomOf found) page) (is-shown : found ≡ shown) where
+  pub room-holds : PlanHolds sz d (roomOf shown)
+  room-holds = subst (λ (r : room.Room). PlanHolds sz d (roomOf r)) is-shown (q .holds)
+
+  pub by-room : {a : Answer} {d′ : Directory} {w′ : List ℕ} {m′ : Memory Page} → To sz d u n page (roomOf shown) a d′ w′ m′ → To sz d u n page (roomOf found) a d′ w′ m′
+  by-room {a} {d′} {w′} {m′} w = subst (λ (r : room.Room). To sz d u n page (roomOf r) a d′ w′ m′) (sym is-shown) w

@@ -1,4 +1,4 @@
--- What the entering of page n asks and leaves, after a join or an exchange has made room; and what holds of a plan's victim and frame.
+-- What holds of a plan's victim and frame, and what the entering of a page asks and leaves, after a join or an exchange has made room.
 use mathlib.Core.Path.{_≡_}
 use mathlib.Core.Bool.{true}
 use mathlib.Core.List.{List}
@@ -7,10 +7,9 @@ use lib.ListN.{length, set}
 use Rattle.model.specs.Sizes.{Sizes, vacant}
 use Rattle.model.specs.Directory.{Directory, frameAt}
 use Rattle.model.specs.Soundness.{Sound}
-use Rattle.model.specs.Policy.{inSlots, slotOf, validCount, slotCount}
-use Rattle.model.specs.Moves.{touched, entered, joined, joinedPages, exchanged, exchangedPages, putSlotPage}
-use Rattle.model.specs.Calls.{Page, zeroPage, slotPages}
-use Rattle.moves.specs.Spaces.{spaces}
+use Rattle.model.specs.Policy.{inSlots, slotOf, slotCount}
+use Rattle.model.specs.Moves.{touched, entered}
+use Rattle.model.specs.Calls.{Page, slotPages}
 
 -- ---- the victim v and the frame f that takes its pages
 
@@ -28,13 +27,6 @@ pub record Changing (sz : Sizes) (d : Directory) (v f : ℕ) : Type 0 where
   pub frame-lt : f < sz .B
   pub block-lt : frameAt d f < sz .N
 
--- p-space, b-space and the page buffer in their sizes
-pub record Spaced (sz : Sizes) (d : Directory) (pspace bspace : List ℕ) (page : Page) : Type 0 where
-  pub sound : Sound sz d
-  pub pspace-length : length pspace ≡ sz .P * sz .S
-  pub bspace-length : length bspace ≡ sz .B * sz .K * sz .S
-  pub page-length : length page ≡ sz .S
-
 -- ---- entering
 
 pub record Enters (sz : Sizes) (d : Directory) (f : ℕ) (pspace : List ℕ) (page : Page) : Type 0 where
@@ -47,21 +39,3 @@ pub record Enters (sz : Sizes) (d : Directory) (f : ℕ) (pspace : List ℕ) (pa
 pub record Entered (sz : Sizes) (d : Directory) (f : ℕ) (pspace : List ℕ) (n : ℕ) (page : Page) (d′ : Directory) (pspace′ : List ℕ) : Type 0 where
   pub directory-is : d′ ≡ entered sz (touched sz d f) n
   pub pages-are : slotPages sz pspace′ ≡ set (slotPages sz pspace) (slotOf sz d vacant) page
-
-pub record JoinEnters (sz : Sizes) (d : Directory) (v f : ℕ) (pspace bspace : List ℕ) (page : Page) : Type 0 where
-  pub spaced : Spaced sz d pspace bspace page
-  pub joining : Joining sz d v f
-
-pub record JoinEntered (sz : Sizes) (d : Directory) (v f : ℕ) (pspace bspace : List ℕ) (n : ℕ) (page : Page) (d′ : Directory) (pspace′ bspace′ : List ℕ) : Type 0 where
-  pub directory-is : d′ ≡ entered sz (touched sz (joined sz d v f) f) n
-  pub pages-are : spaces sz pspace′ bspace′ ≡ putSlotPage (joinedPages (zeroPage sz) sz d (spaces sz pspace bspace) v f) (slotOf sz (joined sz d v f) vacant) page
-
--- the frame has fewer valid pages than the victim has in slots
-pub record ExchangeEnters (sz : Sizes) (d : Directory) (v f : ℕ) (pspace bspace : List ℕ) (page : Page) : Type 0 where
-  pub spaced : Spaced sz d pspace bspace page
-  pub changing : Changing sz d v f
-  pub fewer : validCount sz d f < slotCount sz d v
-
-pub record ExchangeEntered (sz : Sizes) (d : Directory) (v f : ℕ) (pspace bspace : List ℕ) (n : ℕ) (page : Page) (d′ : Directory) (pspace′ bspace′ : List ℕ) : Type 0 where
-  pub directory-is : d′ ≡ entered sz (touched sz (exchanged sz d v f) f) n
-  pub pages-are : spaces sz pspace′ bspace′ ≡ putSlotPage (exchangedPages (zeroPage sz) sz d (spaces sz pspace bspace) v f) (slotOf sz (exchanged sz d v f) vacant) page

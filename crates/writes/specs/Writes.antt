@@ -5,11 +5,11 @@ use Prim.Native.Nat.{ℕ, _*_, _<_}
 use lib.ListN.{length}
 use Rattle.model.specs.Sizes.{Sizes, InLimits}
 use Rattle.model.specs.Directory.{Directory}
-use Rattle.model.specs.Policy.{Plan, slotCount}
+use Rattle.model.specs.Policy.{validCount, slotCount, Plan, slotHit, frameHit, freeSlot, join, fill, exchange, evict}
 use Rattle.model.specs.Moves.{writtenPages}
 use Rattle.model.specs.Calls.{Answer, State, writeOutcome, Page, Buffers, zeroPage, memoryOf}
 use Rattle.answer.specs.Carried.{Ready, Carried}
-use Rattle.writes.specs.Enter.{Changing}
+use Rattle.writes.specs.Enter.{Joining, Changing}
 
 -- a page of the chip and a page buffer of S bytes
 pub record Writable (sz : Sizes) (d : Directory) (u : Buffers) (n : ℕ) (page : Page) : Type 0 where
@@ -39,10 +39,20 @@ pub record OverFrame (sz : Sizes) (f : ℕ) (bspace : List ℕ) (page : Page) : 
   pub bspace-length : length bspace ≡ sz .B * sz .K * sz .S
   pub page-length : length page ≡ sz .S
 
--- ---- way 7
+-- ---- ways 4 to 7
 
-pub record Evicts (sz : Sizes) (d : Directory) (u : Buffers) (v f : ℕ) (page : Page) : Type 0 where
+-- what holds of a plan for a sound record
+abbrev pub PlanHolds : Sizes → Directory → Plan → Type 0
+PlanHolds sz d (slotHit i) = i < sz .P
+PlanHolds sz d (frameHit f) = f < sz .B
+PlanHolds sz d (freeSlot i) = i < sz .P
+PlanHolds sz d (join v f) = Joining sz d v f
+PlanHolds sz d (fill v f) = Joining sz d v f
+PlanHolds sz d (exchange v f) = Changing sz d v f × (validCount sz d f < slotCount sz d v)
+PlanHolds sz d (evict v f) = Changing sz d v f × (0 < slotCount sz d v)
+
+-- room may be made by plan p, and the page buffer may enter
+pub record MakesRoom (sz : Sizes) (d : Directory) (u : Buffers) (p : Plan) (page : Page) : Type 0 where
   pub ready : Ready sz d u
   pub page-length : length page ≡ sz .S
-  pub changing : Changing sz d v f
-  pub victim-pos : 0 < slotCount sz d v
+  pub holds : PlanHolds sz d p

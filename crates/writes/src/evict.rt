@@ -1,15 +1,16 @@
 // Way 7: the frame's block is cleaned as by a flush step, and the victim's pages fill the frame.
-use crate::enter;
+use crate::put;
 use address::BlockNo;
 use address::PageNo;
 use answer::Refusal;
 use answer::Write;
 use cache::Sizes;
+use moves::join;
 ghost use Rattle.model.specs.Policy.{evict};
 ghost use Rattle.cache.specs.View.{sizesOf, numbers};
 ghost use Rattle.answer.specs.Numbers.{writeOf};
 ghost use Rattle.answer.specs.Carried.{buffers};
-ghost use Rattle.writes.specs.Writes.{Evicts, Wrote};
+ghost use Rattle.writes.specs.Writes.{MakesRoom, Wrote};
 
 pub fn evict(
     z: Sizes,
@@ -26,7 +27,7 @@ pub fn evict(
     n: PageNo,
     page: &[u8],
 ) -> Write
-    requires { ⌜ Evicts (sizesOf z) (numbers (now slots) (now frames) (now valid) (now recency)) (buffers (now flash) (now wear) (now pspace) (now bspace)) (v .0) f (now page) ⌝ }
+    requires { ⌜ MakesRoom (sizesOf z) (numbers (now slots) (now frames) (now valid) (now recency)) (buffers (now flash) (now wear) (now pspace) (now bspace)) (evict (v .0) f) (now page) ⌝ }
     ensures { λ r. ⌜ Wrote (sizesOf z) (numbers (now (slots .entry)) (now (frames .entry)) (now (valid .entry)) (now (recency .entry))) (buffers (now (flash .entry)) (now (wear .entry)) (now (pspace .entry)) (now (bspace .entry))) (n .0) (now (page .entry)) (evict (v .0) f) (writeOf r) (numbers (now (slots .exit)) (now (frames .exit)) (now (valid .exit)) (now (recency .exit))) (buffers (now (flash .exit)) (now (wear .exit)) (now (pspace .exit)) (now (bspace .exit))) ⌝ }
 {
     let b = BlockNo(frames[f]);
@@ -47,18 +48,7 @@ pub fn evict(
         b,
         f,
     );
-    enter::join(
-        z,
-        slots,
-        frames,
-        valid,
-        recency,
-        pspace,
-        bspace,
-        v,
-        f,
-        n,
-        page,
-    );
+    join::join(z, slots, frames, valid, recency, pspace, bspace, v, f);
+    put::enter(z, slots, frames, valid, recency, pspace, f, n, page);
     Write::Rewrote { block: b, merged }
 }

@@ -1,7 +1,7 @@
 // Writing a page, for a sound record and rightly sized buffers: the policy's plan is carried out.
-mod enter; // enter.rt: the written page enters, after its victim's pages have made room
 mod evict; // evict.rt: way 7
-mod put; // put.rt: a page over a slot, or over a page of a frame
+mod full; // full.rt: ways 4 to 7
+mod put; // put.rt: the page buffer goes over a slot or a page of a frame, or enters a vacant slot
 
 use address::PageNo;
 use answer::Write;
@@ -47,56 +47,8 @@ pub fn write(
             slots[i] = n.0;
             return Write::Done { way: 3 };
         }
-        Plan::Join(v, f) => {
-            enter::join(
-                z,
-                slots,
-                frames,
-                valid,
-                recency,
-                pspace,
-                bspace,
-                v,
-                f,
-                n,
-                page,
-            );
-            return Write::Done { way: 4 };
-        }
-        Plan::Fill(v, f) => {
-            enter::join(
-                z,
-                slots,
-                frames,
-                valid,
-                recency,
-                pspace,
-                bspace,
-                v,
-                f,
-                n,
-                page,
-            );
-            return Write::Done { way: 5 };
-        }
-        Plan::Exchange(v, f) => {
-            enter::exchange(
-                z,
-                slots,
-                frames,
-                valid,
-                recency,
-                pspace,
-                bspace,
-                v,
-                f,
-                n,
-                page,
-            );
-            return Write::Done { way: 6 };
-        }
-        Plan::Evict(v, f) => {
-            return evict::evict(
+        Plan::MakeRoom(room) => {
+            return full::write(
                 z,
                 slots,
                 frames,
@@ -106,8 +58,7 @@ pub fn write(
                 wear,
                 pspace,
                 bspace,
-                v,
-                f,
+                room,
                 n,
                 page,
             );

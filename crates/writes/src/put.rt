@@ -1,12 +1,16 @@
-// The page buffer put over a slot's page, or over a page of a frame.
+// The page buffer goes over a slot's page or over a page of a frame, or enters a vacant slot.
 use address::PageNo;
 use cache::Sizes;
+use cache::VACANT;
+use moves::numbers;
+use policy::lookup;
 ghost use mathlib.Core.Path.{_≡_};
 ghost use Prim.Native.Nat.{_+_, _*_, _%_};
 ghost use lib.ListN.{set};
 ghost use Rattle.model.specs.Calls.{slotPages, framePages};
-ghost use Rattle.cache.specs.View.{sizesOf};
+ghost use Rattle.cache.specs.View.{sizesOf, numbers};
 ghost use Rattle.writes.specs.Writes.{OverSlot, OverFrame};
+ghost use Rattle.writes.specs.Enter.{Enters, Entered};
 
 pub fn over_slot(z: Sizes, pspace: &mut [u8], i: usize, page: &[u8])
     requires { ⌜ OverSlot (sizesOf z) i (now pspace) (now page) ⌝ }
@@ -24,4 +28,25 @@ pub fn over_frame_page(z: Sizes, bspace: &mut [u8], f: usize, n: PageNo, page: &
     let k = z.pages_per_block as usize;
     let o = address::offset_of(n, z.pages_per_block) as usize;
     page::copy_in_block(bspace, f, k, o, page, 0, s);
+}
+
+// Frame f becomes most recent, and page n enters the first vacant slot.
+pub fn enter(
+    z: Sizes,
+    slots: &mut [u32; 128],
+    frames: &[u32; 8],
+    valid: &[u64; 8],
+    recency: &mut [u8; 8],
+    pspace: &mut [u8],
+    f: usize,
+    n: PageNo,
+    page: &[u8],
+)
+    requires { ⌜ Enters (sizesOf z) (numbers (now slots) (now frames) (now valid) (now recency)) f (now pspace) (now page) ⌝ }
+    ensures { λ _. ⌜ Entered (sizesOf z) (numbers (now (slots .entry)) (now (frames .entry)) (now (valid .entry)) (now (recency .entry))) f (now (pspace .entry)) (n .0) (now (page .entry)) (numbers (now (slots .exit)) (now (frames .entry)) (now (valid .entry)) (now (recency .exit))) (now (pspace .exit)) ⌝ }
+{
+    numbers::touch(z, recency, f);
+    let i = lookup::slot_of(z, slots, PageNo(VACANT));
+    over_slot(z, pspace, i, page);
+    slots[i] = n.0;
 }

@@ -3,7 +3,7 @@ use native.Mathlib.Omega.{arith}
 use mathlib.Core.Path.{refl}
 use Rattle.model.specs.Moves.{putSlot}
 use Rattle.moves.proofs.Recency.{listed, touched-is}
-use Rattle.writes.proofs.Ways.{way-1, way-2, way-3, way-4, way-5, way-6, holds, by-plan, spaced}
+use Rattle.writes.proofs.Ways.{way-1, way-2, way-3, holds, by-plan}
 use Rattle.writes.proofs.write.Statement.{statement}
 use Rattle.writes.proofs.write.Tie as tie
 
@@ -83,8 +83,8 @@ returns-3 c = by-plan _ _ _ _ _ (c .before .before .before .before .before .befo
 enum-known-plan-4 : tie.Need-enum-known-plan-4
 enum-known-plan-4 c = search needs
 
-join-requires : tie.Need-join-requires
-join-requires c κs = let q = c .before .before .before .before .before .before .before .before .before .before .before .before .before .before .before .before .before .before .before .before .pre in let e = c .before .before .before .before .before .before .before .before .before .plan .ensures in let g = c .before .before .before .before .before .before .before .plan5 .given .1 in record { spaced = spaced _ _ _ _ _ q _ _ e g; joining = holds _ _ _ _ _ q _ _ e g }
+write-requires : tie.Need-write-requires
+write-requires c κs = let q = c .before .before .before .before .before .before .before .before .before .before .before .before .before .before .before .before .before .before .before .before .before .before .pre in record { ready = q .ready; page-length = q .page-length; holds = holds _ _ _ _ _ q _ _ (c .before .before .before .before .before .before .before .before .before .before .before .plan .ensures) (c .before .before .before .before .before .before .before .before .before .plan5 .given .1) }
 
 same-length-7 : tie.Need-same-length-7
 same-length-7 c = search needs
@@ -95,65 +95,11 @@ same-length-8 c = search needs
 same-length-9 : tie.Need-same-length-9
 same-length-9 c = search needs
 
-returns-4 : tie.Need-returns-4
-returns-4 c = by-plan _ _ _ _ _ (c .before .before .before .before .before .before .before .before .before .before .before .before .before .before .before .before .before .before .before .before .before .before .before .before .before .pre) _ _ (c .before .before .before .before .before .before .before .before .before .before .before .before .before .before .plan .ensures) (c .before .before .before .before .before .before .before .before .before .before .before .before .plan5 .given .1) (way-4 _ _ _ _ _ _ _ _ _ _ _ _ _ (c .before .before .before .before .join .ensures))
-
-enum-known-plan-5 : tie.Need-enum-known-plan-5
-enum-known-plan-5 c = search needs
-
-join-requires-2 : tie.Need-join-requires-2
-join-requires-2 c κs = let q = c .before .before .before .before .before .before .before .before .before .before .before .before .before .before .before .before .before .before .before .before .pre in let e = c .before .before .before .before .before .before .before .before .before .plan .ensures in let g = c .before .before .before .before .before .before .before .plan6 .given .1 in record { spaced = spaced _ _ _ _ _ q _ _ e g; joining = holds _ _ _ _ _ q _ _ e g }
-
 same-length-10 : tie.Need-same-length-10
 same-length-10 c = search needs
 
-same-length-11 : tie.Need-same-length-11
-same-length-11 c = search needs
-
-same-length-12 : tie.Need-same-length-12
-same-length-12 c = search needs
-
-returns-5 : tie.Need-returns-5
-returns-5 c = by-plan _ _ _ _ _ (c .before .before .before .before .before .before .before .before .before .before .before .before .before .before .before .before .before .before .before .before .before .before .before .before .before .pre) _ _ (c .before .before .before .before .before .before .before .before .before .before .before .before .before .before .plan .ensures) (c .before .before .before .before .before .before .before .before .before .before .before .before .plan6 .given .1) (way-5 _ _ _ _ _ _ _ _ _ _ _ _ _ (c .before .before .before .before .join2 .ensures))
-
-enum-known-plan-6 : tie.Need-enum-known-plan-6
-enum-known-plan-6 c = search needs
-
-exchange-requires : tie.Need-exchange-requires
-exchange-requires c κs = let q = c .before .before .before .before .before .before .before .before .before .before .before .before .before .before .before .before .before .before .before .before .pre in let e = c .before .before .before .before .before .before .before .before .before .plan .ensures in let g = c .before .before .before .before .before .before .before .plan7 .given .1 in let h = holds _ _ _ _ _ q _ _ e g in record { spaced = spaced _ _ _ _ _ q _ _ e g; changing = h .0; fewer = h .1 }
-
-same-length-13 : tie.Need-same-length-13
-same-length-13 c = search needs
-
-same-length-14 : tie.Need-same-length-14
-same-length-14 c = search needs
-
-same-length-15 : tie.Need-same-length-15
-same-length-15 c = search needs
-
-returns-6 : tie.Need-returns-6
-returns-6 c = by-plan _ _ _ _ _ (c .before .before .before .before .before .before .before .before .before .before .before .before .before .before .before .before .before .before .before .before .before .before .before .before .before .pre) _ _ (c .before .before .before .before .before .before .before .before .before .before .before .before .before .before .plan .ensures) (c .before .before .before .before .before .before .before .before .before .before .before .before .plan7 .given .1) (way-6 _ _ _ _ _ _ _ _ _ _ _ _ _ (c .before .before .before .before .exchange .ensures))
-
-enum-known-plan-7 : tie.Need-enum-known-plan-7
-enum-known-plan-7 c = search needs
-
-evict-requires : tie.Need-evict-requires
-evict-requires c κs = let q = c .before .before .before .before .before .before .before .before .before .before .before .before .before .before .before .before .before .before .before .before .before .before .pre in let h = holds _ _ _ _ _ q _ _ (c .before .before .before .before .before .before .before .before .before .before .before .plan .ensures) (c .before .before .before .before .before .before .before .before .before .plan8 .given .1) in record { ready = q .ready; page-length = q .page-length; changing = h .0; victim-pos = h .1 }
-
-same-length-16 : tie.Need-same-length-16
-same-length-16 c = search needs
-
-same-length-17 : tie.Need-same-length-17
-same-length-17 c = search needs
-
-same-length-18 : tie.Need-same-length-18
-same-length-18 c = search needs
-
-same-length-19 : tie.Need-same-length-19
-same-length-19 c = search needs
-
-returns-7 : tie.Need-returns-7
-returns-7 c = by-plan _ _ _ _ _ (c .before .before .before .before .before .before .before .before .before .before .before .before .before .before .before .before .before .before .before .before .before .before .before .before .before .before .before .before .before .before .before .pre) _ _ (c .before .before .before .before .before .before .before .before .before .before .before .before .before .before .before .before .before .before .before .before .plan .ensures) (c .before .before .before .before .before .before .before .before .before .before .before .before .before .before .before .before .before .before .plan8 .given .1) (c .before .before .before .before .before .before .before .before .evict .ensures)
+returns-4 : tie.Need-returns-4
+returns-4 c = by-plan _ _ _ _ _ (c .before .before .before .before .before .before .before .before .before .before .before .before .before .before .before .before .before .before .before .before .before .before .before .before .before .before .before .before .before .before .before .pre) _ _ (c .before .before .before .before .before .before .before .before .before .before .before .before .before .before .before .before .before .before .before .before .plan .ensures) (c .before .before .before .before .before .before .before .before .before .before .before .before .before .before .before .before .before .before .plan5 .given .1) (c .before .before .before .before .before .before .before .before .write .ensures)
 
 pub write-spec : {M : Type 1} → statement M
 write-spec =
@@ -179,27 +125,9 @@ write-spec =
     same-length-6
     returns-3
     enum-known-plan-4
-    join-requires
+    write-requires
     same-length-7
     same-length-8
     same-length-9
-    returns-4
-    enum-known-plan-5
-    join-requires-2
     same-length-10
-    same-length-11
-    same-length-12
-    returns-5
-    enum-known-plan-6
-    exchange-requires
-    same-length-13
-    same-length-14
-    same-length-15
-    returns-6
-    enum-known-plan-7
-    evict-requires
-    same-length-16
-    same-length-17
-    same-length-18
-    same-length-19
-    returns-7)
+    returns-4)

@@ -2,8 +2,8 @@ use borrow.Author.Needs.{needs}
 use native.Mathlib.Omega.{arith}
 use Rattle.moves.proofs.Recency.{listed}
 use Rattle.writes.proofs.Entering.{slot-small, over, enter-is}
-use Rattle.writes.proofs.enter.enter.Statement.{statement}
-use Rattle.writes.proofs.enter.enter.Tie as tie
+use Rattle.writes.proofs.put.enter.Statement.{statement}
+use Rattle.writes.proofs.put.enter.Tie as tie
 
 touch-requires : tie.Need-touch-requires
 touch-requires c κs = let q = c .before .before .before .pre in listed _ _ _ (q .sound) (q .frame-lt)

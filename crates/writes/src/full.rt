@@ -1,0 +1,67 @@
+// Ways 4 to 7, all slots being occupied: the victim's pages leave the slots, and the written page enters one.
+use crate::evict;
+use crate::put;
+use address::PageNo;
+use answer::Write;
+use cache::Sizes;
+use moves::exchange;
+use moves::join;
+use policy::decision::Room;
+ghost use Rattle.cache.specs.View.{sizesOf, numbers};
+ghost use Rattle.answer.specs.Numbers.{writeOf};
+ghost use Rattle.answer.specs.Carried.{buffers};
+ghost use Rattle.policy.specs.Views.{roomOf};
+ghost use Rattle.writes.specs.Writes.{MakesRoom, Wrote};
+
+pub fn write(
+    z: Sizes,
+    slots: &mut [u32; 128],
+    frames: &mut [u32; 8],
+    valid: &mut [u64; 8],
+    recency: &mut [u8; 8],
+    flash: &mut [u8],
+    wear: &mut [u32],
+    pspace: &mut [u8],
+    bspace: &mut [u8],
+    room: Room,
+    n: PageNo,
+    page: &[u8],
+) -> Write
+    requires { ⌜ MakesRoom (sizesOf z) (numbers (now slots) (now frames) (now valid) (now recency)) (buffers (now flash) (now wear) (now pspace) (now bspace)) (roomOf room) (now page) ⌝ }
+    ensures { λ r. ⌜ Wrote (sizesOf z) (numbers (now (slots .entry)) (now (frames .entry)) (now (valid .entry)) (now (recency .entry))) (buffers (now (flash .entry)) (now (wear .entry)) (now (pspace .entry)) (now (bspace .entry))) (n .0) (now (page .entry)) (roomOf room) (writeOf r) (numbers (now (slots .exit)) (now (frames .exit)) (now (valid .exit)) (now (recency .exit))) (buffers (now (flash .exit)) (now (wear .exit)) (now (pspace .exit)) (now (bspace .exit))) ⌝ }
+{
+    match room {
+        Room::Join(v, f) => {
+            join::join(z, slots, frames, valid, recency, pspace, bspace, v, f);
+            put::enter(z, slots, frames, valid, recency, pspace, f, n, page);
+            return Write::Done { way: 4 };
+        }
+        Room::Fill(v, f) => {
+            join::join(z, slots, frames, valid, recency, pspace, bspace, v, f);
+            put::enter(z, slots, frames, valid, recency, pspace, f, n, page);
+            return Write::Done { way: 5 };
+        }
+        Room::Exchange(v, f) => {
+            exchange::exchange(z, slots, frames, valid, recency, pspace, bspace, v, f);
+            put::enter(z, slots, frames, valid, recency, pspace, f, n, page);
+            return Write::Done { way: 6 };
+        }
+        Room::Evict(v, f) => {
+            return evict::evict(
+                z,
+                slots,
+                frames,
+                valid,
+                recency,
+                flash,
+                wear,
+                pspace,
+                bspace,
+                v,
+                f,
+                n,
+                page,
+            );
+        }
+    }
+}

@@ -3,7 +3,7 @@ use crate::cases::{cases, Case, Cases, CASES};
 use crate::plain::Plain;
 use crate::random::Random;
 use crate::timing::{measure, Sides, Times};
-use clash::{Answer, Cache, Memory, Refusal, Sizes};
+use clash::{Answer, Buffers, Cache, Refusal, Sizes};
 use std::time::Duration;
 
 pub struct Row {
@@ -11,10 +11,52 @@ pub struct Row {
     pub times: Times,
 }
 
-/// What a call is lent.
+/// What a call is lent: parts of longer runs of bytes, which can start somewhere else from pass to pass. Where two buffers lie to each other
+/// within 4 KiB decides how fast a page moves between them, on either side and not alike.
 pub struct Lent {
-    memory: Memory,
-    page: Vec<u8>,
+    flash: Run,
+    wear: Vec<u32>,
+    pspace: Run,
+    bspace: Run,
+    page: Run,
+    random: Random,
+}
+
+struct Run {
+    bytes: Vec<u8>,
+    start: usize,
+    len: usize,
+}
+
+impl Run {
+    fn new(random: &mut Random, len: usize) -> Run {
+        Run { bytes: random.bytes(len + 4096), start: 0, len }
+    }
+
+    fn part(&mut self) -> &mut [u8] {
+        &mut self.bytes[self.start..self.start + self.len]
+    }
+}
+
+impl Lent {
+    fn new(random: &mut Random, sizes: &Sizes) -> Lent {
+        let [flash, pspace, bspace, page] =
+            [sizes.flash_len(), sizes.pspace_len(), sizes.bspace_len(), sizes.page_size as usize].map(|len| Run::new(random, len));
+        Lent { flash, wear: vec![0; sizes.wear_len()], pspace, bspace, page, random: Random(random.0) }
+    }
+
+    fn parts(&mut self) -> (Buffers<'_>, &mut [u8]) {
+        let buffers =
+            Buffers { flash: self.flash.part(), wear: &mut self.wear, pspace: self.pspace.part(), bspace: self.bspace.part() };
+        (buffers, self.page.part())
+    }
+
+    /// Each buffer starts at some multiple of 16 bytes, as memory from an allocator does.
+    fn place(&mut self) {
+        for run in [&mut self.flash, &mut self.pspace, &mut self.bspace, &mut self.page] {
+            run.start = self.random.below(256) as usize * 16;
+        }
+    }
 }
 
 /// What is timed at some sizes.
@@ -35,40 +77,54 @@ const SOUND: Sides<Lent, bool> =
     Sides { proved: |c, _, _| unsafe { record_sound(*c) }, plain: |c, _, _| c.sound(), by_value: |c, _, _| c.sound_by_value() };
 
 const READ: Calls = Sides {
-    proved: |c, n, l| c.read(&l.memory.lend(), n, &mut l.page),
-    plain: |c, n, l| c.read(&l.memory.lend(), n, &mut l.page),
+    proved: |c, n, l| {
+        let (lent, page) = l.parts();
+        c.read(&lent, n, page)
+    },
+    plain: |c, n, l| {
+        let (lent, page) = l.parts();
+        c.read(&lent, n, page)
+    },
     by_value: |c, n, l| {
-        let (next, answer) = c.read_by_value(&l.memory.lend(), n, &mut l.page);
+        let (lent, page) = l.parts();
+        let (next, answer) = c.read_by_value(&lent, n, page);
         *c = next;
         answer
     },
 };
 
 const WRITE: Calls = Sides {
-    proved: |c, n, l| c.write(&mut l.memory.lend(), n, &l.page),
-    plain: |c, n, l| c.write(&mut l.memory.lend(), n, &l.page),
+    proved: |c, n, l| {
+        let (mut lent, page) = l.parts();
+        c.write(&mut lent, n, page)
+    },
+    plain: |c, n, l| {
+        let (mut lent, page) = l.parts();
+        c.write(&mut lent, n, page)
+    },
     by_value: |c, n, l| {
-        let (next, answer) = c.write_by_value(&mut l.memory.lend(), n, &l.page);
+        let (mut lent, page) = l.parts();
+        let (next, answer) = c.write_by_value(&mut lent, n, page);
         *c = next;
         answer
     },
 };
 
 const STEP: Calls = Sides {
-    proved: |c, _, l| c.step(&mut l.memory.lend()),
-    plain: |c, _, l| c.step(&mut l.memory.lend()),
+    proved: |c, _, l| c.step(&mut l.parts().0),
+    plain: |c, _, l| c.step(&mut l.parts().0),
     by_value: |c, _, l| {
-        let (next, answer) = c.step_by_value(&mut l.memory.lend());
+        let (next, answer) = c.step_by_value(&mut l.parts().0);
         *c = next;
         answer
     },
 };
 
 const FLUSH: Calls = Sides {
-    proved: |c, _, l| c.flush(&mut l.memory.lend()),
-    plain: |c, _, l| c.flush(&mut l.memory.lend()),
+    proved: |c, _, l| c.flush(&mut l.parts().0),
+    plain: |c, _, l| c.flush(&mut l.parts().0),
     by_value: |c, _, l| {
-        let (next, answer) = c.flush_by_value(&mut l.memory.lend());
+        let (next, answer) = c.flush_by_value(&mut l.parts().0);
         *c = next;
         answer
     },
@@ -76,41 +132,37 @@ const FLUSH: Calls = Sides {
 
 impl Bench {
     pub fn new(random: &mut Random, sizes: Sizes) -> Bench {
-        let mut memory = Memory::new(&sizes);
-        for bytes in [&mut memory.flash, &mut memory.pspace, &mut memory.bspace] {
-            bytes.iter_mut().for_each(|byte| *byte = random.below(256) as u8);
-        }
-        let page = random.bytes(sizes.page_size as usize);
-        Bench { cases: cases(random, sizes), lent: Lent { memory, page } }
+        let lent = Lent::new(random, &sizes);
+        Bench { cases: cases(random, sizes), lent }
     }
 
     pub fn sound(&mut self) -> Row {
-        Row { name: "soundness alone".into(), times: measure(&self.cases.writes[6], &mut self.lent, TIME, &SOUND) }
+        Row { name: "soundness alone".into(), times: measure(&self.cases.writes[6], &mut self.lent, TIME, Lent::place, &SOUND) }
     }
 
     /// A read that is refused for its record at once: what it costs to call.
     pub fn refused(&mut self) -> Row {
         let cases = [Case { record: Cache::blank(), n: 0 }; CASES];
         assert_eq!((READ.proved)(&mut Cache::blank(), 0, &mut self.lent), Err(Refusal::Record));
-        Row { name: "refused 4, blank record".into(), times: measure(&cases, &mut self.lent, TIME, &READ) }
+        Row { name: "refused 4, blank record".into(), times: measure(&cases, &mut self.lent, TIME, Lent::place, &READ) }
     }
 
     pub fn read(&mut self, way: u32) -> Row {
         let cases = &self.cases.reads[way as usize - 1];
         same(cases, &mut self.lent, &READ, |answer| answer == Answer::Read { way });
-        Row { name: format!("read {way}"), times: measure(cases, &mut self.lent, TIME, &READ) }
+        Row { name: format!("read {way}"), times: measure(cases, &mut self.lent, TIME, Lent::place, &READ) }
     }
 
     pub fn write(&mut self, way: u32) -> Row {
         let cases = &self.cases.writes[way as usize - 1];
         same(cases, &mut self.lent, &WRITE, |answer| matches!(answer, Answer::Write { way: gone, .. } if gone == way));
-        Row { name: format!("write {way}"), times: measure(cases, &mut self.lent, TIME, &WRITE) }
+        Row { name: format!("write {way}"), times: measure(cases, &mut self.lent, TIME, Lent::place, &WRITE) }
     }
 
     pub fn step(&mut self) -> Row {
         let cases = &self.cases.writes[6];
         same(cases, &mut self.lent, &STEP, |answer| matches!(answer, Answer::Step { .. }));
-        Row { name: "step".into(), times: measure(cases, &mut self.lent, TIME, &STEP) }
+        Row { name: "step".into(), times: measure(cases, &mut self.lent, TIME, Lent::place, &STEP) }
     }
 
     /// A few cases do: a flush is long.
@@ -126,13 +178,13 @@ impl Bench {
         });
         blocks.sort();
         let name = format!("flush of {} to {} blocks", blocks[0], blocks[blocks.len() - 1]);
-        Row { name, times: measure(cases, &mut self.lent, TIME, &FLUSH) }
+        Row { name, times: measure(cases, &mut self.lent, TIME, Lent::place, &FLUSH) }
     }
 }
 
 /// The sides answer as wanted and leave the same record. Buffers are compared on the random histories before.
 fn same(cases: &[Case], lent: &mut Lent, sides: &Calls, mut wanted: impl FnMut(Answer) -> bool) {
-    lent.memory.wear.fill(0);
+    lent.wear.fill(0);
     for case in cases {
         let (mut a, mut b, mut c) = (case.record, Plain(case.record), Plain(case.record));
         let answer = (sides.proved)(&mut a, case.n, lent);

@@ -28,7 +28,7 @@ pub fn count(v: u64) -> u32
     u64::count_ones(v)
 }
 
-// The set of the offsets below k.
+// The set of the offsets below k: the sets with no offset at k or above are those up to it.
 pub fn first(k: u32) -> u64
     requires { ⌜ k ≤ 64 ⌝ }
     ensures { λ r. ⌜ r ≡ firstBits k ⌝ }
@@ -38,12 +38,4 @@ pub fn first(k: u32) -> u64
     } else {
         (1 << k) - 1
     }
-}
-
-// Whether the set has no offset at k or above.
-pub fn within(v: u64, k: u32) -> bool
-    requires { ⌜ k ≤ 64 ⌝ }
-    ensures { λ r. ⌜ r ≡ ltb v (2 ^ k) ⌝ }
-{
-    v <= first(k)
 }

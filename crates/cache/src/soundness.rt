@@ -62,12 +62,13 @@ fn frames_ok(sizes: Sizes, frames: &[u32; 8], valid: &[u64; 8], seen: &mut [u64;
 {
     let k = sizes.pages_per_block;
     let b = sizes.frames as usize;
+    let full = bitmap::first(k);
     let mut ok = true;
     let mut f = 0;
     while f < b {
         let x = frames[f];
         let v = valid[f];
-        let held = (x < sizes.blocks) & (0 < v) & bitmap::within(v, k);
+        let held = (x < sizes.blocks) & (0 < v) & (v <= full);
         ok = ok & (((x == VACANT) & (v == 0)) | held);
         filter::lay(seen, x % 4096 * k, v);
         f += 1;

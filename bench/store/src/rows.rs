@@ -11,8 +11,8 @@ pub struct Row {
     pub times: Times,
 }
 
-/// What a call is lent: parts of longer runs of bytes, which can start somewhere else from pass to pass. Where two buffers lie to each other
-/// within 4 KiB decides how fast a page moves between them, on either side and not alike.
+/// What a call is lent: parts of longer runs of bytes, which start somewhere else in each turn. How fast a page moves depends on where the
+/// buffers lie, and not on every side alike.
 pub struct Lent {
     flash: Run,
     wear: Vec<u32>,

@@ -46,8 +46,7 @@ impl Lent {
     }
 
     fn parts(&mut self) -> (Buffers<'_>, &mut [u8]) {
-        let buffers =
-            Buffers { flash: self.flash.part(), wear: &mut self.wear, pspace: self.pspace.part(), bspace: self.bspace.part() };
+        let buffers = Buffers { flash: self.flash.part(), wear: &mut self.wear, pspace: self.pspace.part(), bspace: self.bspace.part() };
         (buffers, self.page.part())
     }
 

@@ -1,5 +1,5 @@
-/* Counts what each call copies: pages, and the record by its longest list, of 512 bytes. The linker puts the two functions below between the
- * library and the C library's. Largest page size and cache, 20,000 random calls. */
+/* Counts what each call copies: pages, which are to be those of the rule, and the record by its longest list, of 512 bytes. The linker puts the
+ * two functions below between the library and the C library's. Largest page size and cache, 20,000 random calls. */
 #include "clash.h"
 #include <stdio.h>
 #include <stdlib.h>
@@ -69,24 +69,23 @@ static long due(enum kind kind, const clash_answer *a, const clash_cache *before
 int main(void) {
     static const char *const names[KINDS] = { "", "read 1", "read 2", "read 3", "", "write 1", "write 2", "write 3", "write 4", "write 5",
         "write 6", "write 7", "step", "flush" };
-    long most[KINDS] = { 0 }, beyond[KINDS] = { 0 };
+    long most[KINDS] = { 0 }, wrong = 0;
     clash_reply reply = clash_open(sizes, LENT);
     uint32_t i, state = 1;
     for (i = 0; i < CALLS; i++) {
         clash_cache before = reply.cache;
         enum kind kind;
-        long extra;
         state = state * 1664525u + 1013904223u;
         kind = i % 1500 == 1499 ? FLUSH : i % 400 == 399 ? STEP : state >> 30 == 0 ? READ : WRITE;
         reply = call(kind, before, (state >> 8) % (i % 3 == 0 ? PAGES : i % 6 == 1 ? 2048 : 600));
         if (reply.answer.refusal != CLASH_ACCEPTED) return 1;
-        extra = moves - due(kind, &reply.answer, &before, &reply.cache);
+        wrong += moves != due(kind, &reply.answer, &before, &reply.cache);
         if (kind == READ || kind == WRITE) kind += kind == READ ? reply.answer.way - 1 : reply.answer.way;
         if (most[kind] < copies) most[kind] = copies;
-        if (labs(beyond[kind]) < labs(extra)) beyond[kind] = extra;
     }
-    puts("call     copies of the record   pages copied beyond the rule's");
+    puts("call     copies of the record");
     for (i = 1; i < KINDS; i++)
-        if (*names[i]) printf("%-8s %21ld %32ld\n", names[i], most[i], beyond[i]);
-    return 0;
+        if (*names[i]) printf("%-8s %21ld\n", names[i], most[i]);
+    printf("%d calls, %ld of them copied other pages than the rule's\n", CALLS, wrong);
+    return wrong != 0;
 }

@@ -4,6 +4,7 @@ use crate::plain::Plain;
 use crate::random::Random;
 use crate::timing::{measure, Sides, Times};
 use clash::{Answer, Buffers, Cache, Refusal, Sizes};
+use std::hint::black_box;
 use std::time::Duration;
 
 pub struct Row {
@@ -72,10 +73,19 @@ extern "C" {
     fn record_sound(cache: Cache) -> bool;
 }
 
-const SOUND: Sides<Lent, bool> =
-    Sides { proved: |c, _, _| unsafe { record_sound(*c) }, plain: |c, _, _| c.sound(), by_value: |c, _, _| c.sound_by_value() };
+const SOUND: Sides<Lent, bool> = Sides {
+    idle: |_| (),
+    proved: |c, _, _| unsafe { record_sound(*c) },
+    plain: |c, _, _| c.sound(),
+    by_value: |c, _, _| c.sound_by_value(),
+};
+
+fn lend(lent: &mut Lent) {
+    black_box(lent.parts());
+}
 
 const READ: Calls = Sides {
+    idle: lend,
     proved: |c, n, l| {
         let (lent, page) = l.parts();
         c.read(&lent, n, page)
@@ -93,6 +103,7 @@ const READ: Calls = Sides {
 };
 
 const WRITE: Calls = Sides {
+    idle: lend,
     proved: |c, n, l| {
         let (mut lent, page) = l.parts();
         c.write(&mut lent, n, page)
@@ -110,6 +121,7 @@ const WRITE: Calls = Sides {
 };
 
 const STEP: Calls = Sides {
+    idle: lend,
     proved: |c, _, l| c.step(&mut l.parts().0),
     plain: |c, _, l| c.step(&mut l.parts().0),
     by_value: |c, _, l| {
@@ -120,6 +132,7 @@ const STEP: Calls = Sides {
 };
 
 const FLUSH: Calls = Sides {
+    idle: lend,
     proved: |c, _, l| c.flush(&mut l.parts().0),
     plain: |c, _, l| c.flush(&mut l.parts().0),
     by_value: |c, _, l| {

@@ -14,22 +14,23 @@ pub struct Times {
     pub by_value: f64,
 }
 
-/// One call on each side.
+/// One call on each side, and what is done for a call on every side alike.
 pub struct Sides<L, T> {
+    pub idle: fn(&mut L),
     pub proved: fn(&mut Cache, u32, &mut L) -> T,
     pub plain: fn(&mut Plain, u32, &mut L) -> T,
     pub by_value: fn(&mut Plain, u32, &mut L) -> T,
 }
 
 /// Passes over the cases, the sides in turn, until the time is up, with what is lent placed anew before each turn. What a pass without calls
-/// takes is subtracted.
+/// takes, lending included, is subtracted.
 pub fn measure<L, T>(cases: &[Case], lent: &mut L, time: Duration, place: fn(&mut L), sides: &Sides<L, T>) -> Times {
     let plain: Vec<Case<Plain>> = cases.iter().map(|case| Case { record: Plain(case.record), n: case.n }).collect();
     let mut times: [Vec<f64>; 4] = Default::default();
     let start = Instant::now();
     while times[0].len() < 15 || start.elapsed() < time {
         place(lent);
-        times[0].push(pass(cases, lent, |_, _, _| ()));
+        times[0].push(pass(cases, lent, |_, _, lent| (sides.idle)(lent)));
         times[1].push(pass(cases, lent, sides.proved));
         times[2].push(pass(&plain, lent, sides.plain));
         times[3].push(pass(&plain, lent, sides.by_value));

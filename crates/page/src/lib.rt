@@ -96,56 +96,20 @@ fn move_bytes(dst: &mut [u8], src: &[u8])
     ensures { λ _. ⌜ now (dst .exit) ≡ now (src .entry) ⌝ }
 {
     let n = dst.len();
-    if n <= 256 {
-        return move_short(dst, src);
+    if n == 16 {
+        return move_sixteen(dst, src);
     }
     let mut t = [0u8; 2048];
     copy_bytes(&mut t[..n], src);
     copy_bytes(dst, &t[..n]);
 }
 
-// The same for at most 256 bytes. A call of memmove takes longer than 16 bytes moved in place, and than 256.
-fn move_short(dst: &mut [u8], src: &[u8])
-    requires { ⌜ (length (now dst) ≡ length (now src)) × (length (now dst) ≤ 256) ⌝ }
-    ensures { λ _. ⌜ now (dst .exit) ≡ now (src .entry) ⌝ }
-{
-    let n = dst.len();
-    if n == 16 {
-        return move_sixteen(dst, src);
-    }
-    if n > 192 {
-        return move_ends(dst, src);
-    }
-    let mut t = [0u8; 192];
-    copy_bytes(&mut t[..n], src);
-    copy_bytes(dst, &t[..n]);
-}
-
+// The same for 16 bytes, which are moved in place: a call takes longer.
 fn move_sixteen(dst: &mut [u8], src: &[u8])
     requires { ⌜ (length (now dst) ≡ 16) × (length (now src) ≡ 16) ⌝ }
     ensures { λ _. ⌜ now (dst .exit) ≡ now (src .entry) ⌝ }
 {
     let mut t = [0u8; 16];
-    copy_bytes(&mut t, src);
-    copy_bytes(dst, &t);
-}
-
-// The first 128 bytes, then the last 128, which may lie in part over the first.
-fn move_ends(dst: &mut [u8], src: &[u8])
-    requires { ⌜ (length (now dst) ≡ length (now src)) × (128 ≤ length (now dst)) × (length (now dst) ≤ 256) ⌝ }
-    ensures { λ _. ⌜ now (dst .exit) ≡ now (src .entry) ⌝ }
-{
-    let n = dst.len();
-    let a = n - 128;
-    move_half(&mut dst[..128], &src[..128]);
-    move_half(&mut dst[a..n], &src[a..n]);
-}
-
-fn move_half(dst: &mut [u8], src: &[u8])
-    requires { ⌜ (length (now dst) ≡ 128) × (length (now src) ≡ 128) ⌝ }
-    ensures { λ _. ⌜ now (dst .exit) ≡ now (src .entry) ⌝ }
-{
-    let mut t = [0u8; 128];
     copy_bytes(&mut t, src);
     copy_bytes(dst, &t);
 }

@@ -6,8 +6,8 @@ use borrow.Author.Needs.{needs}
 use Rattle.page.proofs.move_bytes.Statement.{statement}
 use Rattle.page.proofs.move_bytes.Tie as tie
 
-move-short-requires : tie.Need-move-short-requires
-move-short-requires c κs = search needs
+move-sixteen-requires : tie.Need-move-sixteen-requires
+move-sixteen-requires c κs = search needs
 
 same-length : tie.Need-same-length
 same-length c = search needs
@@ -46,7 +46,7 @@ pub move-bytes-spec : {M : Type 1} → statement M
 move-bytes-spec =
     tie.close
     (tie.spec
-    move-short-requires
+    move-sixteen-requires
     same-length
     returns
     array-borrow-prefix-t

@@ -2,14 +2,15 @@
 use mathlib.Core.Path.{_≡_, refl, sym, _∙_}
 use mathlib.Core.Bool.{true, false, cond}
 use mathlib.Core.List.{List}
-use Prim.Native.Nat.{ℕ, _+_, _*_, _/_, _%_, _^_, _≤_, _<_}
-use native.Mathlib.Nat.{add-assoc}
+use Prim.Native.Nat.{ℕ, suc, _+_, _*_, _/_, _%_, _^_, _≤_, _<_}
+use native.Mathlib.Nat.{add-assoc, mul-le-mul, mul-le-mul-right, suc-mul}
 use native.Mathlib.Omega.{arith}
-use lib.Dec.{eqb}
+use lib.Dec.{ltb, eqb}
 use lib.ListN.{length, getD}
-use borrow.Author.Tests.{eq-eqb, ne-eqb}
+use borrow.Author.Tests.{ltb-true, ltb-false, eq-eqb, ne-eqb}
 use Rattle.prelude.specs.Bits.{bit}
 use Rattle.prelude.specs.Pages.{pageAt, putPage}
+use Rattle.prelude.proofs.Tests.{by-test}
 use Rattle.prelude.proofs.Tab.{Done, done-from, done-put, done-skip, done-rest}
 use Rattle.prelude.proofs.Pages.{length-pageAt, in-run, page-at, pages-length, pages-put}
 use Rattle.model.specs.Sizes.{Sizes}
@@ -34,6 +35,21 @@ module _ (sz : Sizes) (b : ℕ) (flash stretch : List ℕ) (h : Facing sz b flas
 
     pub in-stretch : HasPage (sz .S) stretch o
     in-stretch = in-run (sz .S) (sz .K) stretch (h .stretch-length) o-lt
+
+  -- whether offset o is below K, told by the bytes before it
+  module _ (o : ℕ) where
+    pub before-fits : o ≤ sz .K → o * sz .S < 2 ^ 64
+    before-fits l = let k : o ≤ 64 = omega (arith, h .limits .K-high) in let m : o * sz .S ≤ 64 * 2048 = mul-le-mul k (h .limits .S-high) in omega arith
+
+    pub before-end : o * sz .S < length stretch → o < sz .K
+    before-end l = by-test (ltb o (sz .K))
+        (λ t. ltb-true o (sz .K) t)
+        (λ t. let e = h .stretch-length in let m = mul-le-mul-right (sz .S) (ltb-false o (sz .K) t) in absurd (omega arith))
+
+    pub at-end : length stretch ≤ o * sz .S → sz .K ≤ o
+    at-end l = by-test (ltb o (sz .K))
+        (λ t. let e = h .stretch-length in let p = h .limits .S-low in let m : suc o * sz .S ≤ sz .K * sz .S = mul-le-mul-right (sz .S) (ltb-true o (sz .K) t) in absurd (omega (arith, suc-mul o (sz .S))))
+        (λ t. ltb-false o (sz .K) t)
 
 -- ---- the merge reads
 

@@ -37,14 +37,17 @@ pub fn rewrite(
     merged
 }
 
-// The merge reads: each offset that is not in the valid set v is read from block b into a frame's stretch.
+// The merge reads: each offset that is not in the valid set v is read from block b into a frame's stretch. The end is told by
+// bytes, here and in the programming, so that the compiler does not make four page moves of one turn: their addresses do not
+// fit into the registers that a call keeps.
 fn merge(z: Sizes, flash: &[u8], b: BlockNo, stretch: &mut [u8], v: u64)
     requires { ⌜ Facing (sizesOf z) (b .0) (now flash) (now stretch) ⌝ }
     ensures { λ _. ⌜ stretchPages (sizesOf z) (now (stretch .exit)) ≡ mergedPages (sizesOf z) (now (flash .entry)) (b .0) (now (stretch .entry)) v ⌝ }
 {
     let s = z.page_size as usize;
+    let size = stretch.len();
     let mut o: u32 = 0;
-    while o < z.pages_per_block {
+    while o as usize * s < size {
         if !bitmap::has(v, o) {
             let n = address::page_of(b, o, z.pages_per_block);
             let at = o as usize;
@@ -60,8 +63,9 @@ fn program_block(z: Sizes, flash: &mut [u8], b: BlockNo, stretch: &[u8])
     ensures { λ _. ⌜ flashPages (sizesOf z) (now (flash .exit)) ≡ programmedPages (sizesOf z) (now (flash .entry)) (b .0) (now (stretch .entry)) ⌝ }
 {
     let s = z.page_size as usize;
+    let size = stretch.len();
     let mut done: u32 = 0;
-    while done < z.pages_per_block {
+    while done as usize * s < size {
         let n = address::page_of(b, done, z.pages_per_block);
         let at = done as usize;
         program_page(flash, n, stretch, at, s);

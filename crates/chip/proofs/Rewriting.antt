@@ -1,18 +1,16 @@
 -- Merge reads, erasure and programming together are the model's rewrite.
 use mathlib.Core.Path.{_≡_, sym, ap, _∙_}
 use mathlib.Core.List.{List, []}
-use Prim.Native.Nat.{ℕ, _+_, _*_, _/_, _%_, _≤_, _<_}
+use Prim.Native.Nat.{ℕ, _+_, _*_, _/_, _%_, _<_}
 use lib.Dec.{eqb}
 use lib.ListN.{length, getD, replicate, length-replicate}
 use Rattle.prelude.specs.Bits.{bit}
 use Rattle.prelude.specs.Pages.{pageAt, putPage}
 use Rattle.prelude.proofs.Tests.{by-test}
-use Rattle.prelude.proofs.Scan.{count-le}
 use Rattle.prelude.proofs.Tab.{getD-tab, tab-ext}
 use Rattle.prelude.proofs.Pages.{length-pageAt, page-at, page-put-same, block-fits, block-page, block-put}
 use Rattle.model.specs.Sizes.{Sizes}
 use Rattle.model.specs.Directory.{Directory, validAt}
-use Rattle.model.specs.Policy.{validCount}
 use Rattle.model.specs.Moves.{flashPage, programmed, merged, rewrittenPages}
 use Rattle.model.specs.Calls.{Page, zeroPage, flashPages, framePages}
 use Rattle.model.proofs.Soundness.{K-pos}
@@ -27,23 +25,21 @@ pub flash-page : (sz : Sizes) (flash : List ℕ) (ps bs : List Page) (n : ℕ) �
 unfolding flashPage
 flash-page sz flash ps bs n l = page-at (sz .S) (sz .N * sz .K) flash (zeroPage sz) n l
 
-pub valid-le : (sz : Sizes) (d : Directory) (f : ℕ) → validCount sz d f ≤ sz .K
-unfolding validCount
-valid-le sz d f = count-le (sz .K) (bit (validAt d f))
-
-module _ (sz : Sizes) (d : Directory) (b f : ℕ) (flash wear bspace : List ℕ) (h : Rewritable sz d b f flash wear bspace) where
+module _ {sz : Sizes} {v b f : ℕ} {flash wear bspace : List ℕ} (h : Rewritable sz v b f flash wear bspace) where
   pub in-bspace : HasPage (sz .K * sz .S) bspace f
   in-bspace = block-fits (sz .S) (sz .K) (sz .B) bspace (h .bspace-length) f (h .f-lt)
 
+-- d is any directory whose frame f has the valid set v
+module _ (sz : Sizes) (v b f : ℕ) (flash wear bspace : List ℕ) (h : Rewritable sz v b f flash wear bspace) (d : Directory) (valid-is : validAt d f ≡ v) where
   abbrev page : ℕ → Page
   page = merged (zeroPage sz) sz d (chipMemory sz flash bspace) b f
 
   -- a page that the merge reads leave in the frame's stretch
-  page-is : (o : ℕ) → o < sz .K → mergedPage sz flash b (pageAt (sz .K * sz .S) bspace f) (validAt d f) o ≡ page o
+  page-is : (o : ℕ) → o < sz .K → mergedPage sz flash b (pageAt (sz .K * sz .S) bspace f) v o ≡ page o
   unfolding mergedPage merged chipMemory
-  page-is o l = by-test (bit (validAt d f) o)
-      (λ t. rw t (sym (page-at (sz .S) (sz .K) _ (zeroPage sz) o l) ∙ block-page (sz .S) (sz .K) (sz .B) bspace (h .bspace-length) (zeroPage sz) f o (h .f-lt) l))
-      (λ t. rw t (sym (flash-page sz flash _ _ (b * sz .K + o) (page-lt sz (h .limits) b o (h .b-lt) l))))
+  page-is o l = by-test (bit v o)
+      (λ t. rw (valid-is, t) (sym (page-at (sz .S) (sz .K) _ (zeroPage sz) o l) ∙ block-page (sz .S) (sz .K) (sz .B) bspace (h .bspace-length) (zeroPage sz) f o (h .f-lt) l))
+      (λ t. rw (valid-is, t) (sym (flash-page sz flash _ _ (b * sz .K + o) (page-lt sz (h .limits) b o (h .b-lt) l))))
 
   -- the part of b-space that is lent, and what comes back in it
   module _ (size : ℕ) (size-is : size ≡ sz .K * sz .S) where
@@ -55,9 +51,9 @@ module _ (sz : Sizes) (d : Directory) (b f : ℕ) (flash wear bspace : List ℕ)
 
     -- the stretch after the merge reads
     module _ (stretch : List ℕ) (kept : length stretch ≡ length (part size bspace f))
-        (reads : stretchPages sz stretch ≡ mergedPages sz flash b (part size bspace f) (validAt d f)) where
+        (reads : stretchPages sz stretch ≡ mergedPages sz flash b (part size bspace f) v) where
       long : length stretch ≡ sz .K * sz .S
-      long = kept ∙ ap length (part-is bspace) ∙ length-pageAt (sz .K * sz .S) bspace f in-bspace
+      long = kept ∙ ap length (part-is bspace) ∙ length-pageAt (sz .K * sz .S) bspace f (in-bspace h)
 
       stretch-page : (n : ℕ) → pageAt (sz .S) stretch (n % sz .K) ≡ page (n % sz .K)
       stretch-page n = let l = offset-lt sz (h .limits) n in
@@ -85,7 +81,7 @@ module _ (sz : Sizes) (d : Directory) (b f : ℕ) (flash wear bspace : List ℕ)
           → chipMemory sz flash₂ (putPart size bspace f stretch) ≡ rewrittenPages (zeroPage sz) sz d (chipMemory sz flash bspace) b f
       unfolding chipMemory rewrittenPages
       rewritten-is flash₁ wear₁ flash₂ erased programs =
-          let back : part size (putPart size bspace f stretch) f ≡ stretch = part-is _ ∙ rw (put-is stretch) (page-put-same (sz .K * sz .S) bspace f stretch in-bspace long) in
+          let back : part size (putPart size bspace f stretch) f ≡ stretch = part-is _ ∙ rw (put-is stretch) (page-put-same (sz .K * sz .S) bspace f stretch (in-bspace h) long) in
           let p = rw (erased .flash-is, back) at programs ∙ flash-is (replicate (sz .K * sz .S) 255) (length-replicate _ _) in
           let q = ap (framePages sz) (put-is stretch) ∙ bspace-is in
           λ i. record { flash = p i; pspace = []; bspace = q i }

@@ -59,10 +59,10 @@ pub record Erased (sz : Sizes) (b : ℕ) (flash wear flash′ wear′ : List ℕ
 unfoldable pub chipMemory : Sizes → List ℕ → List ℕ → Memory Page
 chipMemory sz flash bspace = record { flash = flashPages sz flash; pspace = []; bspace = framePages sz bspace }
 
--- the frame's valid pages are of a block, the buffers in their sizes, and the block is not worn
-pub record Rewritable (sz : Sizes) (d : Directory) (b f : ℕ) (flash wear bspace : List ℕ) : Type 0 where
+-- the valid set v is of pages of a block, the buffers are in their sizes, and the block is not worn
+pub record Rewritable (sz : Sizes) (v b f : ℕ) (flash wear bspace : List ℕ) : Type 0 where
   pub limits : InLimits sz
-  pub valid-lt : validAt d f < 2 ^ sz .K
+  pub valid-lt : v < 2 ^ sz .K
   pub b-lt : b < sz .N
   pub f-lt : f < sz .B
   pub flash-length : length flash ≡ sz .N * sz .K * sz .S
@@ -70,8 +70,8 @@ pub record Rewritable (sz : Sizes) (d : Directory) (b f : ℕ) (flash wear bspac
   pub bspace-length : length bspace ≡ sz .B * sz .K * sz .S
   pub unworn : getD wear b 0 < sz .W
 
--- the merge reads, the pages of flash and of the frame's own stretch, and the wear are the model's
-pub record Rewritten (sz : Sizes) (d : Directory) (b f : ℕ) (flash wear bspace : List ℕ) (reads : ℕ) (flash′ wear′ bspace′ : List ℕ) : Type 0 where
-  pub reads-are : reads ≡ mergeReads sz d f
-  pub pages-are : chipMemory sz flash′ bspace′ ≡ rewrittenPages (zeroPage sz) sz d (chipMemory sz flash bspace) b f
+-- the merge reads, the pages of flash and of the frame's own stretch, and the wear are the model's, for every directory whose frame f has the valid set v
+pub record Rewritten (sz : Sizes) (v b f : ℕ) (flash wear bspace : List ℕ) (reads : ℕ) (flash′ wear′ bspace′ : List ℕ) : Type 0 where
+  pub reads-are : (d : Directory) → validAt d f ≡ v → reads ≡ mergeReads sz d f
+  pub pages-are : (d : Directory) → validAt d f ≡ v → chipMemory sz flash′ bspace′ ≡ rewrittenPages (zeroPage sz) sz d (chipMemory sz flash bspace) b f
   pub wear-is : wear′ ≡ worn wear b

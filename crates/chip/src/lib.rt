@@ -3,30 +3,28 @@ use address::BlockNo;
 use address::PageNo;
 use cache::Sizes;
 ghost use mathlib.Core.Path.{_≡_};
-ghost use mathlib.Core.List.{[]};
 ghost use Prim.Native.Nat.{_*_, _≤_};
 ghost use Rattle.prelude.specs.Pages.{pageAt, putPage};
 ghost use Rattle.model.specs.Sizes.{InLimits};
 ghost use Rattle.model.specs.Calls.{flashPages};
-ghost use Rattle.cache.specs.View.{sizesOf, numbers};
+ghost use Rattle.cache.specs.View.{sizesOf};
 ghost use Rattle.page.specs.Page.{HasPage};
 ghost use Rattle.chip.specs.Chip.{Facing, stretchPages, mergedPages, programmedPages, Erasable, Erased, Rewritable, Rewritten};
 
-// Frame f of block b is rewritten: merge reads into the frame's own stretch of b-space, erasure, all pages programmed.
+// Frame f of block b, with the valid set v, is rewritten: merge reads into the frame's own stretch of b-space, erasure, all pages programmed.
 // Answers the number of merge reads.
 pub fn rewrite(
     z: Sizes,
-    valid: &[u64; 8],
+    v: u64,
     flash: &mut [u8],
     wear: &mut [u32],
     bspace: &mut [u8],
     b: BlockNo,
     f: usize,
 ) -> u32
-    requires { ⌜ Rewritable (sizesOf z) (numbers [] [] (now valid) []) (b .0) f (now flash) (now wear) (now bspace) ⌝ }
-    ensures { λ r. ⌜ Rewritten (sizesOf z) (numbers [] [] (now (valid .entry)) []) (b .0) f (now (flash .entry)) (now (wear .entry)) (now (bspace .entry)) r (now (flash .exit)) (now (wear .exit)) (now (bspace .exit)) ⌝ }
+    requires { ⌜ Rewritable (sizesOf z) v (b .0) f (now flash) (now wear) (now bspace) ⌝ }
+    ensures { λ r. ⌜ Rewritten (sizesOf z) v (b .0) f (now (flash .entry)) (now (wear .entry)) (now (bspace .entry)) r (now (flash .exit)) (now (wear .exit)) (now (bspace .exit)) ⌝ }
 {
-    let v = valid[f];
     let merged = z.pages_per_block - bitmap::count(v);
     let size = block_size(z);
     let a = f * size;

@@ -1,19 +1,18 @@
--- The cleaning of one block: a join, a rewrite and the frame vacated.
+-- The cleaning of one block: a join, the frame vacated and a rewrite.
 use mathlib.Core.Path.{_≡_, refl, sym, ap, _∙_}
-use mathlib.Core.List.{List, []}
+use mathlib.Core.List.{List}
 use Prim.Native.Nat.{ℕ, _<_}
 use native.Mathlib.Omega.{arith}
 use lib.ListN.{length}
 use Rattle.model.specs.Sizes.{Sizes}
-use Rattle.model.specs.Directory.{Directory}
+use Rattle.model.specs.Directory.{Directory, validAt}
 use Rattle.model.specs.Soundness.{Sound}
-use Rattle.model.specs.Policy.{validCount, mergeReads, due}
+use Rattle.model.specs.Policy.{due}
 use Rattle.model.specs.Moves.{Memory, flashPage, joined, filled, joinedPages, vacated, merged, rewrittenPages, stepped, steppedPages}
 use Rattle.model.specs.Calls.{Page, zeroPage, flashPages, slotPages, memoryOf}
 use Rattle.model.proofs.Kept.{joined-sound}
 use Rattle.model.proofs.Steps.{wornBy-is}
 use Rattle.model.proofs.Plan.{valid-low}
-use Rattle.cache.specs.View.{numbers}
 use Rattle.answer.specs.Carried.{buffers}
 use Rattle.moves.specs.Spaces.{spaces, Joined}
 use Rattle.chip.specs.Chip.{chipMemory, Rewritable, Rewritten}
@@ -26,7 +25,7 @@ module _ {sz : Sizes} {d : Directory} {flash wear pspace bspace : List ℕ} {b f
   pub joined-is-sound : (d₁ : Directory) → d₁ ≡ joined sz d b f → Sound sz d₁
   joined-is-sound d₁ e = let y = q .block in rw e (joined-sound sz d (q .ready .sound) b f (y .f-lt) (y .b-lt) (y .sole) (y .some))
 
-  pub rewritable : (d₁ : Directory) (bspace₁ : List ℕ) → Sound sz d₁ → length bspace₁ ≡ length bspace → Rewritable sz (numbers [] [] (d₁ .valid) []) b f flash wear bspace₁
+  pub rewritable : (d₁ : Directory) (bspace₁ : List ℕ) → Sound sz d₁ → length bspace₁ ≡ length bspace → Rewritable sz (validAt d₁ f) b f flash wear bspace₁
   rewritable d₁ bspace₁ s l = let y = q .block in let fits = q .ready .fits in record {
     limits = q .ready .sound .limits;
     valid-lt = valid-low sz d₁ s f (y .f-lt);
@@ -48,12 +47,12 @@ module _ {sz : Sizes} {d : Directory} {flash wear pspace bspace : List ℕ} {b f
       ap (λ (m : Memory Page). record { flash = m .flash; pspace = slotPages sz pspace; bspace = m .bspace }) r ∙ ap pages (j .pages)
 
   pub cleaned : (d₁ : Directory) (bspace₁ : List ℕ) → Joined sz d b f pspace bspace d₁ bspace₁
-      → (reads : ℕ) (flash′ wear′ bspace′ : List ℕ) → Rewritten sz (numbers [] [] (d₁ .valid) []) b f flash wear bspace₁ reads flash′ wear′ bspace′
+      → (reads : ℕ) (flash′ wear′ bspace′ : List ℕ) → Rewritten sz (validAt d₁ f) b f flash wear bspace₁ reads flash′ wear′ bspace′
       → BlockCleaned sz d (buffers flash wear pspace bspace) b f (vacated d₁ f) reads (buffers flash′ wear′ pspace bspace′)
-  unfolding stepped memoryOf validCount rewrittenPages merged
-  cleaned d₁ bspace₁ j reads flash′ wear′ bspace′ r = let same = j .directory in record {
+  unfolding stepped memoryOf
+  cleaned d₁ bspace₁ j reads flash′ wear′ bspace′ r = let same = j .directory in let set-is = sym (ap (λ (x : Directory). validAt x f) same) in record {
     directory-is = ap (λ (x : Directory). vacated x f) same;
-    reads-are = r .reads-are ∙ ap (λ (x : Directory). mergeReads sz x f) same;
+    reads-are = r .reads-are (joined sz d b f) set-is;
     wear-is = r .wear-is ∙ sym (wornBy-is sz (q .ready .sound .limits) wear b (q .block .b-lt));
-    pages-are = rewritten-joined bspace₁ flash′ bspace′ (record { directory = refl; pages = j .pages }) (r .pages-are ∙ ap (λ (x : Directory). rewrittenPages (zeroPage sz) sz x (chipMemory sz flash bspace₁) b f) same);
+    pages-are = rewritten-joined bspace₁ flash′ bspace′ (record { directory = refl; pages = j .pages }) (r .pages-are (joined sz d b f) set-is);
   }

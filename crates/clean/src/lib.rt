@@ -7,7 +7,7 @@ ghost use Rattle.answer.specs.Carried.{buffers};
 ghost use Rattle.cache.specs.View.{sizesOf, numbers};
 ghost use Rattle.clean.specs.Clean.{Cleanable, BlockCleaned};
 
-// Block b's pages in slots join frame f, and the frame is rewritten and vacated. Answers the number of merge reads.
+// Block b's pages in slots join frame f, and the frame is vacated and rewritten: a rewrite needs only its valid set. Answers the number of merge reads.
 pub fn clean_block(
     z: Sizes,
     slots: &mut [u32; 128],
@@ -25,8 +25,8 @@ pub fn clean_block(
     ensures { λ r. ⌜ BlockCleaned (sizesOf z) (numbers (now (slots .entry)) (now (frames .entry)) (now (valid .entry)) (now (recency .entry))) (buffers (now (flash .entry)) (now (wear .entry)) (now (pspace .entry)) (now (bspace .entry))) (b .0) f (numbers (now (slots .exit)) (now (frames .exit)) (now (valid .exit)) (now (recency .entry))) r (buffers (now (flash .exit)) (now (wear .exit)) (now (pspace .entry)) (now (bspace .exit))) ⌝ }
 {
     join::join(z, slots, frames, valid, recency, pspace, bspace, b, f);
-    let merged = chip::rewrite(z, valid, flash, wear, bspace, b, f);
+    let v = valid[f];
     frames[f] = VACANT;
     valid[f] = 0;
-    merged
+    chip::rewrite(z, v, flash, wear, bspace, b, f)
 }

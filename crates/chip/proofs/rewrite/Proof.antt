@@ -1,37 +1,31 @@
 use mathlib.Core.Path.{_≡_, ap, _∙_}
-use mathlib.Core.List.{[]}
 use Prim.Native.Nat.{ℕ, _-_}
 use native.Mathlib.Omega.{arith}
 use borrow.Author.Needs.{needs}
+use Rattle.prelude.specs.Scan.{count}
+use Rattle.prelude.specs.Bits.{bit}
+use Rattle.prelude.proofs.Scan.{count-le}
 use Rattle.prelude.proofs.Bits.{count-within}
 use Rattle.model.specs.Policy.{validCount}
-use Rattle.cache.specs.View.{sizesOf, numbers}
 use Rattle.page.specs.Page.{HasPage}
-use Rattle.chip.proofs.Rewriting.{valid-le, in-bspace, rewritten-is}
+use Rattle.chip.proofs.Rewriting.{in-bspace, rewritten-is}
 use Rattle.chip.proofs.rewrite.Statement.{statement}
 use Rattle.chip.proofs.rewrite.Tie as tie
 
 abbrev start : tie.After-count → tie.Start
-start c = c .before .before .before .before .before
+start c = c .before .before .before .before
 
-counted : (c : tie.After-count) → c .count .result ≡ validCount (sizesOf (start c .args .z)) (numbers [] [] (start c .args .valid .now) []) (start c .args .f)
-unfolding validCount
+counted : (c : tie.After-count) → c .count .result ≡ count (start c .args .z .«pages_per_block») (bit (start c .args .v))
 counted c = c .count .ensures ∙ count-within (start c .args .z .«pages_per_block») 64 _ (start c .pre .valid-lt) (start c .pre .limits .K-high)
 
 fits : (c : tie.After-block-size) → HasPage (c .block-size .result) (start (c .before .before) .args .bspace .now) (start (c .before .before) .args .f)
-fits c = rw (c .block-size .ensures) (in-bspace _ _ _ _ _ _ _ (start (c .before .before) .pre))
-
-mul-v : tie.Need-mul-v
-mul-v c = search needs
-
-element-copy-out-v : tie.Need-element-copy-out-v
-element-copy-out-v c = search needs
+fits c = rw (c .block-size .ensures) (in-bspace (start (c .before .before) .pre))
 
 count-requires : tie.Need-count-requires
 count-requires c κs = search needs
 
 sub-merged : tie.Need-sub-merged
-sub-merged c = rw (counted (c .before)) (valid-le _ _ _)
+sub-merged c = rw (counted (c .before)) (count-le _ _)
 
 block-size-requires : tie.Need-block-size-requires
 block-size-requires c κs = search needs
@@ -81,6 +75,7 @@ same-length-3 : tie.Need-same-length-3
 same-length-3 c = search needs
 
 returns : tie.Need-returns
+unfolding validCount
 returns c =
     let programs = c .before .before in
     let erased = programs .before .before .before .before .before .before .before .before in
@@ -88,8 +83,8 @@ returns c =
     let sized = programs .before .before .before .before .before .before .before .before .before .before .before .before .before .before .before .before in
     let at = sized .before .before in
     record {
-      reads-are = ap (λ (x : ℕ). start at .args .z .«pages_per_block» - x) (counted at);
-      pages-are = rewritten-is _ _ _ _ _ _ _ (start at .pre) _ (sized .block-size .ensures) _ (reads .merge .kept .1 .1 .1 .0) (reads .merge .ensures) _ _ _ (erased .erase .ensures) (programs .program-block .ensures);
+      reads-are = λ d e. rw e (ap (λ (x : ℕ). start at .args .z .«pages_per_block» - x) (counted at));
+      pages-are = λ d e. rewritten-is _ _ _ _ _ _ _ (start at .pre) d e _ (sized .block-size .ensures) _ (reads .merge .kept .1 .1 .1 .0) (reads .merge .ensures) _ _ _ (erased .erase .ensures) (programs .program-block .ensures);
       wear-is = erased .erase .ensures .wear-is;
     }
 
@@ -97,8 +92,6 @@ pub rewrite-spec : {M : Type 1} → statement M
 rewrite-spec =
     tie.close
     (tie.spec
-    mul-v
-    element-copy-out-v
     count-requires
     sub-merged
     block-size-requires

@@ -11,23 +11,29 @@ start c = c .before .before .before .before .before .before .before .before .bef
 join-requires : tie.Need-join-requires
 join-requires c κs = search needs
 
+mul-v : tie.Need-mul-v
+mul-v c = let l = frame-small (start (c .before .before) .pre) in record { fits = omega arith }
+
+element-copy-out-v : tie.Need-element-copy-out-v
+element-copy-out-v c = frame-small (start (c .before .before) .pre)
+
+mul-frames : tie.Need-mul-frames
+mul-frames c = let l = frame-small (start (c .before .before .before) .pre) in record { fits = omega arith }
+
+element-write-frames : tie.Need-element-write-frames
+element-write-frames c = frame-small (start (c .before .before .before) .pre)
+
+mul-valid : tie.Need-mul-valid
+mul-valid c = let l = frame-small (start (c .before .before .before) .pre) in record { fits = omega arith }
+
+element-write-valid : tie.Need-element-write-valid
+element-write-valid c = frame-small (start (c .before .before .before) .pre)
+
 rewrite-requires : tie.Need-rewrite-requires
 rewrite-requires c κs =
     let at = c .before .before .before .before .before .before in
     let sound = joined-is-sound (start at .pre) _ (at .join .ensures .directory) in
     rewritable (start at .pre) _ _ sound (at .join .kept .1 .1 .1 .1 .1 .1 .0)
-
-mul-frames : tie.Need-mul-frames
-mul-frames c = let l = frame-small (start (c .before .before .before .before .before .before .before .before .before .before .before .before .before) .pre) in record { fits = omega arith }
-
-element-write-frames : tie.Need-element-write-frames
-element-write-frames c = frame-small (start (c .before .before .before .before .before .before .before .before .before .before .before .before .before) .pre)
-
-mul-valid : tie.Need-mul-valid
-mul-valid c = let l = frame-small (start (c .before .before .before .before .before .before .before .before .before .before .before .before .before) .pre) in record { fits = omega arith }
-
-element-write-valid : tie.Need-element-write-valid
-element-write-valid c = frame-small (start (c .before .before .before .before .before .before .before .before .before .before .before .before .before) .pre)
 
 same-length : tie.Need-same-length
 same-length c = search needs
@@ -47,11 +53,13 @@ clean-block-spec =
     tie.close
     (tie.spec
     join-requires
-    rewrite-requires
+    mul-v
+    element-copy-out-v
     mul-frames
     element-write-frames
     mul-valid
     element-write-valid
+    rewrite-requires
     same-length
     same-length-2
     same-length-3

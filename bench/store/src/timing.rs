@@ -22,21 +22,42 @@ pub struct Sides<L, T> {
     pub by_value: fn(&mut Plain, u32, &mut L) -> T,
 }
 
-/// Passes over the cases, the sides in turn, until the time is up, with what is lent placed anew before each turn. What a pass without calls
-/// takes, lending included, is subtracted.
+/// Passes over the cases, the sides in turn, until the time is up. Each turn begins with another side, what is lent is placed anew before it,
+/// and the calls are made from another depth of the stack. What a pass without calls takes, lending included, is subtracted.
 pub fn measure<L, T>(cases: &[Case], lent: &mut L, time: Duration, place: fn(&mut L), sides: &Sides<L, T>) -> Times {
     let plain: Vec<Case<Plain>> = cases.iter().map(|case| Case { record: Plain(case.record), n: case.n }).collect();
     let mut times: [Vec<f64>; 4] = Default::default();
     let start = Instant::now();
-    while times[0].len() < 15 || start.elapsed() < time {
+    for turn in 0.. {
+        if turn >= 15 && start.elapsed() >= time {
+            break;
+        }
         place(lent);
-        times[0].push(pass(cases, lent, |_, _, lent| (sides.idle)(lent)));
-        times[1].push(pass(cases, lent, sides.proved));
-        times[2].push(pass(&plain, lent, sides.plain));
-        times[3].push(pass(&plain, lent, sides.by_value));
+        for side in (0..4).map(|i| (turn + i) % 4) {
+            times[side].push(deeper(turn % DEPTHS, &mut || match side {
+                0 => pass(cases, lent, |_, _, lent| (sides.idle)(lent)),
+                1 => pass(cases, lent, sides.proved),
+                2 => pass(&plain, lent, sides.plain),
+                _ => pass(&plain, lent, sides.by_value),
+            }));
+        }
     }
     let [idle, proved, plain, by_value] = times.map(median);
     Times { proved: proved - idle, plain: plain - idle, by_value: by_value - idle }
+}
+
+/// A level takes an odd multiple of 16 bytes, so that the calls' frames come to lie at each multiple of 16 bytes in a page of memory.
+const DEPTHS: usize = 256;
+
+/// Calls f from that many levels further down the stack.
+#[inline(never)]
+fn deeper(levels: usize, f: &mut dyn FnMut() -> f64) -> f64 {
+    let mut room = [0u8; 16];
+    black_box(&mut room);
+    if levels == 0 {
+        return f();
+    }
+    deeper(levels - 1, f)
 }
 
 /// The time of one call, over a pass. It works on fresh copies of the records, made before its time starts.

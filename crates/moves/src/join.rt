@@ -63,13 +63,14 @@ fn take(
     let mut v = valid[f];
     let mut i = 0;
     while i < p {
-        let o = numbers::offset_in(PageNo(slots[i]), b, z.pages_per_block);
-        if o < z.pages_per_block {
+        i = numbers::next_of(z, slots, b, i);
+        if i < p {
+            let o = numbers::offset_in(PageNo(slots[i]), b, z.pages_per_block);
             page::copy_page(frame, o as usize, pspace, i, s);
             v = bitmap::with(v, o);
             slots[i] = VACANT;
+            i += 1;
         }
-        i += 1;
     }
     frames[f] = b.0;
     valid[f] = v;

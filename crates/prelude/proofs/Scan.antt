@@ -1,5 +1,5 @@
 -- Laws of the scans over numbers below a bound.
-use mathlib.Core.Path.{_≡_, refl, sym, ap, _∙_}
+use mathlib.Core.Path.{_≡_, refl, sym, ap, subst, _∙_}
 use mathlib.Core.Bool.{Bool, true, false, not, cond, _&&_, _||_}
 use Prim.Native.Nat.{ℕ, zero, suc, _+_, _-_, _≤_, _<_}
 use native.Mathlib.Nat.{not-suc-le-zero}
@@ -66,6 +66,13 @@ all-both n p q = same-test
     (λ h. and-i (all-of n p (λ i l. and-l (p i) (q i) (all-at n (λ j. p j && q j) h i l))) (all-of n q (λ i l. and-r (p i) (q i) (all-at n (λ j. p j && q j) h i l))))
     (λ h. all-of n (λ i. p i && q i) (λ i l. and-i (all-at n p (and-l (all n p) (all n q) h) i l) (all-at n q (and-r (all n p) (all n q) h) i l)))
 
+-- what each number from i on, below n, hands on to the next
+pub handed-on : (T : ℕ → Type 0) (i n : ℕ) → i ≤ n → ((j : ℕ) → i ≤ j → j < n → T j → T (j + 1)) → T i → T n
+handed-on T i zero l h t = let e : i ≡ 0 = omega arith in subst T e t
+handed-on T i (suc n) l h t = by-test (eqb i (suc n))
+    (λ q. subst T (eqb-true i (suc n) q) t)
+    (λ q. let ne = eqb-false i (suc n) q in subst T (add-one n) (h n (omega arith) (omega arith) (handed-on T i n (omega arith) (λ j a b. h j a (omega arith)) t)))
+
 -- ---- first
 
 pub record First (i n : ℕ) (p : ℕ → Bool) (r : ℕ) : Type 0 where
@@ -87,6 +94,14 @@ firstFrom-is i (suc n) p = by-test (p i)
           (λ q. rw (eqb-true j i q) e)
           (λ q. h .miss j (let z = eqb-false j i q in omega arith) b);
     }))
+
+-- these facts tell which one it is
+pub from-is : (i n : ℕ) (p : ℕ → Bool) (r : ℕ) → First i n p r → r ≡ firstFrom i n p
+from-is i n p r h = let f = firstFrom-is i n p in by-test (ltb r (firstFrom i n p))
+    (λ t. let l = ltb-true r (firstFrom i n p) t in clash (h .hit (omega arith)) (f .miss r (h .low) l))
+    (λ t. let l = ltb-false r (firstFrom i n p) t in by-test (ltb (firstFrom i n p) r)
+    (λ u. let k = ltb-true (firstFrom i n p) r u in clash (f .hit (omega arith)) (h .miss (firstFrom i n p) (f .low) k))
+    (λ u. let k = ltb-false (firstFrom i n p) r u in omega arith))
 
 module _ (n : ℕ) (p : ℕ → Bool) where
   pub first-le : first n p ≤ n

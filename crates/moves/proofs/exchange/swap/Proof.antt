@@ -125,9 +125,9 @@ loop-again c =
     let pl = so .limits .P-high in let ih : i < 128 = omega arith in let rule = givenSlot sz d b f in
     let psl : length (l .pspace) ≡ sz .P * sz .S = l .inv .1 ∙ s .pre .fills .pspace-long in
     let frl : length (l .frame) ≡ sz .K * sz .S = l .inv .2 ∙ s .pre .fills .stretch-long in
-    let e : o ≡ offsetIn (sz .K) b (slotAt d i) = c .before .before .offset-in .ensures ∙ ap (offsetIn (sz .K) b) (regiven-read sz d so b rule i (l .slots) ih (l .inv .6)) in
+    let e : o ≡ offsetIn (sz .K) b (slotAt d i) = c .before .before .offset-in .ensures ∙ ap (offsetIn (sz .K) b) (regiven-read sz d so b rule i i (l .slots) (omega arith) ih (l .inv .6)) in
     elim (c .if1 .came) [
-      | inl w ↦ let h = offset-own sz d so b i o e (w .0 .taken) in let x = w .5 in
+      | inl w ↦ let h = offset-own sz d (so .limits) b i o e (w .0 .taken) in let x = w .5 in
           let pick : (w .2 .n ≡ taken sz d b f i) × Cursor sz d b f (w .2 .at) (i + 1) = elim (w .2 .came) [
             | inl v ↦ let m = met d f o (slotAt d i % sz .K) _ _ (w .1 .ensures) (h .1) (not-t (v .0 .taken)) in let n = v .1 .ensures ∙ left-is sz d b f (s .args .new) (l .at) (s .pre .new-is) (l .inv .5 .low) in
                 (v .4 ∙ cursor-taken sz d b f (l .at) i _ (l .inv .5) n (h .0) m, rw (v .3) (cursor-next sz d b f (l .at) i _ (l .inv .5) n _ (spare-not sz d b f i (h .0) m) (v .2 .ensures)))
@@ -144,7 +144,7 @@ loop-again c =
             rw (w .14) (pick .1),
             rw (w .11) (regiven-put sz d so b rule i (l .slots) (w .10 .result) ih (h .0) (gives sz d b f i _ _ (pick .0) (w .10 .ensures)) (l .inv .6)),
           )
-      | inr w ↦ let h = offset-out sz d so b i o e (w .0 .left) in (
+      | inr w ↦ let h = offset-out sz d (so .limits) b i o e (w .0 .left) in (
         omega arith,
         ap length (w .2) ∙ l .inv .1,
         ap length (w .3) ∙ l .inv .2,

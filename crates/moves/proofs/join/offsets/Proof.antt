@@ -51,10 +51,10 @@ loop-again c =
     elim (c .if1 .came) [
       | inl w ↦ (
         omega arith,
-        λ q. let h = offset-own sz (d q) (q .sound) b i o e (w .0 .taken) in
+        λ q. let h = offset-own sz (d q) (q .sound .limits) b i o e (w .0 .taken) in
             rw (w .2 ∙ w .1 .ensures ∙ ap (withBit (l .v)) (h .1)) (gathered-with sz (d q) (q .sound) b (s .args .old) i (l .v) il (h .0) (l .inv .1 q)),
       )
-      | inr w ↦ (omega arith, λ q. rw (w .1) (gathered-skip sz (d q) (q .sound) b (s .args .old) (q .block-lt) i (l .v) il (offset-out sz (d q) (q .sound) b i o e (w .0 .left)) (l .inv .1 q)))
+      | inr w ↦ (omega arith, λ q. rw (w .1) (gathered-skip sz (d q) (q .sound) b (s .args .old) (q .block-lt) i (l .v) il (offset-out sz (d q) (q .sound .limits) b i o e (w .0 .left)) (l .inv .1 q)))
     ]
 
 returns : tie.Need-returns Inv-loop μ-loop

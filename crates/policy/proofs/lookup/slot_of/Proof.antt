@@ -5,9 +5,9 @@ use lib.Dec.{eqb}
 use lib.ListN.{getD}
 use borrow.Author.Count.{below-more}
 use borrow.Author.Tests.{eq-eqb, ne-eqb}
-use Rattle.prelude.proofs.Tests.{not-t}
-use Rattle.prelude.proofs.Scan.{Missed, all-at, first-is}
+use Rattle.prelude.proofs.Scan.{Missed, first-is}
 use Rattle.model.specs.Policy.{slotOf}
+use Rattle.cache.proofs.Among.{among-one}
 use Rattle.policy.proofs.lookup.slot_of.Statement.{statement}
 use Rattle.policy.proofs.lookup.slot_of.Tie as tie
 
@@ -21,10 +21,10 @@ cast-end : tie.Need-cast-end Inv-loop μ-loop
 cast-end c = search needs
 
 passed-requires : tie.Need-passed-requires Inv-loop μ-loop
-passed-requires c κs = search needs
+passed-requires c κs = (search needs, search needs)
 
 loop-holds : tie.Need-loop-holds Inv-loop μ-loop
-loop-holds c j l = not-t (all-at _ _ (c .passed .ensures) j l)
+loop-holds c j l = among-one _ _ (c .passed .ensures .1 j (omega arith) l)
 
 mul-if1 : tie.Need-mul-if1 Inv-loop μ-loop
 mul-if1 c = search needs

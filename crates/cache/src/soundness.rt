@@ -46,8 +46,10 @@ pub fn lists_sound(
         return false;
     }
     let mut seen = [0u64; 64];
-    frames_ok(sizes, frames, valid, &mut seen)
-        & frames_apart(sizes, frames)
+    if !frames_ok(sizes, frames, valid, &mut seen) {
+        return false;
+    }
+    frames_apart(sizes, frames)
         & order_ok(sizes, recency)
         & frames_past(sizes, frames, valid, recency)
         & slots_ok(sizes, slots, frames, valid, &mut seen)
@@ -55,7 +57,7 @@ pub fn lists_sound(
 }
 
 // Each frame below B is vacant with no valid page, or holds a block and valid pages of it. The valid pages go into the
-// filter; a vacant frame has none, and needs no branch.
+// filter.
 fn frames_ok(sizes: Sizes, frames: &[u32; 8], valid: &[u64; 8], seen: &mut [u64; 64]) -> bool
     requires { ⌜ InLimits (sizesOf sizes) × (length (now seen) ≡ 64) ⌝ }
     ensures { λ r. ⌜ FramesTested (sizesOf sizes) (numbers [] (now (frames .entry)) (now (valid .entry)) []) (now (seen .exit)) r ⌝ }
@@ -63,17 +65,23 @@ fn frames_ok(sizes: Sizes, frames: &[u32; 8], valid: &[u64; 8], seen: &mut [u64;
     let k = sizes.pages_per_block;
     let b = sizes.frames as usize;
     let full = bitmap::first(k);
-    let mut ok = true;
     let mut f = 0;
     while f < b {
         let x = frames[f];
         let v = valid[f];
-        let held = (x < sizes.blocks) & (0 < v) & (v <= full);
-        ok = ok & (((x == VACANT) & (v == 0)) | held);
-        filter::lay(seen, x % 4096 * k, v);
+        if x == VACANT {
+            if v != 0 {
+                return false;
+            }
+        } else {
+            if (sizes.blocks <= x) | (v == 0) | (full < v) {
+                return false;
+            }
+            filter::lay(seen, x % 4096 * k, v);
+        }
         f += 1;
     }
-    ok
+    true
 }
 
 // No block stands in two frames. Frames whose blocks have different remainders by 64 are not compared.

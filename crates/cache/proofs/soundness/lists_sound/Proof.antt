@@ -30,41 +30,45 @@ returns c = rw (sym (c .before .ok .ensures) ∙ not-t (c .if1 .taken))
 frames-ok-requires : tie.Need-frames-ok-requires
 frames-ok-requires c κs = (limits (c .before), refl)
 
+returns-2 : tie.Need-returns-2
+unfolding frameOk
+returns-2 c =
+    let a = c .before .before .before .before .before .args in
+    let d = numbers (a .slots .now) (a .frames .now) (a .valid .now) (a .recency .now) in
+    rw (sym (c .before .frames-ok .ensures .answer) ∙ not-t (c .if2 .taken)) at (whole (sizesOf (a .sizes)) d (passed (c .before .before .before)) (shape-ok d (c .before .before .before .before .before .pre)))
+
+-- the frames have passed
+framed : (c : tie.Else2) → c .before .frames-ok .result ≡ true
+framed c = not-f (c .if2 .left)
+
 frames-apart-requires : tie.Need-frames-apart-requires
-frames-apart-requires c κs = search needs
+frames-apart-requires c κs = limits (c .before .before .before)
 
 order-ok-requires : tie.Need-order-ok-requires
-order-ok-requires c κs = search needs
+order-ok-requires c κs = limits (c .before .before .before .before)
 
 frames-past-requires : tie.Need-frames-past-requires
-frames-past-requires c κs = search needs
+frames-past-requires c κs = limits (c .before .before .before .before .before)
 
 slots-ok-requires : tie.Need-slots-ok-requires
-slots-ok-requires c κs = search needs
+slots-ok-requires c κs = let r = c .before .before .before .before .before .frames-ok .ensures .ready (framed (c .before .before .before .before)) in record { limits = r .limits; long = r .long; laid = r .laid }
 
 slots-past-requires : tie.Need-slots-past-requires
-slots-past-requires c κs = search needs
+slots-past-requires c κs = limits (c .before .before .before .before .before .before .before .before)
 
-returns-2 : tie.Need-returns-2
+returns-3 : tie.Need-returns-3
 unfolding frameOk framesDiffer listedOnce framePast slotGood slotOk slotsDiffer cachedOnce inFrame slotPast
-returns-2 c =
-    let slots = c .before in
-    let past = slots .before .before in
-    let order = past .before in
-    let apart = order .before in
-    let frames = apart .before in
-    let ok = frames .before .before in
-    let start = ok .before .before in
+returns-3 c =
+    let start = c .before .before .before .before .before .before .before .before .before .before .before in
     let a = start .args in
     let d = numbers (a .slots .now) (a .frames .now) (a .valid .now) (a .recency .now) in
     rw (
-      frames .frames-ok .ensures .answer,
-      apart .frames-apart .ensures,
-      order .order-ok .ensures,
-      past .frames-past .ensures,
-      slots .slots-ok .ensures,
+      c .before .before .before .before .before .frames-apart .ensures,
+      c .before .before .before .before .order-ok .ensures,
+      c .before .before .before .frames-past .ensures,
+      c .before .slots-ok .ensures,
       c .slots-past .ensures,
-    ) (whole (sizesOf (a .sizes)) d (passed ok) (shape-ok d (start .pre)))
+    ) (rw (sym (c .before .before .before .before .before .before .before .frames-ok .ensures .answer) ∙ framed (c .before .before .before .before .before .before)) at (whole (sizesOf (a .sizes)) d (passed (c .before .before .before .before .before .before .before .before .before)) (shape-ok d (start .pre))))
 
 pub lists-sound-spec : {M : Type 1} → statement M
 lists-sound-spec =
@@ -73,9 +77,10 @@ lists-sound-spec =
     ok-requires
     returns
     frames-ok-requires
+    returns-2
     frames-apart-requires
     order-ok-requires
     frames-past-requires
     slots-ok-requires
     slots-past-requires
-    returns-2)
+    returns-3)

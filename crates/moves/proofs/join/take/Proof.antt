@@ -53,7 +53,7 @@ come : (c : tie.After-next-of Inv-loop μ-loop) → let s = start c in let l = c
 come c =
     let s = start c in let l = c .before .before .before .loop in let sz = sizesOf (s .args .z) in let d = lent s in let so = s .pre .0 .sound in let b = s .args .b .0 in let k = l .inv .2 in
     taking-skip sz d so _ _ b _ (s .pre .0 .block-lt) _ _ _ (l .i) _ (found c .low) (high c)
-        (λ j a h. let p = so .limits .P-high in let q = high c in let jl : j < 128 = omega arith in sym (regiven-block sz d so b (λ j. vacant) (l .i) j (l .slots) a jl (k .regiven)) ∙ found c .miss j a h) k
+    (λ j a h. let p = so .limits .P-high in let q = high c in let jl : j < 128 = omega arith in sym (regiven-block sz d so b (λ j. vacant) (l .i) j (l .slots) a jl (k .regiven)) ∙ found c .miss j a h) k
 
 -- it has one, where there is such a slot
 own : (c : tie.After-next-of Inv-loop μ-loop) → let s = start c in c .next-of .result < s .args .z .slots → inBlock (sizesOf (s .args .z)) (lent s) (s .args .b .0) (c .next-of .result) ≡ true

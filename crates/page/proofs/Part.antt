@@ -1,11 +1,9 @@
 -- A part `&mut l[a..e]` that is lent, with a = i * s and e = a + s, is page i, and comes back as page i. So is a block, of size k * s.
 use mathlib.Core.Path.{_≡_, ap, _∙_}
-use mathlib.Core.List.{List, [], _++_, append-nil}
+use mathlib.Core.List.{List}
 use Prim.Native.Nat.{ℕ, _+_, _-_, _*_, _≤_, _<_}
 use native.Mathlib.Omega.{arith}
-use lib.ListN.{length, take, drop, length-take, length-drop, length-append, take-append-drop}
-use lib.Seq.{take-append-le, take-take, drop-length}
-use borrow.Rule.Slice.PartAt.{part-to-end}
+use lib.ListN.{length}
 use borrow.Rule.Slice.PartMut.{putMid, midOf, post-is}
 use Rattle.prelude.specs.Pages.{pageAt, putPage, laid}
 use Rattle.prelude.proofs.Pages.{ends-before, length-pageAt, page-of-block, put-in-block}
@@ -42,20 +40,3 @@ module _ {A : Type 0} (s k : ℕ) (l : List A) (f o : ℕ) (inside : o < k) (fit
 pub put-laid : {A : Type 0} (i : ℕ) (l x : List A) → putMid i (i + length x - i) l x ≡ laid i x l
 unfolding laid
 put-laid i l x = rw (post-is i (i + length x) l (omega arith))
-
--- d after the first h elements of s were laid over its own, and then those of s from a on, with a no farther than h: all of s
-module _ {A : Type 0} (h a : ℕ) (s d : List A) (same : length d ≡ length s) (within : h ≤ length d) (meet : a ≤ h) where
-  abbrev front : List A
-  front = take h s ++ drop h d
-
-  front-long : length front ≡ length d
-  front-long = simp (length-append, length-take, length-drop) (omega arith)
-
-  head : take a front ≡ take a s
-  head = take-append-le a (take h s) (drop h d) (rw length-take (omega arith)) ∙ take-take a h s meet
-
-  none : drop (length d) front ≡ []
-  none = rw (← front-long) (drop-length front)
-
-  pub ends : putMid a (length d - a) front (midOf a (length d - a) s) ≡ s
-  ends = rw (post-is a (length d) front (omega arith), head, none, same, part-to-end s a, append-nil) (take-append-drop a s)

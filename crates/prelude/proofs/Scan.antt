@@ -45,12 +45,6 @@ all-more p i {ok} e q = q ∙ rw (e, add-one i)
 pub all-end : (p : ℕ → Bool) (i n : ℕ) {ok : Bool} → ok ≡ all i p → i ≡ n → ok ≡ all n p
 all-end p i n e q = e ∙ ap (λ (k : ℕ). all k p) q
 
--- the numbers below n, and those from n on
-pub all-join : (n m : ℕ) (p : ℕ → Bool) → all n p ≡ true → all m (λ i. p (n + i)) ≡ true → all (n + m) p ≡ true
-all-join n m p a b = all-of (n + m) p (λ i l. by-test (ltb i n)
-    (λ t. all-at n p a i (ltb-true i n t))
-    (λ t. let h = ltb-false i n t in let e : n + (i - n) ≡ i = omega arith in rw (← e) (all-at m (λ j. p (n + j)) b (i - n) (omega arith))))
-
 -- one that fails
 pub all-fails : (n : ℕ) (p : ℕ → Bool) (i : ℕ) → i < n → p i ≡ false → all n p ≡ false
 all-fails n p i l e = by-test (all n p) (λ h. clash (all-at n p h i l) e) (λ h. h)

@@ -120,11 +120,8 @@ Missed p i = (j : ℕ) → j < i → p j ≡ false
 
 -- it ends at a number that passes, or at the bound
 pub first-is : (n : ℕ) (p : ℕ → Bool) (i : ℕ) → i ≤ n → Missed p i → (i < n → p i ≡ true) → i ≡ first n p
-first-is n p i l h e = let a = first-le n p in by-test (ltb (first n p) i)
-    (λ t. let t2 = ltb-true (first n p) i t in clash (first-hit n p (omega arith)) (h (first n p) t2))
-    (λ t. let t2 = ltb-false (first n p) i t in by-test (ltb i n)
-    (λ u. let u2 = ltb-true i n u in let b = first-at n p i u2 (e u2) in omega arith)
-    (λ u. let u2 = ltb-false i n u in omega arith))
+unfolding first
+first-is n p i l h e = from-is 0 n p i (record { low = omega arith; high = omega arith; hit = λ k. e (omega arith); miss = λ j a b. h j b })
 
 -- the first that passes one of two tests
 pub first-or : (n : ℕ) (p q r : ℕ → Bool) → ((i : ℕ) → r i ≡ (p i || q i)) → cond (ltb (first n q) (first n p)) (first n q) (first n p) ≡ first n r

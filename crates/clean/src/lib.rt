@@ -7,7 +7,8 @@ ghost use Rattle.answer.specs.Carried.{buffers};
 ghost use Rattle.cache.specs.View.{sizesOf, numbers};
 ghost use Rattle.clean.specs.Clean.{Cleanable, BlockCleaned};
 
-// Block b's pages in slots join frame f, and the frame is vacated and rewritten: a rewrite needs only its valid set. Answers the number of merge reads.
+// Block b's pages in slots join frame f, and the frame is vacated and rewritten: a rewrite needs only its valid set.
+// Answers the number of merge reads.
 pub fn clean_block(
     z: Sizes,
     slots: &mut [u32; 128],

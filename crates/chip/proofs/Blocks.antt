@@ -1,18 +1,21 @@
 -- A block of flash and a frame's stretch, page by page: what a turn of the merge reads and of the programming does.
-use mathlib.Core.Path.{_≡_, refl, sym, _∙_}
-use mathlib.Core.Bool.{true, false, cond}
+use mathlib.Core.Path.{_≡_, refl, sym, subst, _∙_}
+use mathlib.Core.Bool.{true, false, not, cond, _&&_}
 use mathlib.Core.List.{List}
-use Prim.Native.Nat.{ℕ, suc, _+_, _*_, _/_, _%_, _^_, _≤_, _<_}
-use native.Mathlib.Nat.{add-assoc, mul-le-mul, mul-le-mul-right, suc-mul}
+use Prim.Native.Nat.{ℕ, zero, suc, _+_, _-_, _*_, _/_, _%_, _^_, _≤_, _<_}
+use native.Mathlib.Nat.{add-assoc, add-zero, add-mul, mul-le-mul, mul-le-mul-right, suc-mul}
 use native.Mathlib.Omega.{arith}
 use lib.Dec.{ltb, eqb}
 use lib.ListN.{length, getD}
 use borrow.Author.Tests.{ltb-true, ltb-false, eq-eqb, ne-eqb}
+use Rattle.prelude.specs.Scan.{firstFrom}
 use Rattle.prelude.specs.Bits.{bit}
-use Rattle.prelude.specs.Pages.{pageAt, putPage}
+use Rattle.prelude.specs.Pages.{pageAt, putPage, runAt, laid}
 use Rattle.prelude.proofs.Tests.{by-test}
-use Rattle.prelude.proofs.Tab.{Done, done-from, done-put, done-skip, done-rest}
-use Rattle.prelude.proofs.Pages.{length-pageAt, in-run, page-at, pages-length, pages-put}
+use Rattle.prelude.proofs.Scan.{First, firstFrom-is}
+use Rattle.prelude.proofs.Bits.{bit-zero}
+use Rattle.prelude.proofs.Tab.{Done, done-from, done-put, done-skip, done-past, done-rest}
+use Rattle.prelude.proofs.Pages.{ends-before, length-laid, length-run, laid-none, laid-more, length-pageAt, in-run, page-at, pages-length, pages-put}
 use Rattle.model.specs.Sizes.{Sizes}
 use Rattle.model.specs.Moves.{programmed}
 use Rattle.model.specs.Calls.{Page, zeroPage, flashPages}
@@ -36,6 +39,14 @@ module _ (sz : Sizes) (b : ℕ) (flash stretch : List ℕ) (h : Facing sz b flas
     pub in-stretch : HasPage (sz .S) stretch o
     in-stretch = in-run (sz .S) (sz .K) stretch (h .stretch-length) o-lt
 
+  -- the n pages of both from offset o on
+  module _ (o n : ℕ) (l : o + n ≤ sz .K) where
+    pub run-in-stretch : o * sz .S + n * sz .S ≤ length stretch
+    run-in-stretch = let e = h .stretch-length in rw (← add-mul o n (sz .S)) (let m = mul-le-mul-right (sz .S) l in omega arith)
+
+    pub run-in-flash : (b * sz .K + o) * sz .S + n * sz .S ≤ length flash
+    run-in-flash = let e = h .flash-length in rw (← add-mul (b * sz .K + o) n (sz .S)) (let m = mul-le-mul-right (sz .S) (let k = ends-before (sz .K) (h .b-lt) in let g : b * sz .K + o + n ≤ sz .N * sz .K = omega arith in g) in omega arith)
+
   -- whether offset o is below K, told by the bytes before it
   module _ (o : ℕ) where
     pub before-fits : o ≤ sz .K → o * sz .S < 2 ^ 64
@@ -53,21 +64,72 @@ module _ (sz : Sizes) (b : ℕ) (flash stretch : List ℕ) (h : Facing sz b flas
 
 -- ---- the merge reads
 
+-- the next offset from o on that is in v, or k where there is none
+module _ (k v o e : ℕ) (l : o < k) (next : e ≡ firstFrom o (k - o) (λ i. bit v i && not (bit 0 i))) where
+  of-v : (i : ℕ) → (bit v i && not (bit 0 i)) ≡ bit v i
+  of-v i = rw (bit-zero i) (by-test (bit v i) (λ t. rw t) (λ t. rw t))
+
+  is-next : First o (k - o) (λ i. bit v i && not (bit 0 i)) e
+  is-next = rw next (firstFrom-is o (k - o) (λ i. bit v i && not (bit 0 i)))
+
+  pub next-low : o ≤ e
+  next-low = is-next .low
+
+  pub next-high : e ≤ k
+  next-high = let h = is-next .high in omega arith
+
+  next-hit : e < k → bit v e ≡ true
+  next-hit t = sym (of-v e) ∙ is-next .hit (omega arith)
+
+  next-miss : (j : ℕ) → o ≤ j → j < e → bit v j ≡ false
+  next-miss j p q = sym (of-v j) ∙ is-next .miss j p q
+
 module _ (sz : Sizes) (b : ℕ) (flash stretch₀ : List ℕ) (v : ℕ) where
   -- they are made at the offsets below o
   abbrev pub MergedTo : ℕ → List ℕ → Type 0
   MergedTo o stretch = Done (zeroPage sz) (sz .K) (mergedPage sz flash b stretch₀ v) (stretchPages sz stretch₀) o (stretchPages sz stretch)
 
   module _ (stretch : List ℕ) (h : Facing sz b flash stretch) (o : ℕ) (o-lt : o < sz .K) (done : MergedTo o stretch) where
-    pub merged-read : bit v o ≡ false → MergedTo (o + 1) (putPage (sz .S) stretch o (pageAt (sz .S) flash (b * sz .K + o)))
+    merged-read : bit v o ≡ false → MergedTo (o + 1) (putPage (sz .S) stretch o (pageAt (sz .S) flash (b * sz .K + o)))
     unfolding mergedPage
     merged-read e = rw (pages-put (sz .S) (sz .K) stretch o (pageAt (sz .S) flash (b * sz .K + o)) o-lt (h .stretch-length) (length-pageAt (sz .S) flash _ (in-flash sz b flash stretch h o o-lt)))
         (done-put (zeroPage sz) (sz .K) (mergedPage sz flash b stretch₀ v) (stretchPages sz stretch₀) o (stretchPages sz stretch) _ done o-lt (rw e))
 
-    pub merged-kept : bit v o ≡ true → MergedTo (o + 1) stretch
+    merged-kept : bit v o ≡ true → MergedTo (o + 1) stretch
     unfolding mergedPage
     merged-kept e = done-skip (zeroPage sz) (sz .K) (mergedPage sz flash b stretch₀ v) (stretchPages sz stretch₀) o (stretchPages sz stretch) done
         (rw e (sym (page-at (sz .S) (sz .K) stretch₀ (zeroPage sz) o o-lt)))
+
+  -- the n offsets from o on are read at once
+  merged-run : (stretch : List ℕ) → Facing sz b flash stretch → (o n : ℕ) → o + n ≤ sz .K → MergedTo o stretch
+      → ((j : ℕ) → o ≤ j → j < o + n → bit v j ≡ false) → MergedTo (o + n) (laid (o * sz .S) (runAt (sz .S) flash (b * sz .K + o) n) stretch)
+  merged-run stretch h o zero l done miss = rw (add-zero o, laid-none (sz .S) flash (b * sz .K + o) stretch o) done
+  merged-run stretch h o (suc n) l done miss =
+      let last : o + n < sz .K = omega arith in
+      let room = run-in-stretch sz b flash stretch h o (suc n) l in
+      let from = run-in-flash sz b flash stretch h o (suc n) l in
+      let m = suc-mul n (sz .S) in
+      let g : b * sz .K + (o + n) ≡ b * sz .K + o + n = omega arith in
+      let before = merged-run stretch h o n (omega arith) done (λ j p q. miss j p (omega arith)) in
+      let long = length-laid (o * sz .S) (runAt (sz .S) flash (b * sz .K + o) n) stretch (rw (length-run (sz .S) flash (b * sz .K + o) n (omega arith)) (omega arith)) in
+      let k : o + suc n ≡ o + n + 1 = omega arith in
+      rw (k, laid-more (sz .S) flash (b * sz .K + o) stretch o n room from, ← g)
+      (merged-read _ (facing-on sz b flash stretch h flash _ refl long) (o + n) last before (miss (o + n) (omega arith) (omega arith)))
+
+  -- a turn reads the offsets from o to the next valid one, e, and passes that
+  pub merged-turn : (stretch : List ℕ) (o e : ℕ) → o < sz .K → e ≡ firstFrom o (sz .K - o) (λ i. bit v i && not (bit 0 i))
+      → Facing sz b flash stretch → MergedTo o stretch → MergedTo (e + 1) (laid (o * sz .S) (runAt (sz .S) flash (b * sz .K + o) (e - o)) stretch)
+  merged-turn stretch o e l next h done =
+      let a = next-low (sz .K) v o e l next in
+      let z = next-high (sz .K) v o e l next in
+      let sum : o + (e - o) ≡ e = omega arith in
+      let long = length-laid (o * sz .S) (runAt (sz .S) flash (b * sz .K + o) (e - o)) stretch
+      (rw (length-run (sz .S) flash (b * sz .K + o) (e - o) (run-in-flash sz b flash stretch h o (e - o) (omega arith))) (run-in-stretch sz b flash stretch h o (e - o) (omega arith))) in
+      let read : MergedTo e (laid (o * sz .S) (runAt (sz .S) flash (b * sz .K + o) (e - o)) stretch) =
+      subst (λ (x : ℕ). MergedTo x (laid (o * sz .S) (runAt (sz .S) flash (b * sz .K + o) (e - o)) stretch)) sum (merged-run stretch h o (e - o) (omega arith) done (λ j p q. next-miss (sz .K) v o e l next j p (omega arith))) in
+      by-test (ltb e (sz .K))
+      (λ t. let k = ltb-true e (sz .K) t in merged-kept _ (facing-on sz b flash stretch h flash _ refl long) e k read (next-hit (sz .K) v o e l next k))
+      (λ t. done-past _ _ _ _ e _ read (ltb-false e (sz .K) t))
 
 -- ---- the programming of all pages
 

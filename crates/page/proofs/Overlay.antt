@@ -1,11 +1,14 @@
 -- A loop that overwrites a list from the front: after i turns it holds the first i elements of s and, from i on, those of d.
 use mathlib.Core.Path.{_≡_, refl, ap}
-use mathlib.Core.List.{List, [], _∷_, _++_, append-nil}
-use Prim.Native.Nat.{ℕ, zero, suc, _+_, _<_}
+use mathlib.Core.List.{List, [], _∷_, _++_, append-nil, append-assoc}
+use Prim.Native.Nat.{ℕ, zero, suc, _+_, _-_, _≤_, _<_}
 use native.Mathlib.Nat.{le-of-suc-le-suc, not-suc-le-zero}
 use native.Mathlib.Numerals.{add-one}
-use lib.ListN.{length, take, drop, getD, set}
-use lib.Seq.{take-length, drop-length}
+use native.Mathlib.Omega.{arith}
+use lib.ListN.{length, take, drop, getD, set, length-append, length-take, length-drop}
+use lib.Seq.{take-at, take-add, take-length, drop-length, length-take-le}
+use borrow.Rule.Slice.PartMut.{putMid, midOf, post-is}
+use Rattle.prelude.proofs.Pages.{back}
 
 unfoldable pub overlay : ℕ → List ℕ → List ℕ → List ℕ
 overlay i s d = take i s ++ drop i d
@@ -32,6 +35,18 @@ overlay-read i [] d h k = absurd (not-suc-le-zero h)
 overlay-read i (x ∷ xs) [] h k = absurd (not-suc-le-zero k)
 overlay-read zero (x ∷ xs) (y ∷ ys) h k = refl
 overlay-read (suc i) (x ∷ xs) (y ∷ ys) h k = overlay-read i xs ys (le-of-suc-le-suc h) (le-of-suc-le-suc k)
+
+-- a turn stores s's elements from i to e at once
+pub overlay-piece : (i e : ℕ) (s d : List ℕ) → i ≤ e → i ≤ length s → putMid i (e - i) (overlay i s d) (midOf i (e - i) s) ≡ overlay e s d
+unfolding overlay
+overlay-piece i e s d h k =
+    let long : length (take i s) ≡ i = length-take-le i s k in
+    let sum : i + (e - i) ≡ e = omega arith in
+    rw (post-is i e (take i s ++ drop i d) h, take-at (take i s) (drop i d) i long, back e i (take i s) d long h, ← append-assoc (take i s) (take (e - i) (drop i s)) (drop e d), ← take-add i (e - i) s, sum)
+
+pub overlay-length : (i : ℕ) (s d : List ℕ) → length s ≡ length d → i ≤ length d → length (overlay i s d) ≡ length d
+unfolding overlay
+overlay-length i s d e h = simp (length-append, length-take, length-drop) (omega arith)
 
 pub overlay-all : (i : ℕ) (s d : List ℕ) → length s ≡ length d → i ≡ length d → overlay i s d ≡ s
 unfolding overlay

@@ -5,7 +5,7 @@ use Prim.Native.Nat.{ℕ, _+_, _-_, _*_, _≤_, _<_}
 use native.Mathlib.Omega.{arith}
 use lib.ListN.{length}
 use borrow.Rule.Slice.PartMut.{putMid, midOf, post-is}
-use Rattle.prelude.specs.Pages.{pageAt, putPage, laid}
+use Rattle.prelude.specs.Pages.{pageAt, putPage, runAt, laid}
 use Rattle.prelude.proofs.Pages.{ends-before, length-pageAt, page-of-block, put-in-block}
 
 -- the part lent
@@ -40,3 +40,12 @@ module _ {A : Type 0} (s k : ℕ) (l : List A) (f o : ℕ) (inside : o < k) (fit
 pub put-laid : {A : Type 0} (i : ℕ) (l x : List A) → putMid i (i + length x - i) l x ≡ laid i x l
 unfolding laid
 put-laid i l x = rw (post-is i (i + length x) l (omega arith))
+
+-- a part of m elements
+pub put-run : {A : Type 0} (i m : ℕ) (l x : List A) → length x ≡ m → putMid i (i + m - i) l x ≡ laid i x l
+put-run i m l x e = rw (← e) (put-laid i l x)
+
+-- n pages that are lent
+pub got-run : {A : Type 0} (s : ℕ) (l : List A) (i n : ℕ) → midOf (i * s) (i * s + n * s - i * s) l ≡ runAt s l i n
+unfolding runAt
+got-run s l i n = let e : i * s + n * s - i * s ≡ n * s = omega arith in rw e

@@ -2,7 +2,7 @@
 ghost use mathlib.Core.Path.{_≡_};
 ghost use Prim.Native.Nat.{_+_, _*_, _≤_, _<_};
 ghost use lib.ListN.{length, replicate};
-ghost use Rattle.prelude.specs.Pages.{pageAt, putPage, laid};
+ghost use Rattle.prelude.specs.Pages.{pageAt, putPage, runAt, laid};
 ghost use Rattle.page.specs.Page.{HasPage, Exchanged};
 
 // Page si of src goes to page di of dst.
@@ -15,6 +15,19 @@ pub fn copy_page(dst: &mut [u8], di: usize, src: &[u8], si: usize, s: usize)
     let b = si * s;
     let f = b + s;
     move_bytes(&mut dst[a..e], &src[b..f]);
+}
+
+// The n pages of src from page si on go to dst, from page di on.
+pub fn copy_pages(dst: &mut [u8], di: usize, src: &[u8], si: usize, n: usize, s: usize)
+    requires { ⌜ (di * s + n * s ≤ length (now dst)) × (si * s + n * s ≤ length (now src)) ⌝ }
+    ensures { λ _. ⌜ now (dst .exit) ≡ laid (di * s) (runAt s (now (src .entry)) si n) (now (dst .entry)) ⌝ }
+{
+    let size = n * s;
+    let a = di * s;
+    let e = a + size;
+    let b = si * s;
+    let f = b + size;
+    move_run(&mut dst[a..e], &src[b..f]);
 }
 
 // Page xi of x and page yi of y change places.
@@ -89,17 +102,39 @@ pub fn lay(dst: &mut [u8], i: usize, src: &[u8])
     move_bytes(&mut dst[i..e], src);
 }
 
+// Copies all of src over all of dst, which is as long, in pieces that fit the buffer of a move.
+fn move_run(dst: &mut [u8], src: &[u8])
+    requires { ⌜ length (now dst) ≡ length (now src) ⌝ }
+    ensures { λ _. ⌜ now (dst .exit) ≡ now (src .entry) ⌝ }
+{
+    let n = dst.len();
+    let mut i = 0;
+    while i < n {
+        let e = piece_end(i, n);
+        move_bytes(&mut dst[i..e], &src[i..e]);
+        i = e;
+    }
+}
+
+// Where the piece from i on ends: at n, or sooner where that is too far.
+fn piece_end(i: usize, n: usize) -> usize
+    requires { ⌜ i < n ⌝ }
+    ensures { λ r. ⌜ (i < r) × (r ≤ n) × (r ≤ i + 8192) ⌝ }
+{
+    if 8192 < n - i { i + 8192 } else { n }
+}
+
 // Copies all of src over all of dst, which is as long, by way of a local buffer. So it becomes one call of memmove and the
 // buffer goes away; a loop from one lent slice to another, which might overlap, stays a loop.
 fn move_bytes(dst: &mut [u8], src: &[u8])
-    requires { ⌜ (length (now dst) ≡ length (now src)) × (length (now dst) ≤ 2048) ⌝ }
+    requires { ⌜ (length (now dst) ≡ length (now src)) × (length (now dst) ≤ 8192) ⌝ }
     ensures { λ _. ⌜ now (dst .exit) ≡ now (src .entry) ⌝ }
 {
     let n = dst.len();
     if n == 16 {
         return move_sixteen(dst, src);
     }
-    let mut t = [0u8; 2048];
+    let mut t = [0u8; 8192];
     copy_bytes(&mut t[..n], src);
     copy_bytes(dst, &t[..n]);
 }

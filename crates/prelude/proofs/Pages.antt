@@ -4,7 +4,7 @@ use mathlib.Core.Logic.{_≢_, _⊎_, inl, inr, ⊎-elim}
 use mathlib.Core.Bool.{cond}
 use mathlib.Core.List.{List, [], _∷_, _++_, append-assoc}
 use Prim.Native.Nat.{ℕ, zero, suc, _+_, _-_, _*_, _/_, _%_, _≤_, _<_}
-use native.Mathlib.Nat.{not-suc-le-zero, mul-le-mul-right, suc-mul, zero-mul, mul-assoc, add-mul, add-comm, mod-lt, div-lt-iff-lt-mul, div-add-mod'}
+use native.Mathlib.Nat.{not-suc-le-zero, mul-le-mul-right, suc-mul, zero-mul, mul-assoc, add-mul, add-comm, add-zero, mod-lt, div-lt-iff-lt-mul, div-add-mod'}
 use native.Mathlib.Decide.{decLt}
 use native.Mathlib.Omega.{arith}
 use lib.Arith.{digits-lt}
@@ -13,7 +13,7 @@ use lib.ListN.{length, getD, set, take, drop, length-append, length-take, length
 use lib.Seq.{take-append-le, drop-append-le, drop-append-add, take-at, drop-at, drop-drop, take-take, take-add, take-length, length-take-le, ext-getD, getD-set-same, getD-set-other}
 use borrow.Author.Tests.{eqb-true, eqb-false}
 use Rattle.prelude.specs.Scan.{tab, tabFrom}
-use Rattle.prelude.specs.Pages.{pageAt, putPage, laid, pagesOf, flat}
+use Rattle.prelude.specs.Pages.{pageAt, putPage, runAt, laid, pagesOf, flat}
 use Rattle.prelude.proofs.Tests.{by-test}
 use Rattle.prelude.proofs.Tab.{length-tab, getD-tab, tab-ext}
 
@@ -42,7 +42,8 @@ module _ {A : Type 0} where
   front-take (suc n) m (suc k) [] h = refl
   front-take (suc n) m (suc k) (x ∷ xs) h = front-take n m k xs (omega arith)
 
-  back : (n e : ℕ) (x l : List A) → length x ≡ e → e ≤ n → drop n (x ++ drop e l) ≡ drop n l
+  -- what lies from n on, past x, is l's
+  pub back : (n e : ℕ) (x l : List A) → length x ≡ e → e ≤ n → drop n (x ++ drop e l) ≡ drop n l
   back n e x l h k =
       let j : n ≡ length x + (n - e) = omega arith in
       let i : e + (n - e) ≡ n = omega arith in
@@ -52,6 +53,14 @@ module _ {A : Type 0} where
 pub length-laid : {A : Type 0} (i : ℕ) (x l : List A) → i + length x ≤ length l → length (laid i x l) ≡ length l
 unfolding laid
 length-laid i x l h = simp (length-append, length-take, length-drop) (omega arith)
+
+-- laid in as two parts, one after the other
+pub laid-append : {A : Type 0} (i : ℕ) (x y l : List A) → i + length x ≤ length l → laid i (x ++ y) l ≡ laid (i + length x) y (laid i x l)
+unfolding laid
+laid-append i x y l h =
+    let long : length (take i l ++ x) ≡ i + length x = simp (length-append, length-take) (omega arith) in
+    let sum : i + length (x ++ y) ≡ i + length x + length y = simp length-append (omega arith) in
+    rw (sum, append-assoc x y, ← append-assoc (take i l) x (y ++ drop (i + length x + length y) l), ← append-assoc (take i l) x (drop (i + length x) l), take-at (take i l ++ x) (drop (i + length x) l) (i + length x) long, back (i + length x + length y) (i + length x) (take i l ++ x) l long (omega arith))
 
 module _ {A : Type 0} (s : ℕ) (l : List A) (i : ℕ) (fits : i * s + s ≤ length l) where
   pub length-pageAt : length (pageAt s l i) ≡ s
@@ -88,6 +97,39 @@ module _ {A : Type 0} (s : ℕ) (l : List A) (i : ℕ) (pg : List A) (fits : i *
 
   pub page-put-other : (j : ℕ) → i ≢ j → pageAt s (putPage s l i pg) j ≡ pageAt s l j
   page-put-other j ne = ⊎-elim (page-put-above j) (page-put-below j) (apart ne)
+
+-- ---- runs of pages
+
+laid-page : {A : Type 0} {s : ℕ} (i : ℕ) (pg l : List A) → length pg ≡ s → laid (i * s) pg l ≡ putPage s l i pg
+unfolding laid putPage
+laid-page i pg l full = rw full
+
+module _ {A : Type 0} (s : ℕ) (src : List A) (j : ℕ) where
+  run-none : runAt s src j 0 ≡ []
+  unfolding runAt
+  run-none = rw (zero-mul s)
+
+  run-more : (n : ℕ) → runAt s src j (suc n) ≡ runAt s src j n ++ pageAt s src (j + n)
+  unfolding runAt pageAt
+  run-more n = rw (suc-mul n s, take-add (n * s) s (drop (j * s) src), drop-drop (n * s) (j * s) src, add-mul j n s)
+
+  pub length-run : (n : ℕ) → j * s + n * s ≤ length src → length (runAt s src j n) ≡ n * s
+  unfolding runAt
+  length-run n h = simp (length-take, length-drop) (omega arith)
+
+  -- a run laid in at page i is its pages put there, one after the other
+  module _ (l : List A) (i : ℕ) where
+    pub laid-none : laid (i * s) (runAt s src j 0) l ≡ l
+    unfolding laid
+    laid-none = rw (run-none, add-zero (i * s)) (take-append-drop (i * s) l)
+
+    pub laid-more : (n : ℕ) → i * s + suc n * s ≤ length l → j * s + suc n * s ≤ length src
+        → laid (i * s) (runAt s src j (suc n)) l ≡ putPage s (laid (i * s) (runAt s src j n) l) (i + n) (pageAt s src (j + n))
+    laid-more n h k =
+        let m = suc-mul n s in
+        let long : length (runAt s src j n) ≡ n * s = length-run n (omega arith) in
+        let full : length (pageAt s src (j + n)) ≡ s = length-pageAt s src (j + n) (let a = add-mul j n s in omega arith) in
+        rw (run-more n, laid-append (i * s) (runAt s src j n) (pageAt s src (j + n)) l (omega arith), long, ← add-mul i n s) (laid-page (i + n) _ _ full)
 
 -- a run of n pages
 module _ {A : Type 0} (s n : ℕ) where

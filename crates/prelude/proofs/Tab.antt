@@ -75,6 +75,10 @@ module _ {A : Type 0} (d : A) (n : ℕ) (new : ℕ → A) (old : List A) where
         (λ u. let v = ltb-false j o u in rw (u, le-ltb j (o + 1) (omega arith))));
   }
 
+  -- past the end there is nothing to settle
+  pub done-past : (o : ℕ) (l : List A) → Done d n new old o l → n ≤ o → Done d n new old (o + 1) l
+  done-past o l h a = record { long = h .long; each = λ j k. h .each j k ∙ rw (lt-ltb j o (omega arith), lt-ltb j (o + 1) (omega arith)) }
+
   -- settled up to o, where the rule leaves the rest as it was
   pub done-rest : (o : ℕ) (l : List A) → Done d n new old o l → ((j : ℕ) → o ≤ j → j < n → new j ≡ getD old j d) → l ≡ tab n new
   done-rest o l h f = ext-getD d l (tab n new) (h .long ∙ sym (length-tab n new)) (λ j k. let q = h .long in let jl : j < n = omega arith in

@@ -13,6 +13,10 @@ module _ {A : Type 0} where
   unfoldable pub putPage : ℕ → List A → ℕ → List A → List A
   putPage s l i pg = take (i * s) l ++ (pg ++ drop (i * s + s) l)
 
+  -- the n pages of l from page i on, as one list
+  unfoldable pub runAt : ℕ → List A → ℕ → ℕ → List A
+  runAt s l i n = take (n * s) (drop (i * s) l)
+
   -- l with x laid in, from index i on
   unfoldable pub laid : ℕ → List A → List A → List A
   laid i x l = take i l ++ (x ++ drop (i + length x) l)

@@ -1,28 +1,28 @@
-use mathlib.Core.Path.{refl, sym, ap, _∙_}
-use mathlib.Core.Logic.{inl, inr}
-use Prim.Native.Nat.{_-_, _≤_, _<_}
+use mathlib.Core.Path.{refl, sym, _∙_}
+use Prim.Native.Nat.{_-_, _≤_}
 use native.Mathlib.Omega.{arith}
-use lib.ListN.{length}
 use borrow.Author.Needs.{needs}
-use borrow.Author.Tests.{not-true, not-false}
 use Rattle.prelude.proofs.Tab.{done-none, done-all}
 use Rattle.prelude.proofs.Pages.{pages-length}
 use Rattle.cache.specs.View.{sizesOf}
 use Rattle.chip.specs.Chip.{Facing}
-use Rattle.chip.proofs.Blocks.{facing-on, before-fits, before-end, at-end, number-fits, in-flash, in-stretch, MergedTo, merged-read, merged-kept}
+use Rattle.chip.proofs.Blocks.{facing-on, number-fits, run-in-flash, run-in-stretch, MergedTo, next-low, next-high, merged-turn}
 use Rattle.chip.proofs.merge.Statement.{statement}
 use Rattle.chip.proofs.merge.Tie as tie
 
 abbrev Inv-loop : tie.InvT-loop
-Inv-loop z flash b stretch₀ v s size o₀ stretch o =
-    Facing (sizesOf z) (b .0) flash stretch × MergedTo (sizesOf z) (b .0) flash stretch₀ v o stretch × (o ≤ z .«pages_per_block»)
+Inv-loop z flash b stretch₀ v s o₀ stretch o =
+    Facing (sizesOf z) (b .0) flash stretch × MergedTo (sizesOf z) (b .0) flash stretch₀ v o stretch
 
 abbrev μ-loop : tie.MeasureT-loop
-μ-loop z flash b stretch₀ v s size o₀ stretch o = z .«pages_per_block» - o
+μ-loop z flash b stretch₀ v s o₀ stretch o = z .«pages_per_block» - o
 
--- an offset whose turn it is
-below : (c : tie.After-has Inv-loop μ-loop) → c .before .before .loop .o < c .before .before .before .before .before .before .args .z .«pages_per_block»
-below c = before-end _ _ _ _ (c .before .before .before .before .before .before .pre) _ (c .before .loop-test .taken)
+-- the next valid offset, or K
+low : (c : tie.After-next Inv-loop μ-loop) → c .before .before .before .loop .o ≤ c .next .result
+low c = next-low _ _ _ _ (c .before .if1 .taken) (c .next .ensures)
+
+high : (c : tie.After-next Inv-loop μ-loop) → c .next .result ≤ c .before .before .before .before .before .before .before .args .z .«pages_per_block»
+high c = next-high _ _ _ _ (c .before .if1 .taken) (c .next .ensures)
 
 cast-s : tie.Need-cast-s Inv-loop μ-loop
 cast-s c = search needs
@@ -31,55 +31,48 @@ loop-holds : tie.Need-loop-holds Inv-loop μ-loop
 loop-holds c =
     let start = c .before .before .before in
     let a = start .args in
-    (start .pre, done-none _ _ _ _ (pages-length (a .z .«page_size») (a .z .«pages_per_block») (a .stretch .now)), omega arith)
+    (start .pre, done-none _ _ _ _ (pages-length (a .z .«page_size») (a .z .«pages_per_block») (a .stretch .now)))
 
-cast-loop : tie.Need-cast-loop Inv-loop μ-loop
-cast-loop c = search needs
-
-mul-loop : tie.Need-mul-loop Inv-loop μ-loop
-mul-loop c = record { fits = before-fits _ _ _ _ (c .loop .inv .0) _ (c .loop .inv .2) }
-
-has-requires : tie.Need-has-requires Inv-loop μ-loop
-has-requires c κs =
-    let h = c .before .before .before .before .before .pre in
-    let l = before-end _ _ _ _ h _ (c .loop-test .taken) in
-    let k = h .limits .K-high in
-    omega arith
+next-requires : tie.Need-next-requires Inv-loop μ-loop
+next-requires c κs = let k = c .before .before .loop .inv .0 .limits .K-high in (omega arith, omega arith)
 
 page-of-requires : tie.Need-page-of-requires Inv-loop μ-loop
-page-of-requires c κs = number-fits _ _ _ _ (c .before .before .before .loop .inv .0) _ (below (c .before))
+page-of-requires c κs = number-fits _ _ _ _ (c .before .before .before .loop .inv .0) _ (c .before .if1 .taken)
 
 cast-at : tie.Need-cast-at Inv-loop μ-loop
 cast-at c = search needs
 
-read-page-requires : tie.Need-read-page-requires Inv-loop μ-loop
-read-page-requires c κs =
+sub-run : tie.Need-sub-run Inv-loop μ-loop
+sub-run c = low (c .before)
+
+cast-run : tie.Need-cast-run Inv-loop μ-loop
+cast-run c = search needs
+
+read-pages-requires : tie.Need-read-pages-requires Inv-loop μ-loop
+read-pages-requires c κs =
     let inv = c .before .before .before .before .before .loop .inv in
-    let l = below (c .before .before .before) in
-    (inv .0 .limits .S-high, rw (c .before .page-of .ensures) (in-flash _ _ _ _ (inv .0) _ l), in-stretch _ _ _ _ (inv .0) _ l)
+    let l = high (c .before .before) in
+    let m = low (c .before .before) in
+    (rw (c .before .page-of .ensures) (run-in-flash _ _ _ _ (inv .0) _ _ (omega arith)), run-in-stretch _ _ _ _ (inv .0) _ _ (omega arith))
 
 add-o : tie.Need-add-o Inv-loop μ-loop
-add-o c = let l = below (c .before) in let k = c .before .before .before .loop .inv .0 .limits .K-high in omega arith
+add-o c = let next = c .before .before .before .before .before in let l = high next in let k = next .before .before .before .loop .inv .0 .limits .K-high in omega arith
 
 loop-less : tie.Need-loop-less Inv-loop μ-loop
-loop-less c = let l = below (c .before) in omega arith
+loop-less c = let next = c .before .before .before .before .before in let l = low next in let t = next .before .if1 .taken in omega arith
 
 loop-again : tie.Need-loop-again Inv-loop μ-loop
 loop-again c =
-    let inv = c .before .before .before .loop .inv in
-    let has = sym (c .before .has .ensures) in
-    let l = below (c .before) in
-    elim (c .if1 .came) [
-      | inl w ↦ let e = rw (w .1 .ensures) at (w .3 .ensures) in
-          (facing-on _ _ _ _ (inv .0) _ _ refl (ap length (w .6) ∙ w .3 .kept .1 .1 .0), rw (w .6, e) (merged-read _ _ _ _ _ _ (inv .0) _ l (inv .1) (has ∙ not-true _ (w .0 .taken))), omega arith)
-      | inr w ↦ rw (w .1) (inv .0, merged-kept _ _ _ _ _ _ (inv .0) _ l (inv .1) (has ∙ not-false _ (w .0 .left)), omega arith)
-    ]
+    let next = c .before .before .before .before .before in
+    let inv = next .before .before .before .loop .inv in
+    let e = rw (c .before .before .before .before .page-of .ensures) at (c .before .before .read-pages .ensures) in
+    (facing-on _ _ _ _ (inv .0) _ _ refl (c .before .before .read-pages .kept .1 .1 .0), rw e (merged-turn _ _ _ _ _ _ _ _ (next .before .if1 .taken) (next .next .ensures) (inv .0) (inv .1)))
 
 same-length : tie.Need-same-length Inv-loop μ-loop
-same-length c = c .before .loop .inv .0 .stretch-length ∙ sym (c .before .before .before .before .before .pre .stretch-length)
+same-length c = c .before .before .loop .inv .0 .stretch-length ∙ sym (c .before .before .before .before .before .before .pre .stretch-length)
 
 returns : tie.Need-returns Inv-loop μ-loop
-returns c = done-all _ _ _ _ _ _ (c .before .loop .inv .1) (at-end _ _ _ _ (c .before .before .before .before .before .pre) _ (c .loop-test .left))
+returns c = done-all _ _ _ _ _ _ (c .before .before .loop .inv .1) (c .if1 .left)
 
 pub merge-spec : {M : Type 1} → statement M
 merge-spec =
@@ -89,12 +82,12 @@ merge-spec =
     μ-loop
     cast-s
     loop-holds
-    cast-loop
-    mul-loop
-    has-requires
+    next-requires
     page-of-requires
     cast-at
-    read-page-requires
+    sub-run
+    cast-run
+    read-pages-requires
     add-o
     loop-less
     loop-again

@@ -85,11 +85,12 @@ pub(crate) fn offsets(z: Sizes, slots: &[u32; 128], b: BlockNo, old: u64) -> u64
     let mut v = old;
     let mut i = 0;
     while i < p {
-        let o = numbers::offset_in(PageNo(slots[i]), b, z.pages_per_block);
-        if o < z.pages_per_block {
+        i = numbers::next_of(z, slots, b, i);
+        if i < p {
+            let o = numbers::offset_in(PageNo(slots[i]), b, z.pages_per_block);
             v = bitmap::with(v, o);
+            i += 1;
         }
-        i += 1;
     }
     v
 }

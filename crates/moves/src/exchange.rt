@@ -74,8 +74,9 @@ fn swap(
     let mut at: u32 = 0;
     let mut i = 0;
     while i < p {
-        let o = numbers::offset_in(PageNo(slots[i]), b, z.pages_per_block);
-        if o < z.pages_per_block {
+        i = numbers::next_of(z, slots, b, i);
+        if i < p {
+            let o = numbers::offset_in(PageNo(slots[i]), b, z.pages_per_block);
             let mut n = o;
             if !bitmap::has(old, o) {
                 n = next_left(old, new, at, z.pages_per_block);
@@ -83,8 +84,8 @@ fn swap(
             }
             swap_one(frame, o, pspace, i, n, z.pages_per_block, s);
             slots[i] = page_or_vacant(q, n, z.pages_per_block);
+            i += 1;
         }
-        i += 1;
     }
     frames[f] = b.0;
     valid[f] = new;

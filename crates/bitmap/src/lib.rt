@@ -1,10 +1,9 @@
 // The valid pages of a frame: a set of offsets below 64 as one 64-bit number, bit i for offset i.
 ghost use mathlib.Core.Path.{_≡_};
-ghost use mathlib.Core.Bool.{not, _&&_};
 ghost use Prim.Native.Nat.{_<_, _≤_, _-_, _^_};
 ghost use lib.Dec.{ltb};
 ghost use Rattle.prelude.specs.Scan.{firstFrom, count};
-ghost use Rattle.prelude.specs.Bits.{bit, withBit, firstBits};
+ghost use Rattle.prelude.specs.Bits.{bit, bitWithout, withBit, firstBits};
 
 // Whether offset i is in the set.
 pub fn has(v: u64, i: u32) -> bool
@@ -25,7 +24,7 @@ pub fn with(v: u64, i: u32) -> u64
 // The first offset from at on, below k, that is in v and not in w; k where there is none.
 pub fn next(v: u64, w: u64, at: u32, k: u32) -> u32
     requires { ⌜ (at ≤ k) × (k ≤ 64) ⌝ }
-    ensures { λ r. ⌜ r ≡ firstFrom at (k - at) (λ o. bit v o && not (bit w o)) ⌝ }
+    ensures { λ r. ⌜ r ≡ firstFrom at (k - at) (bitWithout v w) ⌝ }
 {
     let mut o = at;
     while o < k {

@@ -1,6 +1,6 @@
 -- A block of flash and a frame's stretch, page by page: what a turn of the merge reads and of the programming does.
 use mathlib.Core.Path.{_≡_, refl, sym, subst, _∙_}
-use mathlib.Core.Bool.{true, false, not, cond, _&&_}
+use mathlib.Core.Bool.{true, false, cond}
 use mathlib.Core.List.{List}
 use Prim.Native.Nat.{ℕ, zero, suc, _+_, _-_, _*_, _/_, _%_, _^_, _≤_, _<_}
 use native.Mathlib.Nat.{add-assoc, add-zero, add-mul, mul-le-mul, mul-le-mul-right, suc-mul}
@@ -9,7 +9,7 @@ use lib.Dec.{ltb, eqb}
 use lib.ListN.{length, getD}
 use borrow.Author.Tests.{ltb-true, ltb-false, eq-eqb, ne-eqb}
 use Rattle.prelude.specs.Scan.{firstFrom}
-use Rattle.prelude.specs.Bits.{bit}
+use Rattle.prelude.specs.Bits.{bit, bitWithout}
 use Rattle.prelude.specs.Pages.{pageAt, putPage, runAt, laid}
 use Rattle.prelude.proofs.Tests.{by-test}
 use Rattle.prelude.proofs.Scan.{First, firstFrom-is}
@@ -65,12 +65,12 @@ module _ (sz : Sizes) (b : ℕ) (flash stretch : List ℕ) (h : Facing sz b flas
 -- ---- the merge reads
 
 -- the next offset from o on that is in v, or k where there is none
-module _ (k v o e : ℕ) (l : o < k) (next : e ≡ firstFrom o (k - o) (λ i. bit v i && not (bit 0 i))) where
-  of-v : (i : ℕ) → (bit v i && not (bit 0 i)) ≡ bit v i
+module _ (k v o e : ℕ) (l : o < k) (next : e ≡ firstFrom o (k - o) (bitWithout v 0)) where
+  of-v : (i : ℕ) → bitWithout v 0 i ≡ bit v i
   of-v i = rw (bit-zero i) (by-test (bit v i) (λ t. rw t) (λ t. rw t))
 
-  is-next : First o (k - o) (λ i. bit v i && not (bit 0 i)) e
-  is-next = rw next (firstFrom-is o (k - o) (λ i. bit v i && not (bit 0 i)))
+  is-next : First o (k - o) (bitWithout v 0) e
+  is-next = rw next (firstFrom-is o (k - o) (bitWithout v 0))
 
   pub next-low : o ≤ e
   next-low = is-next .low
@@ -117,7 +117,7 @@ module _ (sz : Sizes) (b : ℕ) (flash stretch₀ : List ℕ) (v : ℕ) where
       (merged-read _ (facing-on sz b flash stretch h flash _ refl long) (o + n) last before (miss (o + n) (omega arith) (omega arith)))
 
   -- a turn reads the offsets from o to the next valid one, e, and passes that
-  pub merged-turn : (stretch : List ℕ) (o e : ℕ) → o < sz .K → e ≡ firstFrom o (sz .K - o) (λ i. bit v i && not (bit 0 i))
+  pub merged-turn : (stretch : List ℕ) (o e : ℕ) → o < sz .K → e ≡ firstFrom o (sz .K - o) (bitWithout v 0)
       → Facing sz b flash stretch → MergedTo o stretch → MergedTo (e + 1) (laid (o * sz .S) (runAt (sz .S) flash (b * sz .K + o) (e - o)) stretch)
   merged-turn stretch o e l next h done =
       let a = next-low (sz .K) v o e l next in

@@ -1,11 +1,15 @@
 -- A set of numbers below 64 as one number: i is in the set where binary digit i is 1.
-use mathlib.Core.Bool.{Bool, cond}
+use mathlib.Core.Bool.{Bool, not, cond, _&&_}
 use Prim.Native.Nat.{ℕ, zero, suc, _+_, _-_, _/_, _%_, _^_}
 use lib.Dec.{eqb}
 
 -- i is in the set m
 unfoldable pub bit : ℕ → ℕ → Bool
 bit m i = eqb (m / 2 ^ i % 2) 1
+
+-- i is in the set v and not in the set w
+abbrev pub bitWithout : ℕ → ℕ → ℕ → Bool
+bitWithout v w i = bit v i && not (bit w i)
 
 -- the set of the numbers below n that pass
 unfoldable pub mask : ℕ → (ℕ → Bool) → ℕ

@@ -4,22 +4,18 @@ use Prim.Native.Nat.{ℕ, _≤_, _-_}
 use native.Mathlib.Omega.{arith}
 use borrow.Author.Needs.{needs}
 use Rattle.prelude.specs.Scan.{firstFrom}
-use Rattle.prelude.specs.Bits.{bit}
+use Rattle.prelude.specs.Bits.{bit, bitWithout}
 use Rattle.prelude.proofs.Scan.{from-hit, from-miss, from-end}
 use Rattle.bitmap.proofs.next.Statement.{statement}
 use Rattle.bitmap.proofs.next.Tie as tie
 
--- o is in v and not in w
-abbrev without : ℕ → ℕ → ℕ → Bool
-without v w o = bit v o && not (bit w o)
-
 abbrev Inv-loop : tie.InvT-loop
-Inv-loop v w at k o₀ o = (o ≤ k) × (firstFrom at (k - at) (without v w) ≡ firstFrom o (k - o) (without v w))
+Inv-loop v w at k o₀ o = (o ≤ k) × (firstFrom at (k - at) (bitWithout v w) ≡ firstFrom o (k - o) (bitWithout v w))
 
 abbrev μ-loop : tie.MeasureT-loop
 μ-loop v w at k o₀ o = k - o
 
-read : (v w o : ℕ) (a b t : Bool) → a ≡ bit v o → b ≡ bit w o → (a && not b) ≡ t → without v w o ≡ t
+read : (v w o : ℕ) (a b t : Bool) → a ≡ bit v o → b ≡ bit w o → (a && not b) ≡ t → bitWithout v w o ≡ t
 read v w o a b t e f h = rw (← e, ← f) h
 
 loop-holds : tie.Need-loop-holds Inv-loop μ-loop
@@ -33,7 +29,7 @@ has-requires-2 c κs = search needs
 
 returns : tie.Need-returns Inv-loop μ-loop
 returns c = let a = c .before .before .before .before .before .args in let l = c .before .before .before .before .loop in
-    sym (l .inv .1 ∙ from-hit (a .k) (without (a .v) (a .w)) (l .o) (c .before .before .before .loop-test .taken) (read _ _ _ _ _ _ (c .before .before .has .ensures) (c .before .has2 .ensures) (c .if1 .taken)))
+    sym (l .inv .1 ∙ from-hit (a .k) (bitWithout (a .v) (a .w)) (l .o) (c .before .before .before .loop-test .taken) (read _ _ _ _ _ _ (c .before .before .has .ensures) (c .before .has2 .ensures) (c .if1 .taken)))
 
 add-o : tie.Need-add-o Inv-loop μ-loop
 add-o c = search needs
@@ -43,10 +39,10 @@ loop-less c = search needs
 
 loop-again : tie.Need-loop-again Inv-loop μ-loop
 loop-again c = let a = c .before .before .before .before .before .args in let l = c .before .before .before .before .loop in
-    (omega arith, l .inv .1 ∙ from-miss (a .k) (without (a .v) (a .w)) (l .o) (c .before .before .before .loop-test .taken) (read _ _ _ _ _ _ (c .before .before .has .ensures) (c .before .has2 .ensures) (c .if1 .left)))
+    (omega arith, l .inv .1 ∙ from-miss (a .k) (bitWithout (a .v) (a .w)) (l .o) (c .before .before .before .loop-test .taken) (read _ _ _ _ _ _ (c .before .before .has .ensures) (c .before .has2 .ensures) (c .if1 .left)))
 
 returns-2 : tie.Need-returns-2 Inv-loop μ-loop
-returns-2 c = let a = c .before .before .args in let l = c .before .loop in sym (l .inv .1 ∙ from-end (a .k) (without (a .v) (a .w)) (l .o) (c .loop-test .left))
+returns-2 c = let a = c .before .before .args in let l = c .before .loop in sym (l .inv .1 ∙ from-end (a .k) (bitWithout (a .v) (a .w)) (l .o) (c .loop-test .left))
 
 pub next-spec : {M : Type 1} → statement M
 next-spec =

@@ -67,7 +67,7 @@ pub struct Bench {
 
 type Calls = Sides<Lent, Result<Answer, Refusal>>;
 
-const TIME: Duration = Duration::from_millis(500);
+const TIME: Duration = Duration::from_secs(1);
 
 extern "C" {
     fn record_sound(cache: Cache) -> bool;

@@ -22,14 +22,15 @@ pub struct Sides<L, T> {
     pub by_value: fn(&mut Plain, u32, &mut L) -> T,
 }
 
-/// Passes over the cases, the sides in turn, until the time is up. Each turn begins with another side, what is lent is placed anew before it,
-/// and the calls are made from another depth of the stack. What a pass without calls takes, lending included, is subtracted.
+/// Passes over the cases, the sides in turn, until the time is up and each depth of the stack has come up as often as the others.
+/// Each turn begins with another side, and what is lent is placed anew before it. What a pass without calls takes, lending included,
+/// is subtracted.
 pub fn measure<L, T>(cases: &[Case], lent: &mut L, time: Duration, place: fn(&mut L), sides: &Sides<L, T>) -> Times {
     let plain: Vec<Case<Plain>> = cases.iter().map(|case| Case { record: Plain(case.record), n: case.n }).collect();
     let mut times: [Vec<f64>; 4] = Default::default();
     let start = Instant::now();
     for turn in 0.. {
-        if turn >= 15 && start.elapsed() >= time {
+        if turn > 0 && turn % DEPTHS == 0 && start.elapsed() >= time {
             break;
         }
         place(lent);

@@ -2,7 +2,7 @@
 use mathlib.Core.Path.{_≡_}
 use mathlib.Core.Bool.{cond, _&&_}
 use mathlib.Core.List.{List}
-use Prim.Native.Nat.{ℕ, _<_}
+use Prim.Native.Nat.{ℕ, _-_, _*_, _≤_, _<_}
 use lib.Dec.{leb, ltb}
 use lib.ListN.{length, getD}
 use Rattle.prelude.specs.Scan.{first}
@@ -23,6 +23,15 @@ use Rattle.policy.specs.declared.decision.Due.the-variants.{Clean, Block
 -- the victim, and how many of its pages stand in slots: none where no slot holds a page
 unfoldable pub victimOf : Sizes → Directory → Victim
 victimOf sz d = record { block = blockNo (victim sz d); pages = slotCount sz d (victim sz d) }
+
+-- a block by its pages and number at once: the more pages the higher, and among equals the lower block
+unfoldable pub rankOf : Victim → ℕ
+rankOf v = v .pages * 4096 - v .block .0
+
+-- a table to count pages in has a zero for each block
+pub record Cleared (sz : Sizes) (l : List ℕ) : Type 0 where
+  pub long : sz .N ≤ length l
+  pub zeros : (b : ℕ) → b < sz .N → getD l b 0 ≡ 0
 
 -- the plan of a write, by its ways: 4 to 7
 abbrev pub roomOf : Room → model.Plan

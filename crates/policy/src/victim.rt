@@ -9,17 +9,42 @@ ghost use mathlib.Core.List.{[]};
 ghost use lib.Dec.{eqb};
 ghost use Rattle.model.specs.Policy.{validCount, leastRecent, fewestValid, evictFrame};
 ghost use Rattle.cache.specs.View.{sizesOf, numbers};
-ghost use Rattle.policy.specs.Views.{victimOf, SlotsOf, ValidOf, SomeValid, AllOccupied};
+ghost use Rattle.policy.specs.Views.{victimOf, rankOf, SlotsOf, Cleared, ValidOf, SomeValid, AllOccupied};
 
-// The block with the most pages in slots, the lowest among equals; no pages where all slots are vacant. The pages of each block are
-// counted in a table. A rank is a count times 4,096 less the block, so that one comparison finds the leader.
+// The block with the most pages in slots, the lowest among equals; no pages where all slots are vacant.
 pub fn victim(z: Sizes, slots: &[u32; 128]) -> Victim
     requires { ⌜ SlotsOf (sizesOf z) (now slots) ⌝ }
     ensures { λ r. ⌜ r ≡ victimOf (sizesOf z) (numbers (now (slots .entry)) [] [] []) ⌝ }
 {
+    let lead = highest_rank(z, slots);
+    let pages = (lead + 4095) >> 12;
+    let block = pages * 4096 - lead;
+    Victim {
+        block: BlockNo(block),
+        pages,
+    }
+}
+
+// The victim's rank: a count times 4,096 less the block. A short table where it will do, since it is cleared for each eviction.
+fn highest_rank(z: Sizes, slots: &[u32; 128]) -> u32
+    requires { ⌜ SlotsOf (sizesOf z) (now slots) ⌝ }
+    ensures { λ r. ⌜ r ≡ rankOf (victimOf (sizesOf z) (numbers (now (slots .entry)) [] [] [])) ⌝ }
+{
+    if z.blocks <= 256 {
+        let mut counts = [0u8; 256];
+        return highest_counted(z, slots, &mut counts);
+    }
+    let mut counts = [0u8; 4096];
+    highest_counted(z, slots, &mut counts)
+}
+
+// The same, where the pages of each block are counted in a table. A rank is one number, so that one comparison finds the leader.
+fn highest_counted(z: Sizes, slots: &[u32; 128], counts: &mut [u8]) -> u32
+    requires { ⌜ SlotsOf (sizesOf z) (now slots) × Cleared (sizesOf z) (now counts) ⌝ }
+    ensures { λ r. ⌜ r ≡ rankOf (victimOf (sizesOf z) (numbers (now (slots .entry)) [] [] [])) ⌝ }
+{
     let end = z.slots as usize;
     let m = address::range::reciprocal(z.pages_per_block);
-    let mut counts = [0u8; 4096];
     let mut lead = 0;
     let mut i = 0;
     while i < end {
@@ -36,12 +61,7 @@ pub fn victim(z: Sizes, slots: &[u32; 128]) -> Victim
         }
         i += 1;
     }
-    let pages = (lead + 4095) >> 12;
-    let block = pages * 4096 - lead;
-    Victim {
-        block: BlockNo(block),
-        pages,
-    }
+    lead
 }
 
 // The fewest valid pages that a frame has.

@@ -1,142 +1,27 @@
 use borrow.Author.Needs.{needs}
 use native.Mathlib.Omega.{arith}
-use mathlib.Core.List.{[]}
-use mathlib.Core.Path.{_≡_, refl}
-use mathlib.Core.Logic.{inl, inr}
-use Prim.Native.Nat.{_-_, _≤_, _<_}
-use lib.ListN.{getD}
-use Rattle.prelude.proofs.Scan.{count-le}
-use Rattle.model.specs.Policy.{inBlock}
-use Rattle.model.proofs.Soundness.{K-pos}
-use Rattle.model.proofs.Plan.{slot-vacant}
-use Rattle.cache.specs.View.{sizesOf, numbers}
-use Rattle.policy.proofs.Held.{Held, held, page-lt}
-use Rattle.policy.proofs.Counts.{Counted, counted-none, counted-vacant, counted-taken, counted-kept, counted-all}
+use Prim.Native.Nat.{_≤_}
+use Rattle.policy.proofs.Counts.{rank-low, rank-apart}
 use Rattle.policy.proofs.victim.victim.Statement.{statement}
 use Rattle.policy.proofs.victim.victim.Tie as tie
 
-abbrev Inv-loop : tie.InvT-loop
-Inv-loop z slots end m counts₀ lead₀ i₀ counts lead i = (i ≤ end) × Counted (sizesOf z) (numbers slots [] [] []) i counts lead
+small : (c : tie.After-highest-rank) → c .highest-rank .result ≤ 524288
+small c = rank-low _ _ (c .before .pre .sound .limits) _ (c .highest-rank .ensures)
 
-abbrev μ-loop : tie.MeasureT-loop
-μ-loop z slots end m counts₀ lead₀ i₀ counts lead i = end - i
+highest-rank-requires : tie.Need-highest-rank-requires
+highest-rank-requires c κs = search needs
 
--- the page in the slot, and its block
-found : (c : tie.After-block-by Inv-loop μ-loop) → Held (sizesOf (c .before .before .before .before .before .before .before .args .z)) (numbers (c .before .before .before .before .before .before .before .args .slots .now) [] [] []) (c .before .before .before .before .loop .i) (c .block-by .result .0)
-found c =
-    let start = c .before .before .before .before .before .before .before in let h = held (start .args .z) _ (start .pre .sound) (c .before .before .before .before .loop .i) _ (omega arith) (c .before .if1 .taken) (c .block-by .ensures) in
-    record { page = h .page; own = h .own; low = h .low }
+add-pages : tie.Need-add-pages
+add-pages c = let l = small c in record { fits = omega arith }
 
--- a block has no more pages than there are slots, so a rank is small
-few : (c : tie.After-block-by Inv-loop μ-loop) → getD (c .before .before .before .before .loop .counts) (c .block-by .result .0) 0 < 128
-few c =
-    let start = c .before .before .before .before .before .before .before in let l = c .before .before .before .before .loop in
-    let e = l .inv .1 .each (c .block-by .result .0) (found c .low) in let m = count-le (l .i) (inBlock (sizesOf (start .args .z)) (numbers (start .args .slots .now) [] [] []) (c .block-by .result .0)) in
-    let p = start .pre .sound .limits .P-high in omega arith
+mul-block : tie.Need-mul-block
+mul-block c = let l = small c in record { fits = omega arith }
 
-highest : (c : tie.After-loop Inv-loop μ-loop) → c .before .loop .lead < 1048576
-highest c =
-    let start = c .before .before .before .before in let l = c .before .loop in
-    let e = l .inv .1 .leads in let m = count-le (l .i) (inBlock (sizesOf (start .args .z)) (numbers (start .args .slots .now) [] [] []) (l .inv .1 .leader)) in
-    let p = start .pre .sound .limits .P-high in let i = l .inv .0 in omega arith
+sub-block : tie.Need-sub-block
+sub-block c = search needs
 
-cast-end : tie.Need-cast-end Inv-loop μ-loop
-cast-end c = search needs
-
-reciprocal-requires : tie.Need-reciprocal-requires Inv-loop μ-loop
-reciprocal-requires c κs = search needs
-
-loop-holds : tie.Need-loop-holds Inv-loop μ-loop
-loop-holds c = (omega arith, counted-none _ _ (c .before .before .pre .sound .limits))
-
-mul-x : tie.Need-mul-x Inv-loop μ-loop
-mul-x c = search needs
-
-element-copy-out-x : tie.Need-element-copy-out-x Inv-loop μ-loop
-element-copy-out-x c = search needs
-
-block-by-requires : tie.Need-block-by-requires Inv-loop μ-loop
-block-by-requires c κs =
-    let start = c .before .before .before .before .before .before in let s = start .pre .sound in
-    (K-pos (sizesOf (start .args .z)) (s .limits), s .limits .K-high, page-lt (start .args .z) _ s (c .before .before .before .loop .i) (omega arith) (c .if1 .taken))
-
-cast-at : tie.Need-cast-at Inv-loop μ-loop
-cast-at c = search needs
-
-array-read-pages : tie.Need-array-read-pages Inv-loop μ-loop
-array-read-pages c = let k = found (c .before) .low in let n = c .before .before .before .before .before .before .before .before .pre .sound .limits .N-high in let l = c .before .before .before .before .before .loop .inv .1 .long in omega arith
-
-add-pages : tie.Need-add-pages Inv-loop μ-loop
-add-pages c = let f = few (c .before) in record { fits = omega arith }
-
-array-write-counts : tie.Need-array-write-counts Inv-loop μ-loop
-array-write-counts c = let k = found (c .before) .low in let n = c .before .before .before .before .before .before .before .before .pre .sound .limits .N-high in let l = c .before .before .before .before .before .loop .inv .1 .long in omega arith
-
-cast-rank : tie.Need-cast-rank Inv-loop μ-loop
-cast-rank c = let f = few (c .before) in record { fits = omega arith }
-
-mul-rank : tie.Need-mul-rank Inv-loop μ-loop
-mul-rank c = let f = few (c .before) in record { fits = omega arith }
-
-sub-rank : tie.Need-sub-rank Inv-loop μ-loop
-sub-rank c = let k = found (c .before .before) .low in let n = c .before .before .before .before .before .before .before .before .before .pre .sound .limits .N-high in omega arith
-
-add-i : tie.Need-add-i Inv-loop μ-loop
-add-i c = search needs
-
-loop-less : tie.Need-loop-less Inv-loop μ-loop
-loop-less c = search needs
-
-loop-again : tie.Need-loop-again Inv-loop μ-loop
-loop-again c =
-    let l = c .before .before .before .loop in let start = c .before .before .before .before .before .before in let s = start .pre .sound in let sz = sizesOf (start .args .z) in let d = numbers (start .args .slots .now) [] [] [] in
-    elim (c .if1 .came) [
-      | inl w ↦ let p = found (record { before = record { before = c .before; if1 = w .0 }; block-by = w .1 }) in
-          (omega arith, rw (w .5, w .6) (counted-taken sz d (s .limits) (l .i) (l .counts) (l .lead) (l .inv .1) _ _ p refl (w .4 .taken)))
-      | inr v ↦ elim v [
-        | inl w ↦ let p = found (record { before = record { before = c .before; if1 = w .0 }; block-by = w .1 }) in
-            (omega arith, rw (w .5, w .6) (counted-kept sz d (s .limits) (l .i) (l .counts) (l .lead) (l .inv .1) _ _ p refl (w .4 .left)))
-        | inr w ↦ (omega arith, rw (w .1, w .2) (counted-vacant sz d (s .limits) (l .i) (l .counts) (l .lead) (l .inv .1) (slot-vacant sz _ s (l .i) (omega arith) (w .0 .left))))
-      ]
-    ]
-
-add-pages-2 : tie.Need-add-pages-2 Inv-loop μ-loop
-add-pages-2 c = let l = highest c in record { fits = omega arith }
-
-mul-block : tie.Need-mul-block Inv-loop μ-loop
-mul-block c = let l = highest c in record { fits = omega arith }
-
-sub-block : tie.Need-sub-block Inv-loop μ-loop
-sub-block c = omega arith
-
-returns : tie.Need-returns Inv-loop μ-loop
-returns c =
-    let l = c .before .loop in let start = c .before .before .before .before in let e : l .i ≡ start .args .z .slots = omega arith in
-    counted-all _ _ (start .pre .sound .limits) (l .counts) (l .lead) (rw e at (l .inv .1))
+returns : tie.Need-returns
+returns c = rank-apart _ _ (c .before .pre .sound .limits) _ (c .highest-rank .ensures)
 
 pub victim-spec : {M : Type 1} → statement M
-victim-spec =
-    tie.close
-    (tie.spec
-    Inv-loop
-    μ-loop
-    cast-end
-    reciprocal-requires
-    loop-holds
-    mul-x
-    element-copy-out-x
-    block-by-requires
-    cast-at
-    array-read-pages
-    add-pages
-    array-write-counts
-    cast-rank
-    mul-rank
-    sub-rank
-    add-i
-    loop-less
-    loop-again
-    add-pages-2
-    mul-block
-    sub-block
-    returns)
+victim-spec = tie.close (tie.spec highest-rank-requires add-pages mul-block sub-block returns)

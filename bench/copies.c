@@ -17,7 +17,7 @@ void *__real_memmove(void *to, const void *from, size_t bytes);
 void *__real_memcpy(void *to, const void *from, size_t bytes);
 
 static void count(size_t bytes) {
-    moves += bytes == PAGE;
+    if (bytes % PAGE == 0) moves += bytes / PAGE; /* merge reads move several pages at once */
     copies += bytes == SLOTS * sizeof(uint32_t);
 }
 

@@ -22,30 +22,32 @@ pub struct Sides<L, T> {
     pub by_value: fn(&mut Plain, u32, &mut L) -> T,
 }
 
-/// Passes over the cases, the sides in turn, until the time is up and each depth of the stack has come up as often as the others.
-/// Each turn begins with another side, and what is lent is placed anew before it. What a pass without calls takes, lending included,
-/// is subtracted.
+/// Passes over the cases, the sides in turn, until the time is up and each side has gone first from each depth of the stack as often as
+/// the others. What is lent is placed anew before each turn. What a pass without calls takes, lending included, is subtracted.
 pub fn measure<L, T>(cases: &[Case], lent: &mut L, time: Duration, place: fn(&mut L), sides: &Sides<L, T>) -> Times {
     let plain: Vec<Case<Plain>> = cases.iter().map(|case| Case { record: Plain(case.record), n: case.n }).collect();
     let mut times: [Vec<f64>; 4] = Default::default();
     let start = Instant::now();
     for turn in 0.. {
-        if turn > 0 && turn % DEPTHS == 0 && start.elapsed() >= time {
+        if turn > 0 && turn % (3 * DEPTHS) == 0 && start.elapsed() >= time {
             break;
         }
         place(lent);
-        for side in (0..4).map(|i| (turn + i) % 4) {
+        for side in [turn % 3, (turn + 1) % 3, (turn + 2) % 3, IDLE] {
             times[side].push(deeper(turn % DEPTHS, &mut || match side {
-                0 => pass(cases, lent, |_, _, lent| (sides.idle)(lent)),
-                1 => pass(cases, lent, sides.proved),
-                2 => pass(&plain, lent, sides.plain),
-                _ => pass(&plain, lent, sides.by_value),
+                0 => pass(cases, lent, sides.proved),
+                1 => pass(&plain, lent, sides.plain),
+                2 => pass(&plain, lent, sides.by_value),
+                _ => pass(cases, lent, |_, _, lent| (sides.idle)(lent)),
             }));
         }
     }
-    let [idle, proved, plain, by_value] = times.map(median);
+    let [proved, plain, by_value, idle] = times.map(median);
     Times { proved: proved - idle, plain: plain - idle, by_value: by_value - idle }
 }
+
+/// The place of the pass without calls, after the three sides.
+const IDLE: usize = 3;
 
 /// A level takes an odd multiple of 16 bytes, so that the calls' frames come to lie at each multiple of 16 bytes in a page of memory.
 const DEPTHS: usize = 256;

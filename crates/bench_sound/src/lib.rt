@@ -32,7 +32,9 @@ pub extern "C" fn lists_sound(
     recency: &[u8; 8],
 ) -> bool
     requires { ⌜ Shape (numbers (now slots) (now frames) (now valid) (now recency)) ⌝ }
-    ensures { λ s. ⌜ s ≡ sound (sizesOf sizes) (numbers (now (slots .entry)) (now (frames .entry)) (now (valid .entry)) (now (recency .entry))) ⌝ }
+    ensures { λ s. ⌜ (
+        let d = numbers (now (slots .entry)) (now (frames .entry)) (now (valid .entry)) (now (recency .entry)) in
+        s ≡ sound (sizesOf sizes) d) ⌝ }
 {
     cache::soundness::lists_sound(sizes, slots, frames, valid, recency)
 }

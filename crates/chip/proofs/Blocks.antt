@@ -15,7 +15,8 @@ use Rattle.prelude.proofs.Tests.{by-test}
 use Rattle.prelude.proofs.Scan.{First, firstFrom-is}
 use Rattle.prelude.proofs.Bits.{bit-zero}
 use Rattle.prelude.proofs.Tab.{Done, done-from, done-put, done-skip, done-past, done-rest}
-use Rattle.prelude.proofs.Pages.{ends-before, length-laid, length-run, laid-none, laid-more, length-pageAt, in-run, page-at, pages-length, pages-put}
+use Rattle.prelude.proofs.Pages.{ends-before, length-laid, length-run, laid-none, laid-more, length-pageAt, in-run, page-at, pages-length}
+use Rattle.prelude.proofs.Pages.{pages-put}
 use Rattle.model.specs.Sizes.{Sizes}
 use Rattle.model.specs.Moves.{programmed}
 use Rattle.model.specs.Calls.{Page, zeroPage, flashPages}
@@ -26,7 +27,13 @@ use Rattle.chip.specs.Chip.{Facing, stretchPages, mergedPage, programmed
 module _ (sz : Sizes) (b : ℕ) (flash stretch : List ℕ) (h : Facing sz b flash stretch) where
   -- the same with another flash and another stretch, as long
   pub facing-on : (flash′ stretch′ : List ℕ) → length flash′ ≡ length flash → length stretch′ ≡ length stretch → Facing sz b flash′ stretch′
-  facing-on flash′ stretch′ p q = record { limits = h .limits; b-lt = h .b-lt; flash-length = p ∙ h .flash-length; stretch-length = q ∙ h .stretch-length }
+  facing-on flash′ stretch′ p q = record {
+    limits = h .limits;
+    b-lt = h .b-lt;
+    flash-length = p ∙ h .flash-length;
+    stretch-length = q
+        ∙ h .stretch-length;
+  }
 
   -- page o of both
   module _ (o : ℕ) (o-lt : o < sz .K) where
@@ -45,12 +52,15 @@ module _ (sz : Sizes) (b : ℕ) (flash stretch : List ℕ) (h : Facing sz b flas
     run-in-stretch = let e = h .stretch-length in rw (← add-mul o n (sz .S)) (let m = mul-le-mul-right (sz .S) l in omega arith)
 
     pub run-in-flash : (b * sz .K + o) * sz .S + n * sz .S ≤ length flash
-    run-in-flash = let e = h .flash-length in rw (← add-mul (b * sz .K + o) n (sz .S)) (let m = mul-le-mul-right (sz .S) (let k = ends-before (sz .K) (h .b-lt) in let g : b * sz .K + o + n ≤ sz .N * sz .K = omega arith in g) in omega arith)
+    run-in-flash = let e = h .flash-length in rw (← add-mul (b * sz .K + o) n (sz .S))
+        (let m = mul-le-mul-right (sz .S) (let k = ends-before (sz .K) (h .b-lt) in
+        let g : b * sz .K + o + n ≤ sz .N * sz .K = omega arith in g) in omega arith)
 
   -- whether offset o is below K, told by the bytes before it
   module _ (o : ℕ) where
     pub before-fits : o ≤ sz .K → o * sz .S < 2 ^ 64
-    before-fits l = let k : o ≤ 64 = omega (arith, h .limits .K-high) in let m : o * sz .S ≤ 64 * 2048 = mul-le-mul k (h .limits .S-high) in omega arith
+    before-fits l = let k : o ≤ 64 = omega (arith, h .limits .K-high) in
+        let m : o * sz .S ≤ 64 * 2048 = mul-le-mul k (h .limits .S-high) in omega arith
 
     pub before-end : o * sz .S < length stretch → o < sz .K
     before-end l = by-test (ltb o (sz .K))
@@ -59,7 +69,9 @@ module _ (sz : Sizes) (b : ℕ) (flash stretch : List ℕ) (h : Facing sz b flas
 
     pub at-end : length stretch ≤ o * sz .S → sz .K ≤ o
     at-end l = by-test (ltb o (sz .K))
-        (λ t. let e = h .stretch-length in let p = h .limits .S-low in let m : suc o * sz .S ≤ sz .K * sz .S = mul-le-mul-right (sz .S) (ltb-true o (sz .K) t) in absurd (omega (arith, suc-mul o (sz .S))))
+        (λ t. let e = h .stretch-length in let p = h .limits .S-low in
+        let m : suc o * sz .S ≤ sz .K * sz .S = mul-le-mul-right (sz .S) (ltb-true o (sz .K) t) in
+        absurd (omega (arith, suc-mul o (sz .S))))
         (λ t. ltb-false o (sz .K) t)
 
 -- ---- the merge reads
@@ -92,17 +104,21 @@ module _ (sz : Sizes) (b : ℕ) (flash stretch₀ : List ℕ) (v : ℕ) where
   module _ (stretch : List ℕ) (h : Facing sz b flash stretch) (o : ℕ) (o-lt : o < sz .K) (done : MergedTo o stretch) where
     merged-read : bit v o ≡ false → MergedTo (o + 1) (putPage (sz .S) stretch o (pageAt (sz .S) flash (b * sz .K + o)))
     unfolding mergedPage
-    merged-read e = rw (pages-put (sz .S) (sz .K) stretch o (pageAt (sz .S) flash (b * sz .K + o)) o-lt (h .stretch-length) (length-pageAt (sz .S) flash _ (in-flash sz b flash stretch h o o-lt)))
-        (done-put (zeroPage sz) (sz .K) (mergedPage sz flash b stretch₀ v) (stretchPages sz stretch₀) o (stretchPages sz stretch) _ done o-lt (rw e))
+    merged-read e = rw (pages-put (sz .S) (sz .K) stretch o (pageAt (sz .S) flash (b * sz .K + o)) o-lt (h .stretch-length)
+        (length-pageAt (sz .S) flash _ (in-flash sz b flash stretch h o o-lt)))
+        (done-put (zeroPage sz) (sz .K) (mergedPage sz flash b stretch₀ v) (stretchPages sz stretch₀) o (stretchPages sz stretch) _ done
+        o-lt (rw e))
 
     merged-kept : bit v o ≡ true → MergedTo (o + 1) stretch
     unfolding mergedPage
-    merged-kept e = done-skip (zeroPage sz) (sz .K) (mergedPage sz flash b stretch₀ v) (stretchPages sz stretch₀) o (stretchPages sz stretch) done
+    merged-kept e = done-skip (zeroPage sz) (sz .K) (mergedPage sz flash b stretch₀ v) (stretchPages sz stretch₀) o
+        (stretchPages sz stretch) done
         (rw e (sym (page-at (sz .S) (sz .K) stretch₀ (zeroPage sz) o o-lt)))
 
   -- the n offsets from o on are read at once
   merged-run : (stretch : List ℕ) → Facing sz b flash stretch → (o n : ℕ) → o + n ≤ sz .K → MergedTo o stretch
-      → ((j : ℕ) → o ≤ j → j < o + n → bit v j ≡ false) → MergedTo (o + n) (laid (o * sz .S) (runAt (sz .S) flash (b * sz .K + o) n) stretch)
+      → ((j : ℕ) → o ≤ j → j < o + n → bit v j ≡ false) → MergedTo (o + n)
+      (laid (o * sz .S) (runAt (sz .S) flash (b * sz .K + o) n) stretch)
   merged-run stretch h o zero l done miss = rw (add-zero o, laid-none (sz .S) flash (b * sz .K + o) stretch o) done
   merged-run stretch h o (suc n) l done miss =
       let last : o + n < sz .K = omega arith in
@@ -111,24 +127,29 @@ module _ (sz : Sizes) (b : ℕ) (flash stretch₀ : List ℕ) (v : ℕ) where
       let m = suc-mul n (sz .S) in
       let g : b * sz .K + (o + n) ≡ b * sz .K + o + n = omega arith in
       let before = merged-run stretch h o n (omega arith) done (λ j p q. miss j p (omega arith)) in
-      let long = length-laid (o * sz .S) (runAt (sz .S) flash (b * sz .K + o) n) stretch (rw (length-run (sz .S) flash (b * sz .K + o) n (omega arith)) (omega arith)) in
+      let long = length-laid (o * sz .S) (runAt (sz .S) flash (b * sz .K + o) n) stretch
+      (rw (length-run (sz .S) flash (b * sz .K + o) n (omega arith)) (omega arith)) in
       let k : o + suc n ≡ o + n + 1 = omega arith in
       rw (k, laid-more (sz .S) flash (b * sz .K + o) stretch o n room from, ← g)
       (merged-read _ (facing-on sz b flash stretch h flash _ refl long) (o + n) last before (miss (o + n) (omega arith) (omega arith)))
 
   -- a turn reads the offsets from o to the next valid one, e, and passes that
   pub merged-turn : (stretch : List ℕ) (o e : ℕ) → o < sz .K → e ≡ firstFrom o (sz .K - o) (bitWithout v 0)
-      → Facing sz b flash stretch → MergedTo o stretch → MergedTo (e + 1) (laid (o * sz .S) (runAt (sz .S) flash (b * sz .K + o) (e - o)) stretch)
+      → Facing sz b flash stretch → MergedTo o stretch → MergedTo (e + 1)
+      (laid (o * sz .S) (runAt (sz .S) flash (b * sz .K + o) (e - o)) stretch)
   merged-turn stretch o e l next h done =
       let a = next-low (sz .K) v o e l next in
       let z = next-high (sz .K) v o e l next in
       let sum : o + (e - o) ≡ e = omega arith in
       let long = length-laid (o * sz .S) (runAt (sz .S) flash (b * sz .K + o) (e - o)) stretch
-      (rw (length-run (sz .S) flash (b * sz .K + o) (e - o) (run-in-flash sz b flash stretch h o (e - o) (omega arith))) (run-in-stretch sz b flash stretch h o (e - o) (omega arith))) in
+      (rw (length-run (sz .S) flash (b * sz .K + o) (e - o) (run-in-flash sz b flash stretch h o (e - o) (omega arith)))
+      (run-in-stretch sz b flash stretch h o (e - o) (omega arith))) in
       let read : MergedTo e (laid (o * sz .S) (runAt (sz .S) flash (b * sz .K + o) (e - o)) stretch) =
-      subst (λ (x : ℕ). MergedTo x (laid (o * sz .S) (runAt (sz .S) flash (b * sz .K + o) (e - o)) stretch)) sum (merged-run stretch h o (e - o) (omega arith) done (λ j p q. next-miss (sz .K) v o e l next j p (omega arith))) in
+      subst (λ (x : ℕ). MergedTo x (laid (o * sz .S) (runAt (sz .S) flash (b * sz .K + o) (e - o)) stretch)) sum
+      (merged-run stretch h o (e - o) (omega arith) done (λ j p q. next-miss (sz .K) v o e l next j p (omega arith))) in
       by-test (ltb e (sz .K))
-      (λ t. let k = ltb-true e (sz .K) t in merged-kept _ (facing-on sz b flash stretch h flash _ refl long) e k read (next-hit (sz .K) v o e l next k))
+      (λ t. let k = ltb-true e (sz .K) t in merged-kept _ (facing-on sz b flash stretch h flash _ refl long) e k read
+      (next-hit (sz .K) v o e l next k))
       (λ t. done-past _ _ _ _ e _ read (ltb-false e (sz .K) t))
 
 -- ---- the programming of all pages
@@ -149,17 +170,24 @@ module _ (sz : Sizes) (b : ℕ) (flash₀ stretch : List ℕ) where
     other n ne = rw (ne-eqb (n / sz .K) b ne)
 
     pub programmed-none : ProgrammedTo 0 flash₀
-    programmed-none = done-from (zeroPage sz) (sz .N * sz .K) programmedPage (flashPages sz flash₀) (b * sz .K + 0) (pages-length (sz .S) (sz .N * sz .K) flash₀)
+    programmed-none = done-from (zeroPage sz) (sz .N * sz .K) programmedPage (flashPages sz flash₀) (b * sz .K + 0)
+        (pages-length (sz .S) (sz .N * sz .K) flash₀)
         (λ n l. other n (λ e. let s = page-split sz (h .limits) n b e in omega arith))
 
-    pub programmed-turn : (o : ℕ) → o < sz .K → ProgrammedTo o flash → ProgrammedTo (o + 1) (putPage (sz .S) flash (b * sz .K + o) (pageAt (sz .S) stretch o))
+    pub programmed-turn : (o : ℕ) → o < sz .K → ProgrammedTo o flash
+        → ProgrammedTo (o + 1) (putPage (sz .S) flash (b * sz .K + o) (pageAt (sz .S) stretch o))
     unfolding programmedPage
     programmed-turn o l done = let n-lt = page-lt sz (h .limits) b o (h .b-lt) l in
-        rw (← add-assoc (b * sz .K) o 1, pages-put (sz .S) (sz .N * sz .K) flash (b * sz .K + o) (pageAt (sz .S) stretch o) n-lt (h .flash-length) (length-pageAt (sz .S) stretch o (in-stretch sz b flash stretch h o l)))
+        rw (
+          ← add-assoc (b * sz .K) o 1,
+          pages-put (sz .S) (sz .N * sz .K) flash (b * sz .K + o) (pageAt (sz .S) stretch o) n-lt
+              (h .flash-length) (length-pageAt (sz .S) stretch o (in-stretch sz b flash stretch h o l)),
+        )
         (done-put (zeroPage sz) (sz .N * sz .K) programmedPage (flashPages sz flash₀) (b * sz .K + o) (flashPages sz flash) _ done n-lt
         (rw (page-div sz (h .limits) b o l, page-mod sz (h .limits) b o l, eq-eqb b b refl)))
 
     pub programmed-all : (o : ℕ) → sz .K ≤ o → ProgrammedTo o flash → flashPages sz flash ≡ programmedPages sz flash₀ b stretch
     unfolding programmed programmedPage
-    programmed-all o l done = done-rest (zeroPage sz) (sz .N * sz .K) programmedPage (flashPages sz flash₀) (b * sz .K + o) (flashPages sz flash) done
+    programmed-all o l done = done-rest (zeroPage sz) (sz .N * sz .K) programmedPage (flashPages sz flash₀) (b * sz .K + o)
+        (flashPages sz flash) done
         (λ n a k. other n (λ e. let s = page-split sz (h .limits) n b e in let w = offset-lt sz (h .limits) n in omega arith))

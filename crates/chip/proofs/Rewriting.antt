@@ -30,7 +30,8 @@ module _ {sz : Sizes} {v b f : ℕ} {flash wear bspace : List ℕ} (h : Rewritab
   in-bspace = block-fits (sz .S) (sz .K) (sz .B) bspace (h .bspace-length) f (h .f-lt)
 
 -- d is any directory whose frame f has the valid set v
-module _ (sz : Sizes) (v b f : ℕ) (flash wear bspace : List ℕ) (h : Rewritable sz v b f flash wear bspace) (d : Directory) (valid-is : validAt d f ≡ v) where
+module _ (sz : Sizes) (v b f : ℕ) (flash wear bspace : List ℕ) (h : Rewritable sz v b f flash wear bspace) (d : Directory)
+    (valid-is : validAt d f ≡ v) where
   abbrev page : ℕ → Page
   page = merged (zeroPage sz) sz d (chipMemory sz flash bspace) b f
 
@@ -38,7 +39,8 @@ module _ (sz : Sizes) (v b f : ℕ) (flash wear bspace : List ℕ) (h : Rewritab
   page-is : (o : ℕ) → o < sz .K → mergedPage sz flash b (pageAt (sz .K * sz .S) bspace f) v o ≡ page o
   unfolding mergedPage merged chipMemory
   page-is o l = by-test (bit v o)
-      (λ t. rw (valid-is, t) (sym (page-at (sz .S) (sz .K) _ (zeroPage sz) o l) ∙ block-page (sz .S) (sz .K) (sz .B) bspace (h .bspace-length) (zeroPage sz) f o (h .f-lt) l))
+      (λ t. rw (valid-is, t) (sym (page-at (sz .S) (sz .K) _ (zeroPage sz) o l)
+      ∙ block-page (sz .S) (sz .K) (sz .B) bspace (h .bspace-length) (zeroPage sz) f o (h .f-lt) l))
       (λ t. rw (valid-is, t) (sym (flash-page sz flash _ _ (b * sz .K + o) (page-lt sz (h .limits) b o (h .b-lt) l))))
 
   -- the part of b-space that is lent, and what comes back in it
@@ -61,7 +63,8 @@ module _ (sz : Sizes) (v b f : ℕ) (flash wear bspace : List ℕ) (h : Rewritab
           ∙ getD-tab (sz .K) _ (zeroPage sz) (n % sz .K) l ∙ rw (part-is bspace) (page-is (n % sz .K) l)
 
       -- it is put back
-      bspace-is : framePages sz (putPage (sz .K * sz .S) bspace f stretch) ≡ rewrittenPages (zeroPage sz) sz d (chipMemory sz flash bspace) b f .bspace
+      bspace-is : framePages sz (putPage (sz .K * sz .S) bspace f stretch)
+          ≡ rewrittenPages (zeroPage sz) sz d (chipMemory sz flash bspace) b f .bspace
       unfolding rewrittenPages chipMemory
       bspace-is = block-put (sz .S) (sz .K) (sz .B) bspace (h .bspace-length) (zeroPage sz) f stretch (K-pos sz (h .limits)) (h .f-lt) long
           ∙ tab-ext (zeroPage sz) (sz .B * sz .K) _ _ (λ k l. by-test (eqb (k / sz .K) f)
@@ -70,18 +73,21 @@ module _ (sz : Sizes) (v b f : ℕ) (flash wear bspace : List ℕ) (h : Rewritab
 
       -- it is programmed into the erased block
       flash-is : (blank : List ℕ) → length blank ≡ sz .K * sz .S
-          → programmedPages sz (putPage (sz .K * sz .S) flash b blank) b stretch ≡ rewrittenPages (zeroPage sz) sz d (chipMemory sz flash bspace) b f .flash
+          → programmedPages sz (putPage (sz .K * sz .S) flash b blank) b stretch
+          ≡ rewrittenPages (zeroPage sz) sz d (chipMemory sz flash bspace) b f .flash
       unfolding programmed rewrittenPages chipMemory
       flash-is blank e = tab-ext (zeroPage sz) (sz .N * sz .K) _ _ (λ n l. by-test (eqb (n / sz .K) b)
           (λ t. rw t (stretch-page n))
-          (λ t. rw (t, block-put (sz .S) (sz .K) (sz .N) flash (h .flash-length) (zeroPage sz) b blank (K-pos sz (h .limits)) (h .b-lt) e) (getD-tab (sz .N * sz .K) _ (zeroPage sz) n l ∙ rw t)))
+          (λ t. rw (t, block-put (sz .S) (sz .K) (sz .N) flash (h .flash-length) (zeroPage sz) b blank (K-pos sz (h .limits)) (h .b-lt) e)
+          (getD-tab (sz .N * sz .K) _ (zeroPage sz) n l ∙ rw t)))
 
       pub rewritten-is : (flash₁ wear₁ flash₂ : List ℕ) → Erased sz b flash wear flash₁ wear₁
           → flashPages sz flash₂ ≡ programmedPages sz flash₁ b (part size (putPart size bspace f stretch) f)
           → chipMemory sz flash₂ (putPart size bspace f stretch) ≡ rewrittenPages (zeroPage sz) sz d (chipMemory sz flash bspace) b f
       unfolding chipMemory rewrittenPages
       rewritten-is flash₁ wear₁ flash₂ erased programs =
-          let back : part size (putPart size bspace f stretch) f ≡ stretch = part-is _ ∙ rw (put-is stretch) (page-put-same (sz .K * sz .S) bspace f stretch (in-bspace h) long) in
+          let back : part size (putPart size bspace f stretch) f ≡ stretch = part-is _
+          ∙ rw (put-is stretch) (page-put-same (sz .K * sz .S) bspace f stretch (in-bspace h) long) in
           let p = rw (erased .flash-is, back) at programs ∙ flash-is (replicate (sz .K * sz .S) 255) (length-replicate _ _) in
           let q = ap (framePages sz) (put-is stretch) ∙ bspace-is in
           λ i. record { flash = p i; pspace = []; bspace = q i }

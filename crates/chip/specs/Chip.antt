@@ -70,8 +70,10 @@ pub record Rewritable (sz : Sizes) (v b f : ℕ) (flash wear bspace : List ℕ) 
   pub bspace-length : length bspace ≡ sz .B * sz .K * sz .S
   pub unworn : getD wear b 0 < sz .W
 
--- the merge reads, the pages of flash and of the frame's own stretch, and the wear are the model's, for every directory whose frame f has the valid set v
+-- the merge reads, the pages of flash and of the frame's own stretch, and the wear are the model's,
+-- for every directory whose frame f has the valid set v
 pub record Rewritten (sz : Sizes) (v b f : ℕ) (flash wear bspace : List ℕ) (reads : ℕ) (flash′ wear′ bspace′ : List ℕ) : Type 0 where
   pub reads-are : (d : Directory) → validAt d f ≡ v → reads ≡ mergeReads sz d f
-  pub pages-are : (d : Directory) → validAt d f ≡ v → chipMemory sz flash′ bspace′ ≡ rewrittenPages (zeroPage sz) sz d (chipMemory sz flash bspace) b f
+  pub pages-are : (d : Directory) → validAt d f ≡ v → chipMemory sz flash′ bspace′
+      ≡ rewrittenPages (zeroPage sz) sz d (chipMemory sz flash bspace) b f
   pub wear-is : wear′ ≡ worn wear b

@@ -24,7 +24,9 @@ pub fn rewrite(
     f: usize,
 ) -> u32
     requires { ⌜ Rewritable (sizesOf z) v (b .0) f (now flash) (now wear) (now bspace) ⌝ }
-    ensures { λ r. ⌜ Rewritten (sizesOf z) v (b .0) f (now (flash .entry)) (now (wear .entry)) (now (bspace .entry)) r (now (flash .exit)) (now (wear .exit)) (now (bspace .exit)) ⌝ }
+    ensures { λ r. ⌜ (
+        Rewritten (sizesOf z) v (b .0) f (now (flash .entry)) (now (wear .entry)) (now (bspace .entry)) r (now (flash .exit))
+        (now (wear .exit)) (now (bspace .exit))) ⌝ }
 {
     let merged = z.pages_per_block - bitmap::count(v);
     let size = block_size(z);
@@ -40,7 +42,8 @@ pub fn rewrite(
 // one another are read by one move, which takes less time than a move for each.
 fn merge(z: Sizes, flash: &[u8], b: BlockNo, stretch: &mut [u8], v: u64)
     requires { ⌜ Facing (sizesOf z) (b .0) (now flash) (now stretch) ⌝ }
-    ensures { λ _. ⌜ stretchPages (sizesOf z) (now (stretch .exit)) ≡ mergedPages (sizesOf z) (now (flash .entry)) (b .0) (now (stretch .entry)) v ⌝ }
+    ensures { λ _. ⌜ (
+        stretchPages (sizesOf z) (now (stretch .exit)) ≡ mergedPages (sizesOf z) (now (flash .entry)) (b .0) (now (stretch .entry)) v) ⌝ }
 {
     let s = z.page_size as usize;
     let mut o: u32 = 0;
@@ -58,7 +61,8 @@ fn merge(z: Sizes, flash: &[u8], b: BlockNo, stretch: &mut [u8], v: u64)
 // not make four page moves of one turn: their addresses do not fit into the registers that a call keeps.
 fn program_block(z: Sizes, flash: &mut [u8], b: BlockNo, stretch: &[u8])
     requires { ⌜ Facing (sizesOf z) (b .0) (now flash) (now stretch) ⌝ }
-    ensures { λ _. ⌜ flashPages (sizesOf z) (now (flash .exit)) ≡ programmedPages (sizesOf z) (now (flash .entry)) (b .0) (now (stretch .entry)) ⌝ }
+    ensures { λ _. ⌜ (
+        flashPages (sizesOf z) (now (flash .exit)) ≡ programmedPages (sizesOf z) (now (flash .entry)) (b .0) (now (stretch .entry))) ⌝ }
 {
     let s = z.page_size as usize;
     let size = stretch.len();

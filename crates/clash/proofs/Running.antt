@@ -25,7 +25,8 @@ pub record Running (script : List ℕ) (w : Walk) (done : ℕ) (m : Buffers) (pa
   pub bound : done ≤ 49152 * w .at
   pub first : (done ≡ 0) ⊎ (w .at < length script)
 
-module _ (script : List ℕ) (w : Walk) (done : ℕ) (m : Buffers) (page out : List ℕ) (h : Running script w done m page out) (r : Walk) (m′ : Buffers) (out′ : List ℕ) (o : Onward script w m out r m′ out′) where
+module _ (script : List ℕ) (w : Walk) (done : ℕ) (m : Buffers) (page out : List ℕ) (h : Running script w done m page out) (r : Walk)
+    (m′ : Buffers) (out′ : List ℕ) (o : Onward script w m out r m′ out′) where
   abbrev after : List ℕ
   after = rest script (inUse r m′) (r .at) (r .number)
 
@@ -37,12 +38,14 @@ module _ (script : List ℕ) (w : Walk) (done : ℕ) (m : Buffers) (page out : L
 
   -- what is printed is what the output has next
   pub next : take (r .printed) out′ ≡ take (length (take (r .printed) out′)) (drop done (outputOf script))
-  next = sym (ap (λ (k : ℕ). take k (drop done (outputOf script))) long ∙ ap (take (r .printed)) (sym split) ∙ take-at (take (r .printed) out′) after (r .printed) long)
+  next = sym (ap (λ (k : ℕ). take k (drop done (outputOf script))) long ∙ ap (take (r .printed)) (sym split)
+      ∙ take-at (take (r .printed) out′) after (r .printed) long)
 
   counted : done + r .printed + length after ≡ length (outputOf script)
   counted =
       let a : r .printed + length after ≡ length (outputOf script) - done =
-      ap (λ (k : ℕ). k + length after) (sym long) ∙ sym (length-append (take (r .printed) out′) after) ∙ ap length split ∙ length-drop done (outputOf script) in
+      ap (λ (k : ℕ). k + length after) (sym long) ∙ sym (length-append (take (r .printed) out′) after) ∙ ap length split
+      ∙ length-drop done (outputOf script) in
       let b = h .written in
       omega arith
 
@@ -62,7 +65,8 @@ module _ (script : List ℕ) (w : Walk) (done : ℕ) (m : Buffers) (page out : L
         let b = h .out-length in
         on (record { line = omega arith; room = omega arith })
 
-    pub goes-on : length out′ ≡ 49152 → (page′ : List ℕ) → Memory m′ page′ → r .at < length script → Running script (record { cache = r .cache; at = r .at; number = r .number; printed = 0 }) (done + r .printed) m′ page′ out′
+    pub goes-on : length out′ ≡ 49152 → (page′ : List ℕ) → Memory m′ page′ → r .at < length script
+        → Running script (record { cache = r .cache; at = r .at; number = r .number; printed = 0 }) (done + r .printed) m′ page′ out′
     goes-on e page′ mem l =
         let q = o .ready .printed-le in
         let k = counted in
@@ -73,7 +77,8 @@ module _ (script : List ℕ) (w : Walk) (done : ℕ) (m : Buffers) (page out : L
           out-length = e;
           ready = record { held = o .ready .held; short = o .ready .short; number-le = o .ready .number-le; printed-le = omega arith };
           few = omega arith;
-          left = sym (drop-at (take (r .printed) out′) after (r .printed) long) ∙ ap (drop (r .printed)) split ∙ drop-drop (r .printed) done (outputOf script);
+          left = sym (drop-at (take (r .printed) out′) after (r .printed) long) ∙ ap (drop (r .printed)) split
+              ∙ drop-drop (r .printed) done (outputOf script);
           written = omega arith;
           bound = omega arith;
           first = inr l;

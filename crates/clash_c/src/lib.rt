@@ -48,7 +48,9 @@ pub extern "C" fn clash_open(
     pspace: &[u8],
     bspace: &[u8],
 ) -> Reply
-    ensures { λ r. ⌜ opened r ≡ openStore (sizesOf sizes) (buffers (now (flash .entry)) (now (wear .entry)) (now (pspace .entry)) (now (bspace .entry))) ⌝ }
+    ensures { λ r. ⌜ (
+        let u = buffers (now (flash .entry)) (now (wear .entry)) (now (pspace .entry)) (now (bspace .entry)) in
+        opened r ≡ openStore (sizesOf sizes) u) ⌝ }
 {
     let o = Cache::open(sizes, flash, wear, pspace, bspace);
     let cache = o.cache;
@@ -68,7 +70,9 @@ pub extern "C" fn clash_read(
     n: u32,
     page: &mut [u8],
 ) -> Reply
-    ensures { λ r. ⌜ replied (readSaid (r .answer)) r (buffers (now (flash .entry)) (now (wear .entry)) (now (pspace .entry)) (now (bspace .entry))) (now (page .exit)) ≡ call leastRecent (storeOf c (buffers (now (flash .entry)) (now (wear .entry)) (now (pspace .entry)) (now (bspace .entry)))) (read n (now (page .entry))) ⌝ }
+    ensures { λ r. ⌜ (
+        let u = buffers (now (flash .entry)) (now (wear .entry)) (now (pspace .entry)) (now (bspace .entry)) in
+        replied (readSaid (r .answer)) r u (now (page .exit)) ≡ call leastRecent (storeOf c u) (read n (now (page .entry)))) ⌝ }
 {
     let o = c.read(flash, wear, pspace, bspace, PageNo(n), page);
     let cache = o.cache;
@@ -88,7 +92,10 @@ pub extern "C" fn clash_write(
     n: u32,
     page: &[u8],
 ) -> Reply
-    ensures { λ r. ⌜ replied (writeSaid (r .answer)) r (buffers (now (flash .exit)) (now (wear .exit)) (now (pspace .exit)) (now (bspace .exit))) (now (page .entry)) ≡ call leastRecent (storeOf c (buffers (now (flash .entry)) (now (wear .entry)) (now (pspace .entry)) (now (bspace .entry)))) (write n (now (page .entry))) ⌝ }
+    ensures { λ r. ⌜ (
+        let u = buffers (now (flash .entry)) (now (wear .entry)) (now (pspace .entry)) (now (bspace .entry)) in
+        let u′ = buffers (now (flash .exit)) (now (wear .exit)) (now (pspace .exit)) (now (bspace .exit)) in
+        replied (writeSaid (r .answer)) r u′ (now (page .entry)) ≡ call leastRecent (storeOf c u) (write n (now (page .entry)))) ⌝ }
 {
     let o = c.write(flash, wear, pspace, bspace, PageNo(n), page);
     let cache = o.cache;
@@ -110,7 +117,11 @@ pub extern "C" fn clash_part(
     bytes: &[u8],
     page: &mut [u8],
 ) -> Reply
-    ensures { λ r. ⌜ replied (writeSaid (r .answer)) r (buffers (now (flash .exit)) (now (wear .exit)) (now (pspace .exit)) (now (bspace .exit))) (now (page .exit)) ≡ call leastRecent (storeOf c (buffers (now (flash .entry)) (now (wear .entry)) (now (pspace .entry)) (now (bspace .entry)))) (part n first (now (bytes .entry)) (now (page .entry))) ⌝ }
+    ensures { λ r. ⌜ (
+        let u = buffers (now (flash .entry)) (now (wear .entry)) (now (pspace .entry)) (now (bspace .entry)) in
+        let u′ = buffers (now (flash .exit)) (now (wear .exit)) (now (pspace .exit)) (now (bspace .exit)) in
+        replied (writeSaid (r .answer)) r u′ (now (page .exit)) ≡ call leastRecent (storeOf c u)
+        (part n first (now (bytes .entry)) (now (page .entry)))) ⌝ }
 {
     let o = c.write_part(flash, wear, pspace, bspace, PageNo(n), first, bytes, page);
     let cache = o.cache;
@@ -128,7 +139,10 @@ pub extern "C" fn clash_step(
     pspace: &[u8],
     bspace: &mut [u8],
 ) -> Reply
-    ensures { λ r. ⌜ replied (stepSaid (r .answer)) r (buffers (now (flash .exit)) (now (wear .exit)) (now (pspace .entry)) (now (bspace .exit))) [] ≡ call leastRecent (storeOf c (buffers (now (flash .entry)) (now (wear .entry)) (now (pspace .entry)) (now (bspace .entry)))) step ⌝ }
+    ensures { λ r. ⌜ (
+        let u = buffers (now (flash .entry)) (now (wear .entry)) (now (pspace .entry)) (now (bspace .entry)) in
+        let u′ = buffers (now (flash .exit)) (now (wear .exit)) (now (pspace .entry)) (now (bspace .exit)) in
+        replied (stepSaid (r .answer)) r u′ [] ≡ call leastRecent (storeOf c u) step) ⌝ }
 {
     let o = c.flush_step(flash, wear, pspace, bspace);
     let said = o.answer;
@@ -146,7 +160,10 @@ pub extern "C" fn clash_flush(
     pspace: &[u8],
     bspace: &mut [u8],
 ) -> Reply
-    ensures { λ r. ⌜ replied (flushSaid (r .answer)) r (buffers (now (flash .exit)) (now (wear .exit)) (now (pspace .entry)) (now (bspace .exit))) [] ≡ call leastRecent (storeOf c (buffers (now (flash .entry)) (now (wear .entry)) (now (pspace .entry)) (now (bspace .entry)))) flush ⌝ }
+    ensures { λ r. ⌜ (
+        let u = buffers (now (flash .entry)) (now (wear .entry)) (now (pspace .entry)) (now (bspace .entry)) in
+        let u′ = buffers (now (flash .exit)) (now (wear .exit)) (now (pspace .entry)) (now (bspace .exit)) in
+        replied (flushSaid (r .answer)) r u′ [] ≡ call leastRecent (storeOf c u) flush) ⌝ }
 {
     let o = c.flush(flash, wear, pspace, bspace);
     let cache = o.cache;

@@ -22,8 +22,16 @@ pub fn clean_block(
     b: BlockNo,
     f: usize,
 ) -> u32
-    requires { ⌜ Cleanable (sizesOf z) (numbers (now slots) (now frames) (now valid) (now recency)) (buffers (now flash) (now wear) (now pspace) (now bspace)) (b .0) f ⌝ }
-    ensures { λ r. ⌜ BlockCleaned (sizesOf z) (numbers (now (slots .entry)) (now (frames .entry)) (now (valid .entry)) (now (recency .entry))) (buffers (now (flash .entry)) (now (wear .entry)) (now (pspace .entry)) (now (bspace .entry))) (b .0) f (numbers (now (slots .exit)) (now (frames .exit)) (now (valid .exit)) (now (recency .entry))) r (buffers (now (flash .exit)) (now (wear .exit)) (now (pspace .entry)) (now (bspace .exit))) ⌝ }
+    requires { ⌜ (
+        let d = numbers (now slots) (now frames) (now valid) (now recency) in
+        let u = buffers (now flash) (now wear) (now pspace) (now bspace) in
+        Cleanable (sizesOf z) d u (b .0) f) ⌝ }
+    ensures { λ r. ⌜ (
+        let d = numbers (now (slots .entry)) (now (frames .entry)) (now (valid .entry)) (now (recency .entry)) in
+        let u = buffers (now (flash .entry)) (now (wear .entry)) (now (pspace .entry)) (now (bspace .entry)) in
+        let d′ = numbers (now (slots .exit)) (now (frames .exit)) (now (valid .exit)) (now (recency .entry)) in
+        let u′ = buffers (now (flash .exit)) (now (wear .exit)) (now (pspace .entry)) (now (bspace .exit)) in
+        BlockCleaned (sizesOf z) d u (b .0) f d′ r u′) ⌝ }
 {
     join::join(z, slots, frames, valid, recency, pspace, bspace, b, f);
     let v = valid[f];

@@ -34,7 +34,8 @@ pub record Underway (sz : Sizes) (d₀ : Directory) (u₀ : Buffers) (d : Direct
   pub few : count (sz .N) (cached sz d) + rewrites ≤ sz .N
   pub merges-le : merges ≤ rewrites * sz .K
   pub numbers : steps leastRecent sz (sz .N - rewrites) (tally d u rewrites merges) ≡ steps leastRecent sz (sz .N) (tally d₀ u₀ 0 0)
-  pub pages : stepsPages leastRecent sz (zeroPage sz) (sz .N - rewrites) d (memoryOf sz u) ≡ stepsPages leastRecent sz (zeroPage sz) (sz .N) d₀ (memoryOf sz u₀)
+  pub pages : stepsPages leastRecent sz (zeroPage sz) (sz .N - rewrites) d (memoryOf sz u)
+      ≡ stepsPages leastRecent sz (zeroPage sz) (sz .N) d₀ (memoryOf sz u₀)
 
 -- ---- steps by what is due
 
@@ -51,9 +52,16 @@ module _ (sz : Sizes) (d : Directory) where
 
 -- ---- buffers keep their sizes
 
-pub fits-kept : {sz : Sizes} {flash wear pspace bspace : List ℕ} (flash′ wear′ bspace′ : List ℕ) → Fits sz (buffers flash wear pspace bspace)
-    → length flash′ ≡ length flash → length wear′ ≡ length wear → length bspace′ ≡ length bspace → Fits sz (buffers flash′ wear′ pspace bspace′)
-fits-kept flash′ wear′ bspace′ h a b c = record { flash-length = a ∙ h .flash-length; wear-length = b ∙ h .wear-length; pspace-length = h .pspace-length; bspace-length = c ∙ h .bspace-length }
+pub fits-kept : {sz : Sizes} {flash wear pspace bspace : List ℕ} (flash′ wear′ bspace′ : List ℕ)
+    → Fits sz (buffers flash wear pspace bspace)
+    → length flash′ ≡ length flash → length wear′ ≡ length wear → length bspace′ ≡ length bspace
+    → Fits sz (buffers flash′ wear′ pspace bspace′)
+fits-kept flash′ wear′ bspace′ h a b c = record {
+  flash-length = a ∙ h .flash-length;
+  wear-length = b ∙ h .wear-length;
+  pspace-length = h .pspace-length;
+  bspace-length = c ∙ h .bspace-length;
+}
 
 -- ---- a refused flush, and the first turn
 
@@ -62,9 +70,11 @@ pub worn-same : (sz : Sizes) (s f v r w : List ℕ) → lowestWorn sz (numbers s
 unfolding lowestWorn cached slotCount inBlock frameOf
 worn-same sz s f v r w = refl
 
-pub flush-worn : (sz : Sizes) (d : Directory) (u : Buffers) (b : ℕ) → b ≡ lowestWorn sz d (u .wear) → b < sz .N → FlushCarried sz d u (refused 6 b) d u
+pub flush-worn : (sz : Sizes) (d : Directory) (u : Buffers) (b : ℕ) → b ≡ lowestWorn sz d (u .wear) → b < sz .N
+    → FlushCarried sz d u (refused 6 b) d u
 unfolding flushOutcome
-flush-worn sz d u b e l = rw (lt-ltb (lowestWorn sz d (u .wear)) (sz .N) (rw (sym e) l), flushOutcome) (record { answer-is = ap (refused 6) e; directory-is = refl; wear-is = refl; pages-are = refl })
+flush-worn sz d u b e l = rw (lt-ltb (lowestWorn sz d (u .wear)) (sz .N) (rw (sym e) l), flushOutcome)
+    (record { answer-is = ap (refused 6) e; directory-is = refl; wear-is = refl; pages-are = refl })
 
 pub begins : {sz : Sizes} {d : Directory} {u : Buffers} → Flushable sz d u → Underway sz d u d u 0 0
 begins {sz} {d} {u} q = record {
@@ -78,12 +88,14 @@ begins {sz} {d} {u} q = record {
 
 -- ---- each turn
 
-module _ {sz : Sizes} {d₀ : Directory} {u₀ : Buffers} {d : Directory} {u : Buffers} {rewrites merges : ℕ} (k : Underway sz d₀ u₀ d u rewrites merges) where
+module _ {sz : Sizes} {d₀ : Directory} {u₀ : Buffers} {d : Directory} {u : Buffers} {rewrites merges : ℕ}
+    (k : Underway sz d₀ u₀ d u rewrites merges) where
   -- nothing is cached any more
   pub flush-done : Flushable sz d₀ u₀ → clean ≡ dueOf leastRecent sz d → FlushCarried sz d₀ u₀ (flushDone rewrites merges) d u
   unfolding flushOutcome
   flush-done q e =
-      let ends : tally d u rewrites merges ≡ steps leastRecent sz (sz .N) (tally d₀ u₀ 0 0) = sym (steps-stop sz d u rewrites merges e _) ∙ k .numbers in
+      let ends : tally d u rewrites merges ≡ steps leastRecent sz (sz .N) (tally d₀ u₀ 0 0) = sym (steps-stop sz d u rewrites merges e _)
+      ∙ k .numbers in
       rw (le-ltb (lowestWorn sz d₀ (u₀ .wear)) (sz .N) (q .none-worn), flushOutcome) (record {
         answer-is = ap (λ (t : Tally). flushDone (t .rewrites) (t .merges)) ends;
         directory-is = ap (λ (t : Tally). t .state .directory) ends;
@@ -108,7 +120,8 @@ module _ {sz : Sizes} {d₀ : Directory} {u₀ : Buffers} {d : Directory} {u : B
       merges-next = let h = reads-le in let l = k .merges-le in let s = suc-mul rewrites (sz .K) in omega arith
 
       pub merges-small : reads + merges < vacant
-      merges-small = let h = merges-next in let l = mul-le-mul-right (sz .K) left in let s = pages-small sz (k .ready .sound .limits) in omega arith
+      merges-small = let h = merges-next in let l = mul-le-mul-right (sz .K) left in let s = pages-small sz (k .ready .sound .limits) in
+          omega arith
 
       pub turns : Fits sz u′ → (r m : ℕ) → r ≡ suc rewrites → m ≡ reads + merges → Underway sz d₀ u₀ d′ u′ r m
       unfolding steps stepsPages

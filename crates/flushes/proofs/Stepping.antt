@@ -45,8 +45,19 @@ module _ {sz : Sizes} {d : Directory} {u : Buffers} (q : Ready sz d u) where
     -- it is not
     module _ (w : isWorn sz (u .wear) b ≡ false) where
       pub cleanable : Cleanable sz d u b f
-      cleanable = record { ready = q; block = block-ready; unworn = not-worn sz (u .wear) b (block-vacant sz (q .sound .limits) b (block-ready .b-lt)) w }
+      cleanable = record {
+        ready = q;
+        block = block-ready;
+        unworn = not-worn sz (u .wear) b
+            (block-vacant sz (q .sound .limits) b (block-ready .b-lt)) w;
+      }
 
-      pub step-done : {d′ : Directory} {reads : ℕ} {u′ : Buffers} → BlockCleaned sz d u b f d′ reads u′ → StepCarried sz d u (stepDone b reads) d′ u′
+      pub step-done : {d′ : Directory} {reads : ℕ} {u′ : Buffers} → BlockCleaned sz d u b f d′ reads u′
+          → StepCarried sz d u (stepDone b reads) d′ u′
       unfolding stepOutcome
-      step-done k = rw (← e, w, stepOutcome) (record { answer-is = ap (stepDone b) (k .reads-are); directory-is = k .directory-is; wear-is = k .wear-is; pages-are = k .pages-are })
+      step-done k = rw (← e, w, stepOutcome) (record {
+        answer-is = ap (stepDone b) (k .reads-are);
+        directory-is = k .directory-is;
+        wear-is = k .wear-is;
+        pages-are = k .pages-are;
+      })

@@ -21,7 +21,8 @@ StepCarried sz d u answer d′ u′ =
 abbrev pub FlushCarried : Sizes → Directory → Buffers → Answer → Directory → Buffers → Type 0
 FlushCarried sz d u answer d′ u′ =
     let m = memoryOf sz u in
-    Carried (flushOutcome leastRecent sz (stateIn d u)) m (stepsPages leastRecent sz (zeroPage sz) (sz .N) d m) answer d′ (u′ .wear) (memoryOf sz u′)
+    Carried (flushOutcome leastRecent sz (stateIn d u)) m (stepsPages leastRecent sz (zeroPage sz) (sz .N) d m) answer d′ (u′ .wear)
+    (memoryOf sz u′)
 
 -- no block with a page cached is worn
 pub record Flushable (sz : Sizes) (d : Directory) (u : Buffers) : Type 0 where

@@ -22,8 +22,16 @@ pub fn step(
     pspace: &[u8],
     bspace: &mut [u8],
 ) -> Step
-    requires { ⌜ Ready (sizesOf z) (numbers (now slots) (now frames) (now valid) (now recency)) (buffers (now flash) (now wear) (now pspace) (now bspace)) ⌝ }
-    ensures { λ r. ⌜ StepCarried (sizesOf z) (numbers (now (slots .entry)) (now (frames .entry)) (now (valid .entry)) (now (recency .entry))) (buffers (now (flash .entry)) (now (wear .entry)) (now (pspace .entry)) (now (bspace .entry))) (stepOf r) (numbers (now (slots .exit)) (now (frames .exit)) (now (valid .exit)) (now (recency .entry))) (buffers (now (flash .exit)) (now (wear .exit)) (now (pspace .entry)) (now (bspace .exit))) ⌝ }
+    requires { ⌜ (
+        let d = numbers (now slots) (now frames) (now valid) (now recency) in
+        let u = buffers (now flash) (now wear) (now pspace) (now bspace) in
+        Ready (sizesOf z) d u) ⌝ }
+    ensures { λ r. ⌜ (
+        let d = numbers (now (slots .entry)) (now (frames .entry)) (now (valid .entry)) (now (recency .entry)) in
+        let u = buffers (now (flash .entry)) (now (wear .entry)) (now (pspace .entry)) (now (bspace .entry)) in
+        let d′ = numbers (now (slots .exit)) (now (frames .exit)) (now (valid .exit)) (now (recency .entry)) in
+        let u′ = buffers (now (flash .exit)) (now (wear .exit)) (now (pspace .entry)) (now (bspace .exit)) in
+        StepCarried (sizesOf z) d u (stepOf r) d′ u′) ⌝ }
 {
     let due = policy::flush::due(z, slots, frames, recency);
     let Due::Block(b, f) = due else {
@@ -60,8 +68,16 @@ pub fn flush(
     pspace: &[u8],
     bspace: &mut [u8],
 ) -> Flush
-    requires { ⌜ Ready (sizesOf z) (numbers (now slots) (now frames) (now valid) (now recency)) (buffers (now flash) (now wear) (now pspace) (now bspace)) ⌝ }
-    ensures { λ r. ⌜ FlushCarried (sizesOf z) (numbers (now (slots .entry)) (now (frames .entry)) (now (valid .entry)) (now (recency .entry))) (buffers (now (flash .entry)) (now (wear .entry)) (now (pspace .entry)) (now (bspace .entry))) (flushOf r) (numbers (now (slots .exit)) (now (frames .exit)) (now (valid .exit)) (now (recency .entry))) (buffers (now (flash .exit)) (now (wear .exit)) (now (pspace .entry)) (now (bspace .exit))) ⌝ }
+    requires { ⌜ (
+        let d = numbers (now slots) (now frames) (now valid) (now recency) in
+        let u = buffers (now flash) (now wear) (now pspace) (now bspace) in
+        Ready (sizesOf z) d u) ⌝ }
+    ensures { λ r. ⌜ (
+        let d = numbers (now (slots .entry)) (now (frames .entry)) (now (valid .entry)) (now (recency .entry)) in
+        let u = buffers (now (flash .entry)) (now (wear .entry)) (now (pspace .entry)) (now (bspace .entry)) in
+        let d′ = numbers (now (slots .exit)) (now (frames .exit)) (now (valid .exit)) (now (recency .entry)) in
+        let u′ = buffers (now (flash .exit)) (now (wear .exit)) (now (pspace .entry)) (now (bspace .exit)) in
+        FlushCarried (sizesOf z) d u (flushOf r) d′ u′) ⌝ }
 {
     let worn = policy::flush::lowest_worn(z, slots, frames, wear);
     if worn < z.blocks {
@@ -92,8 +108,16 @@ fn clean_all(
     pspace: &[u8],
     bspace: &mut [u8],
 ) -> Flush
-    requires { ⌜ Flushable (sizesOf z) (numbers (now slots) (now frames) (now valid) (now recency)) (buffers (now flash) (now wear) (now pspace) (now bspace)) ⌝ }
-    ensures { λ r. ⌜ FlushCarried (sizesOf z) (numbers (now (slots .entry)) (now (frames .entry)) (now (valid .entry)) (now (recency .entry))) (buffers (now (flash .entry)) (now (wear .entry)) (now (pspace .entry)) (now (bspace .entry))) (flushOf r) (numbers (now (slots .exit)) (now (frames .exit)) (now (valid .exit)) (now (recency .entry))) (buffers (now (flash .exit)) (now (wear .exit)) (now (pspace .entry)) (now (bspace .exit))) ⌝ }
+    requires { ⌜ (
+        let d = numbers (now slots) (now frames) (now valid) (now recency) in
+        let u = buffers (now flash) (now wear) (now pspace) (now bspace) in
+        Flushable (sizesOf z) d u) ⌝ }
+    ensures { λ r. ⌜ (
+        let d = numbers (now (slots .entry)) (now (frames .entry)) (now (valid .entry)) (now (recency .entry)) in
+        let u = buffers (now (flash .entry)) (now (wear .entry)) (now (pspace .entry)) (now (bspace .entry)) in
+        let d′ = numbers (now (slots .exit)) (now (frames .exit)) (now (valid .exit)) (now (recency .entry)) in
+        let u′ = buffers (now (flash .exit)) (now (wear .exit)) (now (pspace .entry)) (now (bspace .exit)) in
+        FlushCarried (sizesOf z) d u (flushOf r) d′ u′) ⌝ }
 {
     let mut rewrites: u32 = 0;
     let mut merged: u32 = 0;

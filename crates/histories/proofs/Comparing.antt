@@ -28,4 +28,10 @@ module _ (a b : List ℕ) (i : ℕ) where
       rw add-one (l ∙ ap (λ (x : List ℕ). x ++ (getD a i 0 ∷ [])) e ∙ ap (λ (x : ℕ). take i b ++ (x ∷ [])) h ∙ sym r)
 
   pub at-end : i ≤ length a → i ≤ length b → take i a ≡ take i b → test ≡ false → Alike a b i
-  at-end l r e t = record { left = l; right = r; same = e; differ = λ x y z. clash (and-i (lt-ltb i (length a) x) (lt-ltb i (length b) y)) t }
+  at-end l r e t = record {
+    left = l;
+    right = r;
+    same = e;
+    differ = λ x y z. clash (and-i (lt-ltb i (length a) x) (lt-ltb i (length b) y))
+        t;
+  }

@@ -37,7 +37,8 @@ use Rattle.interpret.proofs.Opening.{opened-done, opened-sizes, opened-
 module _ (old : model.Sizes) (u : Buffers) (page out : List ℕ) (f : Form) (l : Lent (sizesAfter old (meant f)) u page out) where
   pub lent-open : (sizes : Sizes) → f ≡ Open sizes → (sizesOk (sizesOf sizes) ≡ true → Fits (sizesOf sizes) u) × (lineRoom ≤ length out)
   lent-open sizes e =
-      let h : Lent (sizesAfter old (meant (Open sizes))) u page out = subst (λ (g : Form). Lent (sizesAfter old (meant g)) u page out) e l in
+      let h : Lent (sizesAfter old (meant (Open sizes))) u page out = subst (λ (g : Form). Lent (sizesAfter old (meant g)) u page out) e
+      l in
       ((λ t. rw t at (h .fits)), let k = l .room in omega arith)
 
   pub lent-page : (g : Form) → f ≡ g → sizesAfter old (meant g) ≡ old → (length page ≡ old .S) × (lineRoom ≤ length out)
@@ -80,7 +81,8 @@ carried-keeps s c o = by-test (isRefused (o .answer)) (λ t. rw (t, carriedOut))
 call-keeps : (s : Store) (c : Call Page) → call leastRecent s c .store .cache .sizes ≡ s .cache .sizes
 call-keeps s c = by-test (sound (s .cache .sizes) (s .cache .directory))
     (λ a. by-test (lentOk (s .cache .sizes) (s .lent))
-    (λ b. ap (λ (r : Result). r .store .cache .sizes) (call-carried leastRecent s c a b) ∙ carried-keeps s c (decide leastRecent (s .cache .sizes) (stateOf s) (told c)))
+    (λ b. ap (λ (r : Result). r .store .cache .sizes) (call-carried leastRecent s c a b)
+    ∙ carried-keeps s c (decide leastRecent (s .cache .sizes) (stateOf s) (told c)))
     (λ b. ap (λ (r : Result). r .store .cache .sizes) (call-buffer leastRecent s c a b)))
     (λ a. ap (λ (r : Result). r .store .cache .sizes) (call-record leastRecent s c a))
 
@@ -102,8 +104,10 @@ carried-sizes s form.bad n = refl
 
 -- an accepted opening does not ask what was there
 carried-front : (c : Cache) (f : form.Form) (n : ℕ) (flash wear pspace bspace : List ℕ)
-    → carried (storeOf c (front (sizesAfter (sizesOf (c .sizes)) f) flash wear pspace bspace)) f n ≡ carried (storeOf c (front (sizesOf (c .sizes)) flash wear pspace bspace)) f n
-carried-front c (form.opens sz) n flash wear pspace bspace = by-test (sizesOk sz) (λ t. opened-done sz _ t ∙ sym (opened-done sz _ t)) (λ t. rw t)
+    → carried (storeOf c (front (sizesAfter (sizesOf (c .sizes)) f) flash wear pspace bspace)) f n
+    ≡ carried (storeOf c (front (sizesOf (c .sizes)) flash wear pspace bspace)) f n
+carried-front c (form.opens sz) n flash wear pspace bspace = by-test (sizesOk sz) (λ t. opened-done sz _ t ∙ sym (opened-done sz _ t))
+    (λ t. rw t)
 carried-front c (form.writes m b) n flash wear pspace bspace = refl
 carried-front c (form.reads m) n flash wear pspace bspace = refl
 carried-front c form.steps n flash wear pspace bspace = refl
@@ -127,10 +131,17 @@ pub record Within (p : Parts) : Type 0 where
 
 module _ (sz : model.Sizes) (p : Parts) (q : PartsOf sz p) where
   pub parts-within : Held sz → Within p
-  parts-within h = record { flash-within = omega arith; wear-within = omega arith; pspace-within = omega arith; bspace-within = omega arith; page-within = omega arith }
+  parts-within h = record {
+    flash-within = omega arith;
+    wear-within = omega arith;
+    pspace-within = omega arith;
+    bspace-within = omega arith;
+    page-within = omega arith;
+  }
 
   module _ (flash wear pspace bspace : List ℕ) where
-    parts-front : buffers (take (p .flash) flash) (take (p .wear) wear) (take (p .pspace) pspace) (take (p .bspace) bspace) ≡ front sz flash wear pspace bspace
+    parts-front : buffers (take (p .flash) flash) (take (p .wear) wear) (take (p .pspace) pspace) (take (p .bspace) bspace)
+        ≡ front sz flash wear pspace bspace
     parts-front = λ i. record {
       flash = take (q .flash-is i) flash;
       wear = take (q .wear-is i) wear;
@@ -138,11 +149,14 @@ module _ (sz : model.Sizes) (p : Parts) (q : PartsOf sz p) where
       bspace = take (q .bspace-is i) bspace;
     }
 
-    pub lent-parts : (sz′ : model.Sizes) → sz ≡ sz′ → (page out : List ℕ) → Within p → length flash ≡ 32768 → length wear ≡ 4096 → length pspace ≡ 32768 → length bspace ≡ 32768 → length page ≡ 2048 → wearRoom 4096 ≤ length out
-        → Lent sz′ (buffers (take (p .flash) flash) (take (p .wear) wear) (take (p .pspace) pspace) (take (p .bspace) bspace)) (take (p .page) page) out
+    pub lent-parts : (sz′ : model.Sizes) → sz ≡ sz′ → (page out : List ℕ) → Within p → length flash ≡ 32768 → length wear ≡ 4096
+        → length pspace ≡ 32768 → length bspace ≡ 32768 → length page ≡ 2048 → wearRoom 4096 ≤ length out
+        → Lent sz′ (buffers (take (p .flash) flash) (take (p .wear) wear) (take (p .pspace) pspace) (take (p .bspace) bspace))
+        (take (p .page) page) out
     lent-parts sz′ z page out w fl wl pl bl gl ol =
         let e = length-take-le (p .wear) wear (omega arith) in
-        subst (λ (m : model.Sizes). Lent m (buffers (take (p .flash) flash) (take (p .wear) wear) (take (p .pspace) pspace) (take (p .bspace) bspace)) (take (p .page) page) out) z (record {
+        subst (λ (m : model.Sizes). Lent m (buffers (take (p .flash) flash) (take (p .wear) wear) (take (p .pspace) pspace)
+        (take (p .bspace) bspace)) (take (p .page) page) out) z (record {
           fits = record {
             flash-length = length-take-le (p .flash) flash (omega arith) ∙ q .flash-is;
             wear-length = e ∙ q .wear-is;
@@ -155,7 +169,8 @@ module _ (sz : model.Sizes) (p : Parts) (q : PartsOf sz p) where
         })
 
     -- parts put back at the front
-    module _ (x y v w : List ℕ) (xl : length x ≡ p .flash) (yl : length y ≡ p .wear) (vl : length v ≡ p .pspace) (wl : length w ≡ p .bspace) where
+    module _ (x y v w : List ℕ) (xl : length x ≡ p .flash) (yl : length y ≡ p .wear) (vl : length v ≡ p .pspace)
+        (wl : length w ≡ p .bspace) where
       put-back : (a b d e : List ℕ) → front sz (x ++ a) (y ++ b) (v ++ d) (w ++ e) ≡ buffers x y v w
       put-back a b d e =
           let f : take (sz .N * sz .K * sz .S) (x ++ a) ≡ x = take-at x a _ (xl ∙ q .flash-is) in
@@ -165,18 +180,27 @@ module _ (sz : model.Sizes) (p : Parts) (q : PartsOf sz p) where
           λ i. record { flash = f i; wear = g i; pspace = h i; bspace = k i }
 
       -- what was done to the parts is done to the memory
-      pub line-carried : (c : Cache) (f : form.Form) (n : ℕ) → sz ≡ sizesAfter (sizesOf (c .sizes)) f → Held sz → (a b d e : List ℕ) (r : Lined) (out : List ℕ)
-          → Carries (carried (storeOf c (buffers (take (p .flash) flash) (take (p .wear) wear) (take (p .pspace) pspace) (take (p .bspace) bspace))) f n) r (buffers x y v w) out
-          → CarriedOut (carried (storeOf c (front (sizesOf (c .sizes)) flash wear pspace bspace)) f n) r (x ++ a) (y ++ b) (v ++ d) (w ++ e) out
+      pub line-carried : (c : Cache) (f : form.Form) (n : ℕ) → sz ≡ sizesAfter (sizesOf (c .sizes)) f → Held sz
+          → (a b d e : List ℕ) (r : Lined) (out : List ℕ)
+          → Carries (carried (storeOf c (buffers (take (p .flash) flash) (take (p .wear) wear) (take (p .pspace) pspace)
+          (take (p .bspace) bspace))) f n) r (buffers x y v w) out
+          → CarriedOut (carried (storeOf c (front (sizesOf (c .sizes)) flash wear pspace bspace)) f n) r (x ++ a) (y ++ b) (v ++ d)
+          (w ++ e) out
       line-carried c f n z held a b d e r out h =
-          let effect : carried (storeOf c (buffers (take (p .flash) flash) (take (p .wear) wear) (take (p .pspace) pspace) (take (p .bspace) bspace))) f n ≡ carried (storeOf c (front (sizesOf (c .sizes)) flash wear pspace bspace)) f n =
-          ap (λ (u : Buffers). carried (storeOf c u) f n) parts-front ∙ ap (λ (m : model.Sizes). carried (storeOf c (front m flash wear pspace bspace)) f n) z ∙ carried-front c f n flash wear pspace bspace in
+          let effect : carried (storeOf c (buffers (take (p .flash) flash) (take (p .wear) wear) (take (p .pspace) pspace)
+          (take (p .bspace) bspace))) f n ≡ carried (storeOf c (front (sizesOf (c .sizes)) flash wear pspace bspace)) f n =
+          ap (λ (u : Buffers). carried (storeOf c u) f n) parts-front
+          ∙ ap (λ (m : model.Sizes). carried (storeOf c (front m flash wear pspace bspace)) f n) z
+          ∙ carried-front c f n flash wear pspace bspace in
           let sizes : sizesOf (r .cache .sizes) ≡ sz =
-          ap (λ (m : Effect). m .store .cache .sizes) (h .effect) ∙ carried-sizes (storeOf c (buffers (take (p .flash) flash) (take (p .wear) wear) (take (p .pspace) pspace) (take (p .bspace) bspace))) f n ∙ sym z in
+          ap (λ (m : Effect). m .store .cache .sizes) (h .effect) ∙ carried-sizes
+          (storeOf c (buffers (take (p .flash) flash) (take (p .wear) wear) (take (p .pspace) pspace) (take (p .bspace) bspace))) f n
+          ∙ sym z in
           let back : front (sizesOf (r .cache .sizes)) (x ++ a) (y ++ b) (v ++ d) (w ++ e) ≡ buffers x y v w =
           ap (λ (m : model.Sizes). front m (x ++ a) (y ++ b) (v ++ d) (w ++ e)) sizes ∙ put-back a b d e in
           record {
-            carries = subst (λ (u : Buffers). Carries (carried (storeOf c (front (sizesOf (c .sizes)) flash wear pspace bspace)) f n) r u out) (sym back)
+            carries = subst (λ (u : Buffers). Carries (carried (storeOf c (front (sizesOf (c .sizes)) flash wear pspace bspace)) f n) r u
+                out) (sym back)
                 (subst (λ (m : Effect). Carries m r (buffers x y v w) out) effect h);
             held = subst Held (sym sizes) held;
           }

@@ -46,13 +46,21 @@ module _ (sz : model.Sizes) where
 
   within-fresh : all (length (fresh sz .wear)) (λ b. leb (getD (fresh sz .wear) b 0) (sz .W)) ≡ true
   unfolding fresh
-  within-fresh = all-of (length (replicate {A = ℕ} (sz .N) 0)) (λ b. leb (getD (replicate {A = ℕ} (sz .N) 0) b 0) (sz .W)) (λ i l. le-leb _ _ (zero-least i l))
+  within-fresh = all-of (length (replicate {A = ℕ} (sz .N) 0)) (λ b. leb (getD (replicate {A = ℕ} (sz .N) 0) b 0) (sz .W))
+      (λ i l. le-leb _ _ (zero-least i l))
 
   -- within limits, the store opens
-  open-fresh : sizesOk sz ≡ true → openStore sz (fresh sz) ≡ record { answer = openDone; cache = record { sizes = sz; directory = vacantDirectory } }
+  open-fresh : sizesOk sz ≡ true → openStore sz (fresh sz) ≡ record {
+    answer = openDone;
+    cache = record { sizes = sz; directory = vacantDirectory };
+  }
   open-fresh ok = open-done sz (fresh sz) ok lent-fresh within-fresh
 
-  pub opened-done : (s : Store) → sizesOk sz ≡ true → opened s sz ≡ record { store = record { cache = openStore sz (fresh sz) .cache; lent = fresh sz }; printed = openLine (openStore sz (fresh sz) .answer) }
+  pub opened-done : (s : Store) → sizesOk sz ≡ true → opened s sz
+      ≡ record {
+        store = record { cache = openStore sz (fresh sz) .cache; lent = fresh sz };
+        printed = openLine (openStore sz (fresh sz) .answer);
+      }
   unfolding opened
   opened-done s ok = rw (open-fresh ok)
 
@@ -65,7 +73,8 @@ module _ (sz : model.Sizes) where
   opened-refused s e = rw (open-size sz (fresh sz) e)
 
   -- buffers of the right lengths, filled
-  pub fresh-is : (u : Buffers) → Fits sz u → (flash wear pspace bspace : List ℕ) → flash ≡ replicate (length (u .flash)) 255 → wear ≡ replicate (length (u .wear)) 0
+  pub fresh-is : (u : Buffers) → Fits sz u → (flash wear pspace bspace : List ℕ) → flash ≡ replicate (length (u .flash)) 255
+      → wear ≡ replicate (length (u .wear)) 0
       → pspace ≡ replicate (length (u .pspace)) 0 → bspace ≡ replicate (length (u .bspace)) 0 → buffers flash wear pspace bspace ≡ fresh sz
   unfolding fresh
   fresh-is u h flash wear pspace bspace f w p b =
@@ -76,10 +85,12 @@ module _ (sz : model.Sizes) where
       λ i. record { flash = f′ i; wear = w′ i; pspace = p′ i; bspace = b′ i }
 
   module _ (old out : List ℕ) (k : ℕ) (u : Buffers) where
-    pub refused-carries : (c : Cache) → sizesOk sz ≡ false → Printed lineRoom (openLine (refused 1 vacant)) old 0 out k → Carries (opened (storeOf c u) sz) (record { cache = c; printed = k }) u out
+    pub refused-carries : (c : Cache) → sizesOk sz ≡ false → Printed lineRoom (openLine (refused 1 vacant)) old 0 out k
+        → Carries (opened (storeOf c u) sz) (record { cache = c; printed = k }) u out
     refused-carries c e p = rw (opened-refused (storeOf c u) e) (carries {room = lineRoom} (omega arith) refl p)
 
-    pub open-carries : (s : Store) → sizesOk sz ≡ true → u ≡ fresh sz → (r : Opened) → openedOf r ≡ openStore sz u → Printed lineRoom (openLine (openingOf (r .answer))) old 0 out k
+    pub open-carries : (s : Store) → sizesOk sz ≡ true → u ≡ fresh sz → (r : Opened) → openedOf r ≡ openStore sz u
+        → Printed lineRoom (openLine (openingOf (r .answer))) old 0 out k
         → Carries (opened s sz) (record { cache = r .cache; printed = k }) u out
     open-carries s ok f r e p =
         let e′ : openedOf r ≡ openStore sz (fresh sz) = e ∙ ap (openStore sz) f in

@@ -30,7 +30,8 @@ pub said-refused : (why : Refusal) (n a b : ℕ) → n ≡ numberOf (refusalOf w
 said-refused why n a b e = ap (λ (m : ℕ). said (refused m vacant) a) e ∙ same-refusal why a b
 
 -- the store after, and a line printed
-pub carries : {room : ℕ} {e : Effect} {r : Lined} {u : Buffers} {old out : List ℕ} → room ≤ wearRoom 4096 → storeOf (r .cache) u ≡ e .store → Printed room (e .printed) old 0 out (r .printed) → Carries e r u out
+pub carries : {room : ℕ} {e : Effect} {r : Lined} {u : Buffers} {old out : List ℕ} → room ≤ wearRoom 4096 → storeOf (r .cache) u ≡ e .store
+    → Printed room (e .printed) old 0 out (r .printed) → Carries e r u out
 carries {room} {e} {r} {u} {old} {out} h s p =
     let f : take (r .printed) out ≡ e .printed = printed-front {at = 0} (omega arith) p in
     record { effect = λ i. record { store = s i; printed = f i }; within = omega arith }

@@ -35,7 +35,8 @@ module _ (s : Store) where
 
   -- page n is filled with byte b
   unfoldable pub written : ℕ → ℕ → Effect
-  written n b = let r = call leastRecent s (write n (replicate (s .cache .sizes .S) b)) in record { store = r .store; printed = writeLine n (r .answer) }
+  written n b = let r = call leastRecent s (write n (replicate (s .cache .sizes .S) b)) in
+      record { store = r .store; printed = writeLine n (r .answer) }
 
   -- a read is lent a page of zeros, and prints the first byte of what it gives
   unfoldable pub wasRead : ℕ → Effect

@@ -56,7 +56,8 @@ pub record PartsOf (sz : Sizes) (p : Parts) : Type 0 where
 
 -- the buffers in the memory
 abbrev pub front : Sizes → List ℕ → List ℕ → List ℕ → List ℕ → Buffers
-front sz flash wear pspace bspace = buffers (take (sz .N * sz .K * sz .S) flash) (take (sz .N) wear) (take (sz .P * sz .S) pspace) (take (sz .B * sz .K * sz .S) bspace)
+front sz flash wear pspace bspace = buffers (take (sz .N * sz .K * sz .S) flash) (take (sz .N) wear) (take (sz .P * sz .S) pspace)
+    (take (sz .B * sz .K * sz .S) bspace)
 
 -- ---- what is asked, and what a line leaves
 

@@ -40,7 +40,10 @@ pub fn line(
     out: &mut [u8],
 ) -> Lined
     requires { ⌜ Lendable (sizesOf (c .sizes)) (meant form) (now flash) (now wear) (now pspace) (now bspace) (now page) (now out) ⌝ }
-    ensures { λ r. ⌜ CarriedOut (carried (storeOf c (front (sizesOf (c .sizes)) (now (flash .entry)) (now (wear .entry)) (now (pspace .entry)) (now (bspace .entry)))) (meant form) n) r (now (flash .exit)) (now (wear .exit)) (now (pspace .exit)) (now (bspace .exit)) (now (out .exit)) ⌝ }
+    ensures { λ r. ⌜ (
+        let u = front (sizesOf (c .sizes)) (now (flash .entry)) (now (wear .entry)) (now (pspace .entry)) (now (bspace .entry)) in
+        CarriedOut (carried (storeOf c u) (meant form) n)
+        r (now (flash .exit)) (now (wear .exit)) (now (pspace .exit)) (now (bspace .exit)) (now (out .exit))) ⌝ }
 {
     let z = sizes_after(c.sizes, form);
     let p = parts::lengths(z);
@@ -89,8 +92,13 @@ fn carry(
     page: &mut [u8],
     out: &mut [u8],
 ) -> Lined
-    requires { ⌜ Lent (sizesAfter (sizesOf (c .sizes)) (meant form)) (buffers (now flash) (now wear) (now pspace) (now bspace)) (now page) (now out) ⌝ }
-    ensures { λ r. ⌜ Carries (carried (storeOf c (buffers (now (flash .entry)) (now (wear .entry)) (now (pspace .entry)) (now (bspace .entry)))) (meant form) n) r (buffers (now (flash .exit)) (now (wear .exit)) (now (pspace .exit)) (now (bspace .exit))) (now (out .exit)) ⌝ }
+    requires { ⌜ (
+        let u = buffers (now flash) (now wear) (now pspace) (now bspace) in
+        Lent (sizesAfter (sizesOf (c .sizes)) (meant form)) u (now page) (now out)) ⌝ }
+    ensures { λ r. ⌜ (
+        let u = buffers (now (flash .entry)) (now (wear .entry)) (now (pspace .entry)) (now (bspace .entry)) in
+        let u′ = buffers (now (flash .exit)) (now (wear .exit)) (now (pspace .exit)) (now (bspace .exit)) in
+        Carries (carried (storeOf c u) (meant form) n) r u′ (now (out .exit))) ⌝ }
 {
     match form {
         Form::Open(sizes) => opened(c, sizes, flash, wear, pspace, bspace, out),
@@ -123,8 +131,13 @@ fn opened(
     bspace: &mut [u8],
     out: &mut [u8],
 ) -> Lined
-    requires { ⌜ (sizesOk (sizesOf sizes) ≡ true → Fits (sizesOf sizes) (buffers (now flash) (now wear) (now pspace) (now bspace))) × (lineRoom ≤ length (now out)) ⌝ }
-    ensures { λ r. ⌜ Carries (opened (storeOf c (buffers (now (flash .entry)) (now (wear .entry)) (now (pspace .entry)) (now (bspace .entry)))) (sizesOf sizes)) r (buffers (now (flash .exit)) (now (wear .exit)) (now (pspace .exit)) (now (bspace .exit))) (now (out .exit)) ⌝ }
+    requires { ⌜ (
+        let u = buffers (now flash) (now wear) (now pspace) (now bspace) in
+        (sizesOk (sizesOf sizes) ≡ true → Fits (sizesOf sizes) u) × (lineRoom ≤ length (now out))) ⌝ }
+    ensures { λ r. ⌜ (
+        let u = buffers (now (flash .entry)) (now (wear .entry)) (now (pspace .entry)) (now (bspace .entry)) in
+        let u′ = buffers (now (flash .exit)) (now (wear .exit)) (now (pspace .exit)) (now (bspace .exit)) in
+        Carries (opened (storeOf c u) (sizesOf sizes)) r u′ (now (out .exit))) ⌝ }
 {
     if !sizes.ok() {
         return printed(c, print::put_open_refused(out, 0, 1));
@@ -152,7 +165,10 @@ fn written(
     out: &mut [u8],
 ) -> Lined
     requires { ⌜ (length (now page) ≡ sizesOf (c .sizes) .S) × (lineRoom ≤ length (now out)) ⌝ }
-    ensures { λ r. ⌜ Carries (written (storeOf c (buffers (now (flash .entry)) (now (wear .entry)) (now (pspace .entry)) (now (bspace .entry)))) n b) r (buffers (now (flash .exit)) (now (wear .exit)) (now (pspace .exit)) (now (bspace .exit))) (now (out .exit)) ⌝ }
+    ensures { λ r. ⌜ (
+        let u = buffers (now (flash .entry)) (now (wear .entry)) (now (pspace .entry)) (now (bspace .entry)) in
+        let u′ = buffers (now (flash .exit)) (now (wear .exit)) (now (pspace .exit)) (now (bspace .exit)) in
+        Carries (written (storeOf c u) n b) r u′ (now (out .exit))) ⌝ }
 {
     parts::fill(page, b);
     let r = c.write(flash, wear, pspace, bspace, PageNo(n), page);
@@ -177,7 +193,9 @@ fn was_read(
     out: &mut [u8],
 ) -> Lined
     requires { ⌜ (length (now page) ≡ sizesOf (c .sizes) .S) × (lineRoom ≤ length (now out)) ⌝ }
-    ensures { λ r. ⌜ Carries (wasRead (storeOf c (buffers (now (flash .entry)) (now (wear .entry)) (now (pspace .entry)) (now (bspace .entry)))) n) r (buffers (now (flash .entry)) (now (wear .entry)) (now (pspace .entry)) (now (bspace .entry))) (now (out .exit)) ⌝ }
+    ensures { λ r. ⌜ (
+        let u = buffers (now (flash .entry)) (now (wear .entry)) (now (pspace .entry)) (now (bspace .entry)) in
+        Carries (wasRead (storeOf c u) n) r u (now (out .exit))) ⌝ }
 {
     parts::fill(page, 0);
     let r = c.read(flash, wear, pspace, bspace, PageNo(n), page);
@@ -201,7 +219,10 @@ fn stepped(
     out: &mut [u8],
 ) -> Lined
     requires { ⌜ lineRoom ≤ length (now out) ⌝ }
-    ensures { λ r. ⌜ Carries (stepped (storeOf c (buffers (now (flash .entry)) (now (wear .entry)) (now (pspace .entry)) (now (bspace .entry))))) r (buffers (now (flash .exit)) (now (wear .exit)) (now (pspace .entry)) (now (bspace .exit))) (now (out .exit)) ⌝ }
+    ensures { λ r. ⌜ (
+        let u = buffers (now (flash .entry)) (now (wear .entry)) (now (pspace .entry)) (now (bspace .entry)) in
+        let u′ = buffers (now (flash .exit)) (now (wear .exit)) (now (pspace .entry)) (now (bspace .exit)) in
+        Carries (stepped (storeOf c u)) r u′ (now (out .exit))) ⌝ }
 {
     let r = c.flush_step(flash, wear, pspace, bspace);
     let next = r.cache;
@@ -223,7 +244,10 @@ fn flushed(
     out: &mut [u8],
 ) -> Lined
     requires { ⌜ lineRoom ≤ length (now out) ⌝ }
-    ensures { λ r. ⌜ Carries (flushed (storeOf c (buffers (now (flash .entry)) (now (wear .entry)) (now (pspace .entry)) (now (bspace .entry))))) r (buffers (now (flash .exit)) (now (wear .exit)) (now (pspace .entry)) (now (bspace .exit))) (now (out .exit)) ⌝ }
+    ensures { λ r. ⌜ (
+        let u = buffers (now (flash .entry)) (now (wear .entry)) (now (pspace .entry)) (now (bspace .entry)) in
+        let u′ = buffers (now (flash .exit)) (now (wear .exit)) (now (pspace .entry)) (now (bspace .exit)) in
+        Carries (flushed (storeOf c u)) r u′ (now (out .exit))) ⌝ }
 {
     let r = c.flush(flash, wear, pspace, bspace);
     let next = r.cache;

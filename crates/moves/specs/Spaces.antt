@@ -23,7 +23,8 @@ stretchPages sz l = pagesOf (sz .S) (sz .K) l
 
 -- page o of a frame's stretch fr, once block b's pages in slots are in it
 unfoldable pub filledPage : Sizes → Directory → List Page → List Page → ℕ → ℕ → Page
-filledPage sz d ps fr b o = cond (inSlots sz d (b * sz .K + o)) (getD ps (slotOf sz d (b * sz .K + o)) (zeroPage sz)) (getD fr o (zeroPage sz))
+filledPage sz d ps fr b o = cond (inSlots sz d (b * sz .K + o)) (getD ps (slotOf sz d (b * sz .K + o)) (zeroPage sz))
+    (getD fr o (zeroPage sz))
 
 -- what a fill asks: p-space ps and one frame's stretch fr
 pub record Fills (sz : Sizes) (d : Directory) (b : ℕ) (ps fr : List ℕ) : Type 0 where

@@ -25,7 +25,10 @@ pub fn join(
     f: usize,
 )
     requires { ⌜ Joins (sizesOf z) (numbers (now slots) (now frames) (now valid) (now recency)) (b .0) f (now pspace) (now bspace) ⌝ }
-    ensures { λ _. ⌜ Joined (sizesOf z) (numbers (now (slots .entry)) (now (frames .entry)) (now (valid .entry)) (now (recency .entry))) (b .0) f (now (pspace .entry)) (now (bspace .entry)) (numbers (now (slots .exit)) (now (frames .exit)) (now (valid .exit)) (now (recency .entry))) (now (bspace .exit)) ⌝ }
+    ensures { λ _. ⌜ (
+        let d = numbers (now (slots .entry)) (now (frames .entry)) (now (valid .entry)) (now (recency .entry)) in
+        let d′ = numbers (now (slots .exit)) (now (frames .exit)) (now (valid .exit)) (now (recency .entry)) in
+        Joined (sizesOf z) d (b .0) f (now (pspace .entry)) (now (bspace .entry)) d′ (now (bspace .exit))) ⌝ }
 {
     let size = z.pages_per_block as usize * z.page_size as usize;
     let a = f * size;
@@ -55,8 +58,13 @@ fn take(
     b: BlockNo,
     f: usize,
 )
-    requires { ⌜ Fills (sizesOf z) (numbers (now slots) (now frames) (now valid) (now recency)) (b .0) (now pspace) (now frame) × (f < z .frames) ⌝ }
-    ensures { λ _. ⌜ Took (sizesOf z) (numbers (now (slots .entry)) (now (frames .entry)) (now (valid .entry)) (now (recency .entry))) (b .0) f (now (pspace .entry)) (now (frame .entry)) (numbers (now (slots .exit)) (now (frames .exit)) (now (valid .exit)) (now (recency .entry))) (now (frame .exit)) ⌝ }
+    requires { ⌜ (
+        let d = numbers (now slots) (now frames) (now valid) (now recency) in
+        Fills (sizesOf z) d (b .0) (now pspace) (now frame) × (f < z .frames)) ⌝ }
+    ensures { λ _. ⌜ (
+        let d = numbers (now (slots .entry)) (now (frames .entry)) (now (valid .entry)) (now (recency .entry)) in
+        let d′ = numbers (now (slots .exit)) (now (frames .exit)) (now (valid .exit)) (now (recency .entry)) in
+        Took (sizesOf z) d (b .0) f (now (pspace .entry)) (now (frame .entry)) d′ (now (frame .exit))) ⌝ }
 {
     let s = z.page_size as usize;
     let p = z.slots as usize;

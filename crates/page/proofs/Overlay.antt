@@ -42,7 +42,14 @@ unfolding overlay
 overlay-piece i e s d h k =
     let long : length (take i s) ≡ i = length-take-le i s k in
     let sum : i + (e - i) ≡ e = omega arith in
-    rw (post-is i e (take i s ++ drop i d) h, take-at (take i s) (drop i d) i long, back e i (take i s) d long h, ← append-assoc (take i s) (take (e - i) (drop i s)) (drop e d), ← take-add i (e - i) s, sum)
+    rw (
+      post-is i e (take i s ++ drop i d) h,
+      take-at (take i s) (drop i d) i long,
+      back e i (take i s) d long h,
+      ← append-assoc (take i s) (take (e - i) (drop i s)) (drop e d),
+      ← take-add i (e - i) s,
+      sum,
+    )
 
 pub overlay-length : (i : ℕ) (s d : List ℕ) → length s ≡ length d → i ≤ length d → length (overlay i s d) ≡ length d
 unfolding overlay

@@ -34,7 +34,8 @@ module _ {A : Type 0} (s k : ℕ) (l : List A) (f o : ℕ) (inside : o < k) (fit
   got-in = rw (got (k * s) l f) (page-of-block s k l f o inside)
 
   pub put-in : (x pg : List A) → x ≡ putPage s (part (k * s) l f) o pg → putPart (k * s) l f x ≡ putPage s l (f * k + o) pg
-  put-in x pg e = put (k * s) l f x ∙ ap (putPage (k * s) l f) (e ∙ ap (λ (y : List A). putPage s y o pg) (got (k * s) l f)) ∙ put-in-block s k l f o inside pg fits
+  put-in x pg e = put (k * s) l f x ∙ ap (putPage (k * s) l f) (e ∙ ap (λ (y : List A). putPage s y o pg) (got (k * s) l f))
+      ∙ put-in-block s k l f o inside pg fits
 
 -- a part `&mut l[i..e]` with e = i + length x, which comes back as x
 pub put-laid : {A : Type 0} (i : ℕ) (l x : List A) → putMid i (i + length x - i) l x ≡ laid i x l

@@ -39,7 +39,14 @@ cleared-zeros sz n h = record { long = rw (length-replicate {A = ℕ} n 0) h; ze
 module _ (sz : Sizes) (d : Directory) where
   pub counted-none : InLimits sz → (l : List ℕ) → Cleared sz l → Counted sz d 0 l 0
   unfolding count
-  counted-none limits l h = record { long = h .long; each = h .zeros; leader = 0; low = limits .N-low; leads = refl; top = λ b k. omega arith }
+  counted-none limits l h = record {
+    long = h .long;
+    each = h .zeros;
+    leader = 0;
+    low = limits .N-low;
+    leads = refl;
+    top = λ b k. omega arith;
+  }
 
   module _ (i : ℕ) (l : List ℕ) (lead : ℕ) (h : Counted sz d i l lead) where
     pub counted-vacant : slotAt d i ≡ vacant → Counted sz d (i + 1) l lead
@@ -69,14 +76,29 @@ module _ (sz : Sizes) (d : Directory) where
 
       -- the ranks are as before, but for b's
       ranks : (t : ℕ) → lead ≤ t → v * 4096 ≤ t + b → (j : ℕ) → j < sz .N → pages-to sz d (i + 1) j * 4096 ≤ t + j
-      ranks t o n j jl = by-test (eqb j b) (λ q. rw (eqb-true j b q, ← grown) n) (λ q. let a = h .top j jl in let e = other j (eqb-false j b q) in omega arith)
+      ranks t o n j jl = by-test (eqb j b) (λ q. rw (eqb-true j b q, ← grown) n)
+          (λ q. let a = h .top j jl in let e = other j (eqb-false j b q) in omega arith)
 
       -- block b takes the lead, or it stays
       pub counted-taken : lead < v * 4096 - b → Counted sz d (i + 1) (set l b v) (v * 4096 - b)
-      counted-taken t = record { long = rw (length-set l b v) (h .long); each = stored; leader = b; low = p .low; leads = rw (← grown) (omega arith); top = ranks (v * 4096 - b) (omega arith) (omega arith) }
+      counted-taken t = record {
+        long = rw (length-set l b v) (h .long);
+        each = stored;
+        leader = b;
+        low = p .low;
+        leads = rw (← grown) (omega arith);
+        top = ranks (v * 4096 - b) (omega arith) (omega arith);
+      }
 
       pub counted-kept : v * 4096 - b ≤ lead → Counted sz d (i + 1) (set l b v) lead
-      counted-kept t = record { long = rw (length-set l b v) (h .long); each = stored; leader = h .leader; low = h .low; leads = rw (← (other (h .leader) ne)) (h .leads); top = ranks lead (omega arith) (omega arith) }
+      counted-kept t = record {
+        long = rw (length-set l b v) (h .long);
+        each = stored;
+        leader = h .leader;
+        low = h .low;
+        leads = rw (← (other (h .leader) ne)) (h .leads);
+        top = ranks lead (omega arith) (omega arith);
+      }
         where
           ne : h .leader ≡ b → ⊥
           ne q = let e : pages-to sz d i b * 4096 ≡ lead + b = (rw q at (h .leads)) in let a = h .each b (p .low) in omega arith
@@ -102,7 +124,11 @@ module _ (sz : Sizes) (d : Directory) (limits : InLimits sz) where
       let g = slotCount sz d in let low = argmax-lt (sz .N) g (limits .N-low) in let n = limits .N-high in by-test (ltb 0 (g (victim sz d)))
       (λ t. let p = ltb-true 0 (g (victim sz d)) t in omega arith)
       (λ t. let p = ltb-false 0 (g (victim sz d)) t in
-      let e : 0 ≡ victim sz d = leads-is (sz .N) g 0 (record { low = limits .N-low; le = λ j jl. (let m = argmax-ge (sz .N) g j jl in omega arith); lt = λ j jl. absurd (omega arith) }) in omega arith)
+      let e : 0 ≡ victim sz d = leads-is (sz .N) g 0 (record {
+        low = limits .N-low;
+        le = λ j jl. (let m = argmax-ge (sz .N) g j jl in omega arith);
+        lt = λ j jl. absurd (omega arith);
+      }) in omega arith)
 
   module _ (r : ℕ) (e : r ≡ rankOf (victimOf sz d)) where
     pub rank-low : r ≤ 524288
@@ -122,9 +148,11 @@ module _ (sz : Sizes) (d : Directory) (limits : InLimits sz) where
 module _ (sz : Sizes) (d : Directory) where
   pub no-victim : ((i : ℕ) → i < sz .P → slotAt d i ≡ vacant) → victimOf sz d .pages ≡ 0
   unfolding victimOf slotCount
-  no-victim h = count-none (sz .P) (inBlock sz d (victim sz d)) (λ i l. not-in-block sz d (victim sz d) i (λ k q. let e = h i l in absurd (omega arith)))
+  no-victim h = count-none (sz .P) (inBlock sz d (victim sz d)) (λ i l. not-in-block sz d (victim sz d) i
+      (λ k q. let e = h i l in absurd (omega arith)))
 
   pub some-victim : Sound sz d → (i : ℕ) → i < sz .P → slotAt d i < vacant → 0 < victimOf sz d .pages
   unfolding victimOf victim
   some-victim s i l h = let b : ℕ = slotAt d i / sz .K in
-      let most = argmax-ge (sz .N) (slotCount sz d) b (slot-block sz d s i l h) in let some = some-pages sz d b i l (in-block sz d b i h refl) in omega arith
+      let most = argmax-ge (sz .N) (slotCount sz d) b (slot-block sz d s i l h) in
+      let some = some-pages sz d b i l (in-block sz d b i h refl) in omega arith

@@ -35,7 +35,8 @@ module _ (sz : Sizes) (d : Directory) (s : Sound sz d) (m : ℕ) (e : m ≡ leas
   pub lowest-none : m ≡ vacant → sz .N ≡ lowestInSlots sz d
   unfolding lowestInSlots
   lowest-none h = first-is (sz .N) (λ b. ltb 0 (slotCount sz d b)) (sz .N) (omega arith)
-      (λ b l. by-test (ltb 0 (slotCount sz d b)) (λ t. absurd (let k = in-slot b (ltb-true 0 (slotCount sz d b) t) .0 in omega arith)) (λ t. t))
+      (λ b l. by-test (ltb 0 (slotCount sz d b)) (λ t. absurd (let k = in-slot b (ltb-true 0 (slotCount sz d b) t) .0 in omega arith))
+      (λ t. t))
       (λ l. absurd (omega arith))
 
   pub lowest-some : (m ≡ vacant → ⊥) → m / sz .K ≡ lowestInSlots sz d
@@ -46,7 +47,8 @@ module _ (sz : Sizes) (d : Directory) (s : Sound sz d) (m : ℕ) (e : m ≡ leas
       let lt : slotAt d (w .0) < vacant = omega arith in
       let bl : m / sz .K < sz .N = (rw at at (slot-block sz d s (w .0) (w .1) lt)) in
       first-is (sz .N) (λ b. ltb 0 (slotCount sz d b)) (m / sz .K) (omega arith)
-      (λ b l. by-test (ltb 0 (slotCount sz d b)) (λ t. absurd (let k = in-slot b (ltb-true 0 (slotCount sz d b) t) .1 in omega arith)) (λ t. t))
+      (λ b l. by-test (ltb 0 (slotCount sz d b)) (λ t. absurd (let k = in-slot b (ltb-true 0 (slotCount sz d b) t) .1 in omega arith))
+      (λ t. t))
       (λ l. lt-ltb 0 _ (some-pages sz d (m / sz .K) (w .0) (w .1) (in-block sz d (m / sz .K) (w .0) lt (ap (λ (x : ℕ). x / sz .K) at))))
 
 -- ---- the lowest worn block of entries: o says which entries are occupied, u their block
@@ -83,10 +85,12 @@ module _ (sz : Sizes) (w : List ℕ) (o : ℕ → Bool) (u : ℕ → ℕ) where
 
   -- the least of them is the lowest worn block of those that the occupied entries have
   pub worn-lowest : InLimits sz → (m : ℕ) (has : ℕ → Bool) → ((i : ℕ) → i < m → o i ≡ true → has (u i) ≡ true)
-      → ((b : ℕ) → b < sz .N → has b ≡ true → (i : ℕ) × (i < m) × (o i ≡ true) × (u i ≡ b)) → least m worn-block (sz .N) ≡ first (sz .N) (λ b. has b && leb (sz .W) (getD w b 0))
+      → ((b : ℕ) → b < sz .N → has b ≡ true → (i : ℕ) × (i < m) × (o i ≡ true) × (u i ≡ b))
+      → least m worn-block (sz .N) ≡ first (sz .N) (λ b. has b && leb (sz .W) (getD w b 0))
   worn-lowest limits m has into from = first-least (sz .N) m (λ b. has b && leb (sz .W) (getD w b 0)) worn-block
       (λ i l. by-test (o i && isWorn sz w (u i))
-      (λ t. rw t (λ k. and-i (into i l (and-l (o i) (isWorn sz w (u i)) t)) (sym (worn-is sz limits w (u i) k) ∙ and-r (o i) (isWorn sz w (u i)) t)))
+      (λ t. rw t (λ k. and-i (into i l (and-l (o i) (isWorn sz w (u i)) t))
+      (sym (worn-is sz limits w (u i) k) ∙ and-r (o i) (isWorn sz w (u i)) t)))
       (λ t. rw t (λ k. absurd (omega arith))))
       (λ b l t. let x = from b l (and-l (has b) (leb (sz .W) (getD w b 0)) t) in
       (x .0, x .1, rw (x .2, x .3, worn-is sz limits w b l, and-r (has b) (leb (sz .W) (getD w b 0)) t)))
@@ -94,20 +98,26 @@ module _ (sz : Sizes) (w : List ℕ) (o : ℕ → Bool) (u : ℕ → ℕ) where
 module _ (sz : Sizes) (d : Directory) (s : Sound sz d) (w : List ℕ) where
   pub slots-lowest : least (sz .P) (worn-block sz w (λ i. ltb (slotAt d i) vacant) (λ i. slotAt d i / sz .K)) (sz .N) ≡ wornInSlots sz d w
   unfolding wornInSlots
-  slots-lowest = worn-lowest sz w (λ i. ltb (slotAt d i) vacant) (λ i. slotAt d i / sz .K) (s .limits) (sz .P) (λ b. ltb 0 (slotCount sz d b))
-      (λ i l t. lt-ltb 0 _ (some-pages sz d (slotAt d i / sz .K) i l (in-block sz d (slotAt d i / sz .K) i (ltb-true (slotAt d i) vacant t) refl)))
-      (λ b l t. let p = page-of sz d b (ltb-true 0 (slotCount sz d b) t) in let q = block-of sz d b (p .0) (p .2) in (p .0, p .1, lt-ltb (slotAt d (p .0)) vacant (q .0), q .1))
+  slots-lowest = worn-lowest sz w (λ i. ltb (slotAt d i) vacant) (λ i. slotAt d i / sz .K) (s .limits) (sz .P)
+      (λ b. ltb 0 (slotCount sz d b))
+      (λ i l t. lt-ltb 0 _ (some-pages sz d (slotAt d i / sz .K) i l
+      (in-block sz d (slotAt d i / sz .K) i (ltb-true (slotAt d i) vacant t) refl)))
+      (λ b l t. let p = page-of sz d b (ltb-true 0 (slotCount sz d b) t) in let q = block-of sz d b (p .0) (p .2) in
+      (p .0, p .1, lt-ltb (slotAt d (p .0)) vacant (q .0), q .1))
 
   pub frames-lowest : least (sz .B) (worn-block sz w (λ f. ltb (frameAt d f) vacant) (frameAt d)) (sz .N) ≡ wornInFrames sz d w
   unfolding wornInFrames
   frames-lowest = worn-lowest sz w (λ f. ltb (frameAt d f) vacant) (frameAt d) (s .limits) (sz .B) (λ b. ltb (frameOf sz d b) (sz .B))
-      (λ f l t. by-test (ltb (frameOf sz d (frameAt d f)) (sz .B)) (λ q. q) (λ q. absurd (no-frame sz d (frameAt d f) (ltb-false (frameOf sz d (frameAt d f)) (sz .B) q) f l refl)))
-      (λ b l t. let p = ltb-true (frameOf sz d b) (sz .B) t in let e = frame-is sz d b p in (frameOf sz d b, p, lt-ltb (frameAt d (frameOf sz d b)) vacant (rw e (block-vacant sz (s .limits) b l)), e))
+      (λ f l t. by-test (ltb (frameOf sz d (frameAt d f)) (sz .B)) (λ q. q)
+      (λ q. absurd (no-frame sz d (frameAt d f) (ltb-false (frameOf sz d (frameAt d f)) (sz .B) q) f l refl)))
+      (λ b l t. let p = ltb-true (frameOf sz d b) (sz .B) t in let e = frame-is sz d b p in
+      (frameOf sz d b, p, lt-ltb (frameAt d (frameOf sz d b)) vacant (rw e (block-vacant sz (s .limits) b l)), e))
 
   -- the lowest worn block is the lower of the two
   lower : cond (ltb (wornInFrames sz d w) (wornInSlots sz d w)) (wornInFrames sz d w) (wornInSlots sz d w) ≡ lowestWorn sz d w
   unfolding wornInSlots wornInFrames lowestWorn cached
-  lower = first-or (sz .N) _ _ _ (λ b. and-or-distrib-right (ltb 0 (slotCount sz d b)) (ltb (frameOf sz d b) (sz .B)) (leb (sz .W) (getD w b 0)))
+  lower = first-or (sz .N) _ _ _ (λ b. and-or-distrib-right (ltb 0 (slotCount sz d b)) (ltb (frameOf sz d b) (sz .B))
+      (leb (sz .W) (getD w b 0)))
 
   pub lower-frames : wornInFrames sz d w < wornInSlots sz d w → wornInFrames sz d w ≡ lowestWorn sz d w
   lower-frames l = (rw (lt-ltb (wornInFrames sz d w) (wornInSlots sz d w) l) at lower)

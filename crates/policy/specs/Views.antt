@@ -10,7 +10,8 @@ use Rattle.model.specs.Sizes.{Sizes}
 use Rattle.model.specs.Directory.{Directory}
 use Rattle.model.specs.Soundness.{Sound}
 use Rattle.model.specs.Policy as model
-use Rattle.model.specs.Policy.{frameOf, validCount, slotCount, leastRecent, victim, slotHit, frameHit, freeSlot, join, fill, exchange, evict, clean, due, occupied}
+use Rattle.model.specs.Policy.{frameOf, validCount, slotCount, leastRecent, victim, slotHit, frameHit, freeSlot, join, fill, exchange}
+use Rattle.model.specs.Policy.{evict, clean, due, occupied}
 use Rattle.cache.specs.View.{blockNo, numbers}
 use Rattle.policy.specs.declared.decision.Victim.{Victim}
 use Rattle.policy.specs.declared.decision.Plan.{Plan}

@@ -10,12 +10,15 @@ ghost use Prim.Native.Nat.{_<_};
 ghost use lib.ListN.{length};
 ghost use Rattle.model.specs.Policy.{leastRecent, lowestInSlots, dueOf, isWorn, lowestWorn};
 ghost use Rattle.cache.specs.View.{sizesOf, numbers};
-ghost use Rattle.policy.specs.Views.{dueView, oldestOccupied, wornInSlots, wornInFrames, DueOf, SlotsOf, OrderOf, SlotsWorn, FramesWorn, CachedWorn};
+ghost use Rattle.policy.specs.Views.{dueView, oldestOccupied, wornInSlots, wornInFrames, DueOf, SlotsOf, OrderOf, SlotsWorn};
+ghost use Rattle.policy.specs.Views.{FramesWorn, CachedWorn};
 
 // What a flush step is due to do.
 pub fn due(z: Sizes, slots: &[u32; 128], frames: &[u32; 8], recency: &[u8; 8]) -> Due
     requires { ⌜ DueOf (sizesOf z) (now slots) (now frames) (now recency) ⌝ }
-    ensures { λ r. ⌜ dueView r ≡ dueOf leastRecent (sizesOf z) (numbers (now (slots .entry)) (now (frames .entry)) [] (now (recency .entry))) ⌝ }
+    ensures { λ r. ⌜ (
+        let d = numbers (now (slots .entry)) (now (frames .entry)) [] (now (recency .entry)) in
+        dueView r ≡ dueOf leastRecent (sizesOf z) d) ⌝ }
 {
     let f = oldest_occupied(z, frames, recency);
     if f < z.frames as usize {

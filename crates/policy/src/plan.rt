@@ -23,7 +23,9 @@ pub fn plan(
     wear: &[u32],
 ) -> Plan
     requires { ⌜ WithWear (sizesOf z) (numbers (now slots) (now frames) (now valid) (now recency)) (now wear) ⌝ }
-    ensures { λ r. ⌜ planOf r ≡ plan leastRecent (sizesOf z) (numbers (now (slots .entry)) (now (frames .entry)) (now (valid .entry)) (now (recency .entry))) (now (wear .entry)) (n .0) ⌝ }
+    ensures { λ r. ⌜ (
+        let d = numbers (now (slots .entry)) (now (frames .entry)) (now (valid .entry)) (now (recency .entry)) in
+        planOf r ≡ plan leastRecent (sizesOf z) d (now (wear .entry)) (n .0)) ⌝ }
 {
     let at = lookup::slot_of(z, slots, n);
     if at < z.slots as usize {
@@ -50,7 +52,9 @@ pub fn eviction_plan(
     wear: &[u32],
 ) -> Room
     requires { ⌜ WithWear (sizesOf z) (numbers (now slots) (now frames) (now valid) (now recency)) (now wear) ⌝ }
-    ensures { λ r. ⌜ roomOf r ≡ evictionPlan leastRecent (sizesOf z) (numbers (now (slots .entry)) (now (frames .entry)) (now (valid .entry)) (now (recency .entry))) (now (wear .entry)) (victim (sizesOf z) (numbers (now (slots .entry)) (now (frames .entry)) (now (valid .entry)) (now (recency .entry)))) ⌝ }
+    ensures { λ r. ⌜ (
+        let d = numbers (now (slots .entry)) (now (frames .entry)) (now (valid .entry)) (now (recency .entry)) in
+        roomOf r ≡ evictionPlan leastRecent (sizesOf z) d (now (wear .entry)) (victim (sizesOf z) d)) ⌝ }
 {
     let v = victim::victim(z, slots);
     let b = v.block;

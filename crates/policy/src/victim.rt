@@ -84,7 +84,10 @@ pub fn fewest_valid(z: Sizes, valid: &[u64; 8]) -> u32
 // The least recent of the frames with v valid pages, of which there is one.
 pub fn least_recent_with(z: Sizes, valid: &[u64; 8], recency: &[u8; 8], v: u32) -> usize
     requires { ⌜ SomeValid (sizesOf z) (now valid) (now recency) v ⌝ }
-    ensures { λ r. ⌜ r ≡ leastRecent (sizesOf z) (numbers [] [] [] (now (recency .entry))) (λ f. eqb (validCount (sizesOf z) (numbers [] [] (now (valid .entry)) []) f) v) ⌝ }
+    ensures { λ r. ⌜ (
+        let d = numbers [] [] [] (now (recency .entry)) in
+        let d′ = numbers [] [] (now (valid .entry)) [] in
+        r ≡ leastRecent (sizesOf z) d (λ f. eqb (validCount (sizesOf z) d′ f) v)) ⌝ }
 {
     let mut i = 0;
     while i < z.frames as usize {
@@ -100,7 +103,9 @@ pub fn least_recent_with(z: Sizes, valid: &[u64; 8], recency: &[u8; 8], v: u32) 
 // The frame that way 7 takes: the least recent whose block has wear below W; where every frame holds a worn block, the least recent.
 pub fn evict_frame(z: Sizes, frames: &[u32; 8], recency: &[u8; 8], wear: &[u32]) -> usize
     requires { ⌜ AllOccupied (sizesOf z) (now frames) (now recency) (now wear) ⌝ }
-    ensures { λ r. ⌜ r ≡ evictFrame leastRecent (sizesOf z) (numbers [] (now (frames .entry)) [] (now (recency .entry))) (now (wear .entry)) ⌝ }
+    ensures { λ r. ⌜ (
+        let d = numbers [] (now (frames .entry)) [] (now (recency .entry)) in
+        r ≡ evictFrame leastRecent (sizesOf z) d (now (wear .entry))) ⌝ }
 {
     let mut i = 0;
     while i < z.frames as usize {

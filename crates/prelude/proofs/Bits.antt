@@ -3,7 +3,8 @@ use mathlib.Core.Path.{_≡_, refl, sym, ap, _∙_}
 use mathlib.Core.Logic.{_≢_}
 use mathlib.Core.Bool.{Bool, true, false, _||_}
 use Prim.Native.Nat.{ℕ, zero, suc, _+_, _-_, _*_, _/_, _%_, _^_, _≤_, _<_, max}
-use native.Mathlib.Nat.{not-suc-le-zero, add-zero, add-mul, zero-add, zero-lt-suc, div-eq-of-lt, pow-suc, add-mul-div-right, add-mul-mod-self-right, add-comm, one-mul, zero-div, mod-lt}
+use native.Mathlib.Nat.{not-suc-le-zero, add-zero, add-mul, zero-add, zero-lt-suc, div-eq-of-lt, pow-suc, add-mul-div-right}
+use native.Mathlib.Nat.{add-mul-mod-self-right, add-comm, one-mul, zero-div, mod-lt}
 use native.Mathlib.Omega.{arith}
 use lib.Dec.{ltb, leb, eqb}
 use lib.Arith.{digits-div, digits-mod}
@@ -24,12 +25,14 @@ mask-lt (suc n) p = by-test (p n)
     (λ e. rw (e, pow-suc) (let h = mask-lt n p in omega arith))
 
 pow-split : (n i : ℕ) → i < n → 2 ^ n ≡ (2 ^ (n - suc i) * 2) * 2 ^ i
-pow-split n i l = ap (λ (k : ℕ). 2 ^ k) (let e : n ≡ suc (n - suc i) + i = omega arith in e) ∙ pow-add 2 (suc (n - suc i)) i ∙ ap (λ (k : ℕ). k * 2 ^ i) (pow-suc 2 (n - suc i))
+pow-split n i l = ap (λ (k : ℕ). 2 ^ k) (let e : n ≡ suc (n - suc i) + i = omega arith in e) ∙ pow-add 2 (suc (n - suc i)) i
+    ∙ ap (λ (k : ℕ). k * 2 ^ i) (pow-suc 2 (n - suc i))
 
 -- a digit above i does not change bit i
 pub bit-above : (n m i : ℕ) → i < n → bit (2 ^ n + m) i ≡ bit m i
 unfolding bit
-bit-above n m i l = ap (λ (x : ℕ). eqb (x % 2) 1) (ap (λ (x : ℕ). (x + m) / 2 ^ i) (pow-split n i l) ∙ ap (λ (x : ℕ). x / 2 ^ i) (add-comm ((2 ^ (n - suc i) * 2) * 2 ^ i) m) ∙ add-mul-div-right m (2 ^ (n - suc i) * 2) (pow-pos i))
+bit-above n m i l = ap (λ (x : ℕ). eqb (x % 2) 1) (ap (λ (x : ℕ). (x + m) / 2 ^ i) (pow-split n i l)
+    ∙ ap (λ (x : ℕ). x / 2 ^ i) (add-comm ((2 ^ (n - suc i) * 2) * 2 ^ i) m) ∙ add-mul-div-right m (2 ^ (n - suc i) * 2) (pow-pos i))
     ∙ ap (λ (x : ℕ). eqb x 1) (add-mul-mod-self-right (m / 2 ^ i) (2 ^ (n - suc i)) 2)
 
 pub bit-top : (n m : ℕ) → m < 2 ^ n → bit (2 ^ n + m) n ≡ true
@@ -102,12 +105,15 @@ bits-ext (suc k) a b la lb h =
     by-test (ltb a (2 ^ k))
     (λ p. by-test (ltb b (2 ^ k))
     (λ q. bits-ext k a b (ltb-true a _ p) (ltb-true b _ q) (λ i l. h i (omega arith)))
-    (λ q. clash (ap (λ (x : ℕ). bit x k) (top-split k b (ltb-false b _ q)) ∙ bit-top k (b - 2 ^ k) (let w = ltb-false b (2 ^ k) q in omega arith)) (sym (h k (omega arith)) ∙ bit-none k a (ltb-true a _ p))))
+    (λ q. clash (ap (λ (x : ℕ). bit x k) (top-split k b (ltb-false b _ q))
+    ∙ bit-top k (b - 2 ^ k) (let w = ltb-false b (2 ^ k) q in omega arith)) (sym (h k (omega arith)) ∙ bit-none k a (ltb-true a _ p))))
     (λ p. by-test (ltb b (2 ^ k))
-    (λ q. clash (ap (λ (x : ℕ). bit x k) (top-split k a (ltb-false a _ p)) ∙ bit-top k (a - 2 ^ k) (let w = ltb-false a (2 ^ k) p in omega arith)) (h k (omega arith) ∙ bit-none k b (ltb-true b _ q)))
+    (λ q. clash (ap (λ (x : ℕ). bit x k) (top-split k a (ltb-false a _ p))
+    ∙ bit-top k (a - 2 ^ k) (let w = ltb-false a (2 ^ k) p in omega arith)) (h k (omega arith) ∙ bit-none k b (ltb-true b _ q)))
     (λ q. let x = ltb-false a (2 ^ k) p in let y = ltb-false b (2 ^ k) q in
     let e = bits-ext k (a - 2 ^ k) (b - 2 ^ k) (omega arith) (omega arith) (λ i l.
-    sym (ap (λ (x : ℕ). bit x i) (top-split k a x) ∙ bit-above k (a - 2 ^ k) i l) ∙ h i (omega arith) ∙ ap (λ (x : ℕ). bit x i) (top-split k b y) ∙ bit-above k (b - 2 ^ k) i l) in omega arith))
+    sym (ap (λ (x : ℕ). bit x i) (top-split k a x) ∙ bit-above k (a - 2 ^ k) i l) ∙ h i (omega arith)
+    ∙ ap (λ (x : ℕ). bit x i) (top-split k b y) ∙ bit-above k (b - 2 ^ k) i l) in omega arith))
 
 max-bit : (x y : ℕ) → x < 2 → y < 2 → eqb (max x y) 1 ≡ (eqb x 1 || eqb y 1)
 max-bit zero zero a b = refl
@@ -120,8 +126,10 @@ max-bit (suc (suc x)) y a b = absurd (omega arith)
 
 pub bit-or : (a b i : ℕ) → bit (bitOr a b) i ≡ (bit a i || bit b i)
 unfolding bit
-bit-or a b i = let x : ℕ = a / 2 ^ i % 2 in let y : ℕ = b / 2 ^ i % 2 in let xl : x < 2 = mod-lt (a / 2 ^ i) (zero-lt-suc 1) in let yl : y < 2 = mod-lt (b / 2 ^ i) (zero-lt-suc 1) in
-    ap (λ (t : ℕ). eqb (t % 2) 1) (or-shr a b i ∙ or-step (a / 2 ^ i) (b / 2 ^ i)) ∙ ap (λ (t : ℕ). eqb t 1) (digits-mod _ (let h : max x y < 2 = omega arith in h)) ∙ max-bit x y xl yl
+bit-or a b i = let x : ℕ = a / 2 ^ i % 2 in let y : ℕ = b / 2 ^ i % 2 in let xl : x < 2 = mod-lt (a / 2 ^ i) (zero-lt-suc 1) in
+    let yl : y < 2 = mod-lt (b / 2 ^ i) (zero-lt-suc 1) in
+    ap (λ (t : ℕ). eqb (t % 2) 1) (or-shr a b i ∙ or-step (a / 2 ^ i) (b / 2 ^ i))
+    ∙ ap (λ (t : ℕ). eqb t 1) (digits-mod _ (let h : max x y < 2 = omega arith in h)) ∙ max-bit x y xl yl
 
 -- ---- one number more
 

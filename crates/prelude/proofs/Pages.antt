@@ -4,13 +4,15 @@ use mathlib.Core.Logic.{_≢_, _⊎_, inl, inr, ⊎-elim}
 use mathlib.Core.Bool.{cond}
 use mathlib.Core.List.{List, [], _∷_, _++_, append-assoc}
 use Prim.Native.Nat.{ℕ, zero, suc, _+_, _-_, _*_, _/_, _%_, _≤_, _<_}
-use native.Mathlib.Nat.{not-suc-le-zero, mul-le-mul-right, suc-mul, zero-mul, mul-assoc, add-mul, add-comm, add-zero, mod-lt, div-lt-iff-lt-mul, div-add-mod'}
+use native.Mathlib.Nat.{not-suc-le-zero, mul-le-mul-right, suc-mul, zero-mul, mul-assoc, add-mul, add-comm, add-zero, mod-lt}
+use native.Mathlib.Nat.{div-lt-iff-lt-mul, div-add-mod'}
 use native.Mathlib.Decide.{decLt}
 use native.Mathlib.Omega.{arith}
 use lib.Arith.{digits-lt}
 use lib.Dec.{eqb}
 use lib.ListN.{length, getD, set, take, drop, length-append, length-take, length-drop, length-set, take-append-drop}
-use lib.Seq.{take-append-le, drop-append-le, drop-append-add, take-at, drop-at, drop-drop, take-take, take-add, take-length, length-take-le, ext-getD, getD-set-same, getD-set-other}
+use lib.Seq.{take-append-le, drop-append-le, drop-append-add, take-at, drop-at, drop-drop, take-take, take-add, take-length, length-take-le}
+use lib.Seq.{ext-getD, getD-set-same, getD-set-other}
 use borrow.Author.Tests.{eqb-true, eqb-false}
 use Rattle.prelude.specs.Scan.{tab, tabFrom}
 use Rattle.prelude.specs.Pages.{pageAt, putPage, runAt, laid, pagesOf, flat}
@@ -60,7 +62,14 @@ unfolding laid
 laid-append i x y l h =
     let long : length (take i l ++ x) ≡ i + length x = simp (length-append, length-take) (omega arith) in
     let sum : i + length (x ++ y) ≡ i + length x + length y = simp length-append (omega arith) in
-    rw (sum, append-assoc x y, ← append-assoc (take i l) x (y ++ drop (i + length x + length y) l), ← append-assoc (take i l) x (drop (i + length x) l), take-at (take i l ++ x) (drop (i + length x) l) (i + length x) long, back (i + length x + length y) (i + length x) (take i l ++ x) l long (omega arith))
+    rw (
+      sum,
+      append-assoc x y,
+      ← append-assoc (take i l) x (y ++ drop (i + length x + length y) l),
+      ← append-assoc (take i l) x (drop (i + length x) l),
+      take-at (take i l ++ x) (drop (i + length x) l) (i + length x) long,
+      back (i + length x + length y) (i + length x) (take i l ++ x) l long (omega arith),
+    )
 
 module _ {A : Type 0} (s : ℕ) (l : List A) (i : ℕ) (fits : i * s + s ≤ length l) where
   pub length-pageAt : length (pageAt s l i) ≡ s
@@ -129,7 +138,8 @@ module _ {A : Type 0} (s : ℕ) (src : List A) (j : ℕ) where
         let m = suc-mul n s in
         let long : length (runAt s src j n) ≡ n * s = length-run n (omega arith) in
         let full : length (pageAt s src (j + n)) ≡ s = length-pageAt s src (j + n) (let a = add-mul j n s in omega arith) in
-        rw (run-more n, laid-append (i * s) (runAt s src j n) (pageAt s src (j + n)) l (omega arith), long, ← add-mul i n s) (laid-page (i + n) _ _ full)
+        rw (run-more n, laid-append (i * s) (runAt s src j n) (pageAt s src (j + n)) l (omega arith), long, ← add-mul i n s)
+        (laid-page (i + n) _ _ full)
 
 -- a run of n pages
 module _ {A : Type 0} (s n : ℕ) where
@@ -173,29 +183,39 @@ module _ {A : Type 0} where
   flat-from s i (suc n) l =
       ap (λ (t : List A). take s (drop (i * s) l) ++ t) (flat-from s (suc i) n l)
       ∙ sym (ap (λ (k : ℕ). take k (drop (i * s) l)) (suc-mul n s ∙ add-comm (n * s) s) ∙ take-add s (n * s) (drop (i * s) l)
-      ∙ ap (λ (t : List A). take s (drop (i * s) l) ++ take (n * s) t) (drop-drop s (i * s) l ∙ ap (λ (k : ℕ). drop k l) (sym (suc-mul i s))))
+      ∙ ap (λ (t : List A). take s (drop (i * s) l) ++ take (n * s) t)
+      (drop-drop s (i * s) l ∙ ap (λ (k : ℕ). drop k l) (sym (suc-mul i s))))
 
   pub flat-pages : (s n : ℕ) (l : List A) → length l ≡ n * s → flat (pagesOf s n l) ≡ l
   unfolding pagesOf tab
   flat-pages s n l h = flat-from s 0 n l ∙ rw (zero-mul s, ← h) (take-length l)
 
   -- the pages of a list of pages of s bytes
-  pub page-flat : (s : ℕ) (ps : List (List A)) (d : List A) → ((i : ℕ) → i < length ps → length (getD ps i d) ≡ s) → (i : ℕ) → i < length ps → pageAt s (flat ps) i ≡ getD ps i d
+  pub page-flat : (s : ℕ) (ps : List (List A)) (d : List A) → ((i : ℕ) → i < length ps → length (getD ps i d) ≡ s) → (i : ℕ)
+      → i < length ps → pageAt s (flat ps) i ≡ getD ps i d
   unfolding pageAt flat
   page-flat s [] d h i l = absurd (omega arith)
   page-flat s (p ∷ ps) d h zero l = rw (zero-mul s) (take-at p (flat ps) s (h 0 l))
   page-flat s (p ∷ ps) d h (suc i) l =
-      ap (λ (k : ℕ). take s (drop k (p ++ flat ps))) (suc-mul i s ∙ add-comm (i * s) s ∙ ap (λ (k : ℕ). k + i * s) (sym (h 0 (omega arith))))
+      ap (λ (k : ℕ). take s (drop k (p ++ flat ps))) (suc-mul i s ∙ add-comm (i * s) s
+      ∙ ap (λ (k : ℕ). k + i * s) (sym (h 0 (omega arith))))
       ∙ ap (take s) (drop-append-add p (flat ps) (i * s)) ∙ page-flat s ps d (λ j jl. h (suc j) (omega arith)) i (omega arith)
 
-  pub pages-flat : (s : ℕ) (ps : List (List A)) (d : List A) → ((i : ℕ) → i < length ps → length (getD ps i d) ≡ s) → pagesOf s (length ps) (flat ps) ≡ ps
+  pub pages-flat : (s : ℕ) (ps : List (List A)) (d : List A) → ((i : ℕ) → i < length ps → length (getD ps i d) ≡ s)
+      → pagesOf s (length ps) (flat ps) ≡ ps
   unfolding pagesOf
-  pages-flat s ps d h = ext-getD d _ ps (length-tab (length ps) _) (λ i l. let il : i < length ps = (rw length-tab at l) in getD-tab (length ps) _ d i il ∙ page-flat s ps d h i il)
+  pages-flat s ps d h = ext-getD d _ ps (length-tab (length ps) _)
+      (λ i l. let il : i < length ps = (rw length-tab at l) in getD-tab (length ps) _ d i il ∙ page-flat s ps d h i il)
 
-  pub length-flat : (s : ℕ) (ps : List (List A)) (d : List A) → ((i : ℕ) → i < length ps → length (getD ps i d) ≡ s) → length (flat ps) ≡ length ps * s
+  pub length-flat : (s : ℕ) (ps : List (List A)) (d : List A) → ((i : ℕ) → i < length ps → length (getD ps i d) ≡ s)
+      → length (flat ps) ≡ length ps * s
   unfolding flat
   length-flat s [] d h = sym (zero-mul s)
-  length-flat s (p ∷ ps) d h = length-append p (flat ps) ∙ rw (h 0 (omega arith), length-flat s ps d (λ j jl. h (suc j) (omega arith)), suc-mul) (add-comm s _)
+  length-flat s (p ∷ ps) d h = length-append p (flat ps) ∙ rw (
+    h 0 (omega arith),
+    length-flat s ps d (λ j jl. h (suc j) (omega arith)),
+    suc-mul,
+  ) (add-comm s _)
 
 -- ---- a buffer as a list of pages
 
@@ -212,12 +232,15 @@ module _ {A : Type 0} (s n : ℕ) (l : List A) where
   page-long d i h e = ap length (page-at d i h) ∙ length-pageAt s l i (in-run s n l e h)
 
   -- a page put is a page set
-  pub pages-put : (i : ℕ) (pg : List A) → i < n → length l ≡ n * s → length pg ≡ s → pagesOf s n (putPage s l i pg) ≡ set (pagesOf s n l) i pg
+  pub pages-put : (i : ℕ) (pg : List A) → i < n → length l ≡ n * s → length pg ≡ s
+      → pagesOf s n (putPage s l i pg) ≡ set (pagesOf s n l) i pg
   unfolding pagesOf
   pages-put i pg h e g = ext-getD pg _ _ (simp (length-tab, length-set)) (λ j k. let jl : j < n = (rw length-tab at k) in
       getD-tab n _ pg j jl ∙ by-test (eqb j i)
-      (λ t. rw (eqb-true j i t) (page-put-same s l i pg (in-run s n l e h) g ∙ sym (getD-set-same (tab n (pageAt s l)) i pg pg (rw length-tab h))))
-      (λ t. let ne = eqb-false j i t in page-put-other s l i pg (in-run s n l e h) g j (λ q. ne (sym q)) ∙ sym (getD-set-other (tab n (pageAt s l)) i j pg pg ne ∙ getD-tab n _ pg j jl)))
+      (λ t. rw (eqb-true j i t) (page-put-same s l i pg (in-run s n l e h) g
+      ∙ sym (getD-set-same (tab n (pageAt s l)) i pg pg (rw length-tab h))))
+      (λ t. let ne = eqb-false j i t in page-put-other s l i pg (in-run s n l e h) g j (λ q. ne (sym q))
+      ∙ sym (getD-set-other (tab n (pageAt s l)) i j pg pg ne ∙ getD-tab n _ pg j jl)))
 
 -- blocks of k pages
 module _ {A : Type 0} (s k n : ℕ) (l : List A) (long : length l ≡ n * k * s) where
@@ -228,19 +251,25 @@ module _ {A : Type 0} (s k n : ℕ) (l : List A) (long : length l ≡ n * k * s)
   block-fits b h = in-run (k * s) n l block-run h
 
   -- a page of a block
-  pub block-page : (d : List A) (b o : ℕ) → b < n → o < k → getD (pagesOf s k (pageAt (k * s) l b)) o d ≡ getD (pagesOf s (n * k) l) (b * k + o) d
-  block-page d b o h g = page-at s k (pageAt (k * s) l b) d o g ∙ page-of-block s k l b o g ∙ sym (page-at s (n * k) l d (b * k + o) (digits-lt h g))
+  pub block-page : (d : List A) (b o : ℕ) → b < n → o < k → getD (pagesOf s k (pageAt (k * s) l b)) o d
+      ≡ getD (pagesOf s (n * k) l) (b * k + o) d
+  block-page d b o h g = page-at s k (pageAt (k * s) l b) d o g ∙ page-of-block s k l b o g
+      ∙ sym (page-at s (n * k) l d (b * k + o) (digits-lt h g))
 
   pub block-long : (b : ℕ) → b < n → length (pageAt (k * s) l b) ≡ k * s
   block-long b h = length-pageAt (k * s) l b (block-fits b h)
 
   -- a block put
   pub block-put : (d : List A) (b : ℕ) (fr : List A) → 0 < k → b < n → length fr ≡ k * s
-      → pagesOf s (n * k) (putPage (k * s) l b fr) ≡ tab (n * k) (λ j. cond (eqb (j / k) b) (getD (pagesOf s k fr) (j % k) d) (getD (pagesOf s (n * k) l) j d))
+      → pagesOf s (n * k) (putPage (k * s) l b fr) ≡ tab (n * k) (λ j. cond (eqb (j / k) b) (getD (pagesOf s k fr) (j % k) d)
+      (getD (pagesOf s (n * k) l) j d))
   unfolding pagesOf
   block-put d b fr kp h g = tab-ext d (n * k) _ _ (λ j jl.
-      let q : ℕ = j / k in let o : ℕ = j % k in let ql : q < n = div-lt-iff-lt-mul kp .1 jl in let ol : o < k = mod-lt j kp in let e : q * k + o ≡ j = div-add-mod' j k in
+      let q : ℕ = j / k in let o : ℕ = j % k in let ql : q < n = div-lt-iff-lt-mul kp .1 jl in let ol : o < k = mod-lt j kp in
+      let e : q * k + o ≡ j = div-add-mod' j k in
       let fit = block-fits b h in
       ap (pageAt s (putPage (k * s) l b fr)) (sym e) ∙ sym (page-of-block s k (putPage (k * s) l b fr) q o ol) ∙ by-test (eqb q b)
-      (λ t. rw t (ap (λ (x : ℕ). pageAt s (pageAt (k * s) (putPage (k * s) l b fr) x) o) (eqb-true q b t) ∙ ap (λ (x : List A). pageAt s x o) (page-put-same (k * s) l b fr fit g) ∙ sym (page-at s k fr d o ol)))
-      (λ t. let ne = eqb-false q b t in rw t (ap (λ (x : List A). pageAt s x o) (page-put-other (k * s) l b fr fit g q (λ w. ne (sym w))) ∙ page-of-block s k l q o ol ∙ ap (pageAt s l) e ∙ sym (page-at s (n * k) l d j jl))))
+      (λ t. rw t (ap (λ (x : ℕ). pageAt s (pageAt (k * s) (putPage (k * s) l b fr) x) o) (eqb-true q b t)
+      ∙ ap (λ (x : List A). pageAt s x o) (page-put-same (k * s) l b fr fit g) ∙ sym (page-at s k fr d o ol)))
+      (λ t. let ne = eqb-false q b t in rw t (ap (λ (x : List A). pageAt s x o) (page-put-other (k * s) l b fr fit g q (λ w. ne (sym w)))
+      ∙ page-of-block s k l q o ol ∙ ap (pageAt s l) e ∙ sym (page-at s (n * k) l d j jl))))

@@ -57,15 +57,18 @@ all-or n false p = refl
 -- two tests at once
 pub all-both : (n : ℕ) (p q : ℕ → Bool) → all n (λ i. p i && q i) ≡ (all n p && all n q)
 all-both n p q = same-test
-    (λ h. and-i (all-of n p (λ i l. and-l (p i) (q i) (all-at n (λ j. p j && q j) h i l))) (all-of n q (λ i l. and-r (p i) (q i) (all-at n (λ j. p j && q j) h i l))))
-    (λ h. all-of n (λ i. p i && q i) (λ i l. and-i (all-at n p (and-l (all n p) (all n q) h) i l) (all-at n q (and-r (all n p) (all n q) h) i l)))
+    (λ h. and-i (all-of n p (λ i l. and-l (p i) (q i) (all-at n (λ j. p j && q j) h i l)))
+    (all-of n q (λ i l. and-r (p i) (q i) (all-at n (λ j. p j && q j) h i l))))
+    (λ h. all-of n (λ i. p i && q i) (λ i l. and-i (all-at n p (and-l (all n p) (all n q) h) i l)
+    (all-at n q (and-r (all n p) (all n q) h) i l)))
 
 -- what each number from i on, below n, hands on to the next
 pub handed-on : (T : ℕ → Type 0) (i n : ℕ) → i ≤ n → ((j : ℕ) → i ≤ j → j < n → T j → T (j + 1)) → T i → T n
 handed-on T i zero l h t = let e : i ≡ 0 = omega arith in subst T e t
 handed-on T i (suc n) l h t = by-test (eqb i (suc n))
     (λ q. subst T (eqb-true i (suc n) q) t)
-    (λ q. let ne = eqb-false i (suc n) q in subst T (add-one n) (h n (omega arith) (omega arith) (handed-on T i n (omega arith) (λ j a b. h j a (omega arith)) t)))
+    (λ q. let ne = eqb-false i (suc n) q in subst T (add-one n) (h n (omega arith) (omega arith)
+    (handed-on T i n (omega arith) (λ j a b. h j a (omega arith)) t)))
 
 -- ---- first
 
@@ -77,7 +80,12 @@ pub record First (i n : ℕ) (p : ℕ → Bool) (r : ℕ) : Type 0 where
 
 pub firstFrom-is : (i n : ℕ) (p : ℕ → Bool) → First i n p (firstFrom i n p)
 unfolding firstFrom
-firstFrom-is i zero p = record { low = omega arith; high = omega arith; hit = λ l. absurd (omega arith); miss = λ j a b. absurd (omega arith) }
+firstFrom-is i zero p = record {
+  low = omega arith;
+  high = omega arith;
+  hit = λ l. absurd (omega arith);
+  miss = λ j a b. absurd (omega arith);
+}
 firstFrom-is i (suc n) p = by-test (p i)
     (λ e. rw (e, firstFrom) (record { low = omega arith; high = omega arith; hit = λ l. e; miss = λ j a b. absurd (omega arith) }))
     (λ e. rw (e, firstFrom) (let h = firstFrom-is (suc i) n p in record {
@@ -112,7 +120,8 @@ module _ (n : ℕ) (p : ℕ → Bool) where
 
   -- where one passes, the first does, and stands no later
   pub first-at : (j : ℕ) → j < n → p j ≡ true → first n p ≤ j
-  first-at j l e = by-test (ltb j (first n p)) (λ q. clash e (first-miss j (ltb-true j (first n p) q))) (λ q. let z = ltb-false j (first n p) q in omega arith)
+  first-at j l e = by-test (ltb j (first n p)) (λ q. clash e (first-miss j (ltb-true j (first n p) q)))
+      (λ q. let z = ltb-false j (first n p) q in omega arith)
 
 -- none of the numbers below i passes, as a loop that looks for the first one knows
 abbrev pub Missed : (ℕ → Bool) → ℕ → Type 0
@@ -124,7 +133,8 @@ unfolding first
 first-is n p i l h e = from-is 0 n p i (record { low = omega arith; high = omega arith; hit = λ k. e (omega arith); miss = λ j a b. h j b })
 
 -- the first that passes one of two tests
-pub first-or : (n : ℕ) (p q r : ℕ → Bool) → ((i : ℕ) → r i ≡ (p i || q i)) → cond (ltb (first n q) (first n p)) (first n q) (first n p) ≡ first n r
+pub first-or : (n : ℕ) (p q r : ℕ → Bool) → ((i : ℕ) → r i ≡ (p i || q i))
+    → cond (ltb (first n q) (first n p)) (first n q) (first n p) ≡ first n r
 first-or n p q r f = let a = first-le n p in let b = first-le n q in
     let none : (j : ℕ) → j < first n p → j < first n q → r j ≡ false = (λ j x y. f j ∙ rw (first-miss n p j x, first-miss n q j y)) in
     by-test (ltb (first n q) (first n p))
@@ -195,7 +205,8 @@ count-mono n (suc k) p l = by-test (eqb n (suc k))
 
 pub count-past : (i n : ℕ) (p : ℕ → Bool) → i < n → p i ≡ true → count i p < count n p
 unfolding count
-count-past i n p l e = let h : cond (p i) 1 0 + count i p ≤ count n p = count-mono (suc i) n p l in let h2 : 1 + count i p ≤ count n p = (rw e at h) in omega arith
+count-past i n p l e = let h : cond (p i) 1 0 + count i p ≤ count n p = count-mono (suc i) n p l in
+    let h2 : 1 + count i p ≤ count n p = (rw e at h) in omega arith
 
 pub count-none : (n : ℕ) (p : ℕ → Bool) → ((j : ℕ) → j < n → p j ≡ false) → count n p ≡ 0
 unfolding count
@@ -227,7 +238,8 @@ unfolding count
 count-remove zero p x l e = absurd (not-suc-le-zero l)
 count-remove (suc n) p x l e = by-test (eqb n x)
     (λ k. let k2 = eqb-true n x k in let e2 : p n ≡ true = (rw k2 e) in
-    let h = count-same n p (λ i. p i && not (eqb i x)) (λ j jl. let ne : eqb j x ≡ false = ne-eqb j x (λ w. absurd (omega arith)) in by-test (p j) (λ t. rw (t, ne)) (λ t. rw t)) in
+    let h = count-same n p (λ i. p i && not (eqb i x)) (λ j jl. let ne : eqb j x ≡ false = ne-eqb j x (λ w. absurd (omega arith)) in
+    by-test (p j) (λ t. rw (t, ne)) (λ t. rw t)) in
     rw (e2, k) (omega arith))
     (λ k. let k2 = eqb-false n x k in let h = count-remove n p x (omega arith) e in by-test (p n)
     (λ t. rw (t, k) (omega arith))
@@ -239,7 +251,8 @@ unfolding count
 count-upto k zero p l f = rw (let e : k ≡ 0 = omega arith in e)
 count-upto k (suc n) p l f = by-test (eqb k (suc n))
     (λ t. rw (eqb-true k (suc n) t))
-    (λ t. let ne = eqb-false k (suc n) t in rw (f n (omega arith) (omega arith)) (let h = count-upto k n p (omega arith) (λ j a b. f j a (omega arith)) in omega arith))
+    (λ t. let ne = eqb-false k (suc n) t in rw (f n (omega arith) (omega arith))
+    (let h = count-upto k n p (omega arith) (λ j a b. f j a (omega arith)) in omega arith))
 
 -- no more numbers pass p below n than pass q below k, where h takes each to one of its own
 pub count-inj : (n k : ℕ) (p q : ℕ → Bool) (h : ℕ → ℕ) → ((i : ℕ) → i < n → p i ≡ true → (h i < k) × (q (h i) ≡ true))
@@ -249,10 +262,12 @@ count-inj zero k p q h f g = omega arith
 count-inj (suc n) k p q h f g = by-test (p n)
     (λ e. let a = f n (omega arith) e in let w = count-remove k q (h n) (a .0) (a .1) in
     let ih = count-inj n k p (λ i. q i && not (eqb i (h n))) h
-    (λ i l t. let b = f i (omega arith) t in (b .0, and-i (b .1) (not-i (ne-eqb (h i) (h n) (λ y. let ij = g i n (omega arith) (omega arith) t e y in omega arith)))))
+    (λ i l t. let b = f i (omega arith) t in
+    (b .0, and-i (b .1) (not-i (ne-eqb (h i) (h n) (λ y. let ij = g i n (omega arith) (omega arith) t e y in omega arith)))))
     (λ i j l l2 t t2 y. g i j (omega arith) (omega arith) t t2 y) in
     rw e (omega arith))
-    (λ e. rw e (let ih = count-inj n k p q h (λ i l t. f i (omega arith) t) (λ i j l l2 t t2 y. g i j (omega arith) (omega arith) t t2 y) in omega arith))
+    (λ e. rw e (let ih = count-inj n k p q h (λ i l t. f i (omega arith) t)
+    (λ i j l l2 t t2 y. g i j (omega arith) (omega arith) t t2 y) in omega arith))
 
 -- at most one passes
 pub count-one : (n : ℕ) (p : ℕ → Bool) → ((i j : ℕ) → i < n → j < n → p i ≡ true → p j ≡ true → i ≡ j) → count n p ≤ 1
@@ -278,7 +293,8 @@ rank-inj p i j a b e = by-test (ltb i j)
 -- there is none past the count
 pub nth-none : (n : ℕ) (p : ℕ → Bool) (r : ℕ) → count n p ≤ r → n ≤ nth n p r
 nth-none n p r l = by-test (ltb (nth n p r) n)
-    (λ e. let w = ltb-true _ n e in let h = nth-is n p r w in let c = count-past (nth n p r) n p w (h .0) in let d = h .1 in absurd (omega arith))
+    (λ e. let w = ltb-true _ n e in let h = nth-is n p r w in let c = count-past (nth n p r) n p w (h .0) in let d = h .1 in
+    absurd (omega arith))
     (λ e. ltb-false _ n e)
 
 pub nth-rank : (n : ℕ) (p : ℕ → Bool) (i : ℕ) → i < n → p i ≡ true → nth n p (count i p) ≡ i
@@ -323,10 +339,12 @@ module _ (n : ℕ) (p : ℕ → Bool) where
   nth-suc r at m l e d = by-test (ltb m n)
       (λ t. rw t (let ml = ltb-true m n t in let h = nth-is n p r (omega arith) in let f : nth n p r ≡ m = e ∙ sym d in
       let k = firstFrom (m + 1) (n - (m + 1)) p in let w = firstFrom-is (m + 1) (n - (m + 1)) p in let lo = w .low in let hi = w .high in
-      let c : count k p ≡ suc r = count-upto (m + 1) k p lo (λ j a b. w .miss j a b) ∙ sym (count-hit m p (rw f at (h .0))) ∙ add-one (count m p) ∙ ap suc (rw f at (h .1)) in
+      let c : count k p ≡ suc r = count-upto (m + 1) k p lo (λ j a b. w .miss j a b) ∙ sym (count-hit m p (rw f at (h .0)))
+      ∙ add-one (count m p) ∙ ap suc (rw f at (h .1)) in
       nth-found (suc r) k c (omega arith) (λ kl. w .hit (omega arith))))
       (λ t. rw t (let g = ltb-false m n t in let x = from-end n p m g in
-      let c : count n p ≤ r = by-test (ltb r (count n p)) (λ u. absurd (let s = nth-some n p r (ltb-true r (count n p) u) in omega arith)) (λ u. ltb-false r (count n p) u) in
+      let c : count n p ≤ r = by-test (ltb r (count n p)) (λ u. absurd (let s = nth-some n p r (ltb-true r (count n p) u) in omega arith))
+      (λ u. ltb-false r (count n p) u) in
       let a = nth-none n p (suc r) (omega arith) in let b = nth-le (suc r) in let y = from-le n p at l in omega arith))
 
 -- ---- argmax
@@ -405,7 +423,8 @@ least-is (suc n) g d = by-test (ltb (g n) (least n g d))
 pub first-least : (n m : ℕ) (p : ℕ → Bool) (g : ℕ → ℕ) → ((i : ℕ) → i < m → g i < n → p (g i) ≡ true)
     → ((b : ℕ) → b < n → p b ≡ true → (i : ℕ) × (i < m) × (g i ≡ b)) → least m g n ≡ first n p
 first-least n m p g f h = let top = least-top m g n in first-is n p (least m g n) top
-    (λ j l. by-test (p j) (λ t. absurd (let w = h j (omega arith) t in let a = least-le m g n (w .0) (w .1) in let e = w .2 in omega arith)) (λ t. t))
+    (λ j l. by-test (p j) (λ t. absurd (let w = h j (omega arith) t in let a = least-le m g n (w .0) (w .1) in let e = w .2 in
+    omega arith)) (λ t. t))
     (λ l. let w = least-is m g n l in let e = w .2 in rw (← e) (f (w .0) (w .1) (omega arith)))
 
 -- ---- a list of n entries that has each number below n
@@ -436,7 +455,10 @@ module _ (n : ℕ) (u : ℕ → ℕ) (has : (f : ℕ) → f < n → (i : ℕ) ×
   -- so each entry is below n, and stands once
   pub listed-at : (i : ℕ) → i < n → (u i < n) × (first n (λ k. eqb (u k) (u i)) ≡ i)
   listed-at i l = by-test (ltb (u i) n && eqb (position (u i)) i)
-      (λ e. (ltb-true (u i) n (and-l (ltb (u i) n) (eqb (position (u i)) i) e), eqb-true (position (u i)) i (and-r (ltb (u i) n) (eqb (position (u i)) i) e)))
+      (λ e. (
+        ltb-true (u i) n (and-l (ltb (u i) n) (eqb (position (u i)) i) e),
+        eqb-true (position (u i)) i (and-r (ltb (u i) n) (eqb (position (u i)) i) e),
+      ))
       (λ e. absurd (none-over i l (λ f fl q.
       let h = position-is f fl in
       let v : u i ≡ f = sym (ap u q) ∙ h .1 in
@@ -448,7 +470,8 @@ module _ (n : ℕ) (u : ℕ → ℕ) (has : (f : ℕ) → f < n → (i : ℕ) ×
 -- each number below n stands once among n entries: the test, and the fact that each of them stands there
 module _ (n : ℕ) (u : ℕ → ℕ) where
   pub once-has : all n (λ f. eqb (count n (λ i. eqb (u i) f)) 1) ≡ true → (f : ℕ) → f < n → (i : ℕ) × (i < n) × (u i ≡ f)
-  once-has h f l = let p : ℕ → Bool = λ i. eqb (u i) f in let c = eqb-true (count n p) 1 (all-at n (λ g. eqb (count n (λ i. eqb (u i) g)) 1) h f l) in
+  once-has h f l = let p : ℕ → Bool = λ i. eqb (u i) f in let c = eqb-true (count n p) 1
+      (all-at n (λ g. eqb (count n (λ i. eqb (u i) g)) 1) h f l) in
       let k = count-some n p (omega arith) in (first n p, k, eqb-true _ f (first-hit n p k))
 
   pub has-once : ((f : ℕ) → f < n → (i : ℕ) × (i < n) × (u i ≡ f)) → all n (λ f. eqb (count n (λ i. eqb (u i) f)) 1) ≡ true

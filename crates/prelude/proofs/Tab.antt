@@ -33,11 +33,13 @@ module _ {A : Type 0} where
   getD-tab n f d j l = getD-tabFrom 0 n f d j l ∙ ap f (zero-add j)
 
 pub tab-ext : {A : Type 0} (d : A) (n : ℕ) (f g : ℕ → A) → ((i : ℕ) → i < n → f i ≡ g i) → tab n f ≡ tab n g
-tab-ext d n f g h = ext-getD d (tab n f) (tab n g) (length-tab n f ∙ sym (length-tab n g)) (λ i l. let il : i < n = (rw length-tab at l) in getD-tab n f d i il ∙ h i il ∙ sym (getD-tab n g d i il))
+tab-ext d n f g h = ext-getD d (tab n f) (tab n g) (length-tab n f ∙ sym (length-tab n g))
+    (λ i l. let il : i < n = (rw length-tab at l) in getD-tab n f d i il ∙ h i il ∙ sym (getD-tab n g d i il))
 
 -- a list of n entries is the table of them
 pub tab-list : {A : Type 0} (d : A) (n : ℕ) (l : List A) → length l ≡ n → tab n (λ i. getD l i d) ≡ l
-tab-list d n l h = ext-getD d (tab n (λ i. getD l i d)) l (length-tab n _ ∙ sym h) (λ i k. getD-tab n (λ j. getD l j d) d i (rw length-tab at k))
+tab-list d n l h = ext-getD d (tab n (λ i. getD l i d)) l (length-tab n _ ∙ sym h)
+    (λ i k. getD-tab n (λ j. getD l j d) d i (rw length-tab at k))
 
 -- entries below o are what the rule gives, the others as they were
 pub record Done {A : Type 0} (d : A) (n : ℕ) (new : ℕ → A) (old : List A) (o : ℕ) (l : List A) : Type 0 where

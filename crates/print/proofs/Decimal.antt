@@ -26,7 +26,8 @@ digits-enough (suc c) zero n h k = digits-one (suc c) n (omega arith) ∙ sym (d
 digits-enough (suc c) (suc d) n h k = by-test (ltb n 10)
     (λ e. let small : n < 10 = ltb-true n 10 e in digits-one (suc c) n small ∙ sym (digits-one (suc d) n small))
     (λ e. let large : 10 ≤ n = ltb-false n 10 e in
-    digits-more c n large ∙ ap (λ (l : List ℕ). l ++ (lastDigit n ∷ [])) (digits-enough c d (n / 10) (omega arith) (omega arith)) ∙ sym (digits-more d n large))
+    digits-more c n large ∙ ap (λ (l : List ℕ). l ++ (lastDigit n ∷ [])) (digits-enough c d (n / 10) (omega arith) (omega arith))
+    ∙ sym (digits-more d n large))
 
 pub decimal-one : (n : ℕ) → n < 10 → decimal n ≡ lastDigit n ∷ []
 unfolding decimal
@@ -34,7 +35,8 @@ decimal-one n h = digits-one n n h
 
 more : (c n : ℕ) → n ≤ c → 10 ≤ n → digits c n ≡ digits (n / 10) (n / 10) ++ (lastDigit n ∷ [])
 more zero n h k = absurd (omega arith)
-more (suc c) n h k = digits-more c n k ∙ ap (λ (l : List ℕ). l ++ (lastDigit n ∷ [])) (digits-enough c (n / 10) (n / 10) (omega arith) (omega arith))
+more (suc c) n h k = digits-more c n k ∙ ap (λ (l : List ℕ). l ++ (lastDigit n ∷ []))
+    (digits-enough c (n / 10) (n / 10) (omega arith) (omega arith))
 
 pub decimal-more : (n : ℕ) → 10 ≤ n → decimal n ≡ decimal (n / 10) ++ (lastDigit n ∷ [])
 unfolding decimal

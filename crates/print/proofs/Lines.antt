@@ -27,12 +27,14 @@ tails-is (i ∷ l) = ap (λ (x : List ℕ). 32 ∷ x) (append-assoc i (items l) 
 -- a line from its word and what follows
 whole : (w : String) (l : List (List ℕ)) → (40 ∷ bytes w) ++ tails l ≡ line w l
 unfolding line form
-whole w l = ap (λ (x : List ℕ). 40 ∷ x) (ap (λ (x : List ℕ). bytes w ++ x) (sym (tails-is l)) ∙ sym (append-assoc (bytes w) (items l) (10 ∷ [])))
+whole w l = ap (λ (x : List ℕ). 40 ∷ x) (ap (λ (x : List ℕ). bytes w ++ x) (sym (tails-is l))
+    ∙ sym (append-assoc (bytes w) (items l) (10 ∷ [])))
 
 -- a line whose first item is put with the word
 numbered : (w : String) (x : List ℕ) (l : List (List ℕ)) → ((40 ∷ (bytes w ++ (32 ∷ []))) ++ x) ++ tails l ≡ line w (x ∷ l)
 unfolding tails
-numbered w x l = ap (λ (y : List ℕ). 40 ∷ y) (append-assoc (bytes w ++ (32 ∷ [])) x (tails l) ∙ append-assoc (bytes w) (32 ∷ []) (x ++ tails l)) ∙ whole w (x ∷ l)
+numbered w x l = ap (λ (y : List ℕ). 40 ∷ y) (append-assoc (bytes w ++ (32 ∷ [])) x (tails l)
+    ∙ append-assoc (bytes w) (32 ∷ []) (x ++ tails l)) ∙ whole w (x ∷ l)
 
 -- pieces put one after the other
 four : (a b c d : List ℕ) → ((a ++ b) ++ c) ++ d ≡ a ++ (b ++ (c ++ d))
@@ -50,9 +52,11 @@ unfolding line form items
 bad-line n = refl
 
 pub write-line : (n way b m : ℕ)
-    → ((((lead "write" ++ decimal n) ++ (32 ∷ field "way" way)) ++ (32 ∷ erased b)) ++ (32 ∷ field "merged" m)) ++ end ≡ writeLine n (writeDone way b m)
+    → ((((lead "write" ++ decimal n) ++ (32 ∷ field "way" way)) ++ (32 ∷ erased b)) ++ (32 ∷ field "merged" m)) ++ end
+    ≡ writeLine n (writeDone way b m)
 unfolding said tails
-write-line n way b m = five (lead "write" ++ decimal n) (32 ∷ field "way" way) (32 ∷ erased b) (32 ∷ field "merged" m) end ∙ numbered "write" (decimal n) _
+write-line n way b m = five (lead "write" ++ decimal n) (32 ∷ field "way" way) (32 ∷ erased b) (32 ∷ field "merged" m) end
+    ∙ numbered "write" (decimal n) _
 
 pub read-line : (n way byte : ℕ)
     → (((lead "read" ++ decimal n) ++ (32 ∷ field "way" way)) ++ (32 ∷ field "byte" byte)) ++ end ≡ readLine n (readDone way) byte
@@ -63,7 +67,8 @@ pub step-line : (b m : ℕ) → (((40 ∷ bytes "step") ++ (32 ∷ field "block"
 unfolding said tails
 step-line b m = four (40 ∷ bytes "step") (32 ∷ field "block" b) (32 ∷ field "merged" m) end ∙ whole "step" _
 
-pub flush-line : (r m : ℕ) → (((40 ∷ bytes "flush") ++ (32 ∷ field "rewrites" r)) ++ (32 ∷ field "merged" m)) ++ end ≡ flushLine (flushDone r m)
+pub flush-line : (r m : ℕ) → (((40 ∷ bytes "flush") ++ (32 ∷ field "rewrites" r)) ++ (32 ∷ field "merged" m)) ++ end
+    ≡ flushLine (flushDone r m)
 unfolding said tails
 flush-line r m = four (40 ∷ bytes "flush") (32 ∷ field "rewrites" r) (32 ∷ field "merged" m) end ∙ whole "flush" _
 
@@ -81,7 +86,8 @@ refused-number w n r = numbered w (decimal n) (refusal r ∷ [])
 spaced-append : (l m : List (List ℕ)) → spaced (l ++ m) ≡ spaced l ++ spaced m
 unfolding spaced
 spaced-append [] m = refl
-spaced-append (i ∷ l) m = ap (λ (x : List ℕ). 32 ∷ x) (ap (λ (x : List ℕ). i ++ x) (spaced-append l m) ∙ sym (append-assoc i (spaced l) (spaced m)))
+spaced-append (i ∷ l) m = ap (λ (x : List ℕ). 32 ∷ x) (ap (λ (x : List ℕ). i ++ x) (spaced-append l m)
+    ∙ sym (append-assoc i (spaced l) (spaced m)))
 
 spaced-items : (l : List (List ℕ)) → spaced l ++ end ≡ tails l
 unfolding spaced tails
@@ -89,7 +95,8 @@ spaced-items [] = refl
 spaced-items (i ∷ l) = ap (λ (x : List ℕ). 32 ∷ x) (append-assoc i (spaced l) end ∙ ap (λ (x : List ℕ). i ++ x) (spaced-items l))
 
 pub wear-line : (ws : List ℕ) → ((40 ∷ bytes "wear") ++ spaced (map decimal ws)) ++ end ≡ wearLine ws
-wear-line ws = append-assoc (40 ∷ bytes "wear") (spaced (map decimal ws)) end ∙ ap (λ (x : List ℕ). (40 ∷ bytes "wear") ++ x) (spaced-items (map decimal ws)) ∙ whole "wear" (map decimal ws)
+wear-line ws = append-assoc (40 ∷ bytes "wear") (spaced (map decimal ws)) end
+    ∙ ap (λ (x : List ℕ). (40 ∷ bytes "wear") ++ x) (spaced-items (map decimal ws)) ∙ whole "wear" (map decimal ws)
 
 map-take : (ns : List ℕ) (i : ℕ) → i < length ns → map decimal (take (suc i) ns) ≡ map decimal (take i ns) ++ (decimal (getD ns i 0) ∷ [])
 map-take [] i h = absurd (not-suc-le-zero h)
@@ -97,7 +104,8 @@ map-take (x ∷ ns) zero h = refl
 map-take (x ∷ ns) (suc i) h = ap (λ (l : List (List ℕ)). decimal x ∷ l) (map-take ns i (le-of-suc-le-suc h))
 
 -- one number more
-pub spaced-more : (ns : List ℕ) (i : ℕ) → i < length ns → spaced (map decimal (take i ns)) ++ ((32 ∷ []) ++ decimal (getD ns i 0)) ≡ spaced (map decimal (take (i + 1) ns))
+pub spaced-more : (ns : List ℕ) (i : ℕ) → i < length ns → spaced (map decimal (take i ns)) ++ ((32 ∷ []) ++ decimal (getD ns i 0))
+    ≡ spaced (map decimal (take (i + 1) ns))
 unfolding spaced
 spaced-more ns i h =
     ap (λ (x : List ℕ). spaced (map decimal (take i ns)) ++ (32 ∷ x)) (sym (append-nil (decimal (getD ns i 0))))

@@ -26,14 +26,17 @@ module _ (l : List ℕ) (at : ℕ) where
   pub put-then : (a b : List ℕ) → at ≤ length l → putAt (putAt l at a) (at + length a) b ≡ putAt l at (a ++ b)
   unfolding putAt
   put-then a b h =
-      let front : length (take at l ++ a) ≡ at + length a = length-append (take at l) a ∙ ap (λ (k : ℕ). k + length a) (length-take-le at l h) in
+      let front : length (take at l ++ a) ≡ at + length a = length-append (take at l) a
+      ∙ ap (λ (k : ℕ). k + length a) (length-take-le at l h) in
       let whole : putAt l at a ≡ (take at l ++ a) ++ drop (at + length a) l = sym (append-assoc (take at l) a _) in
       let same : drop (length b) (drop (at + length a) l) ≡ drop (at + length (a ++ b)) l = rw (drop-drop, length-append, add-assoc) in
       ap (λ (x : List ℕ). putAt x (at + length a) b) whole ∙ put-after (take at l ++ a) _ b (at + length a) front
-      ∙ append-assoc (take at l) a _ ∙ ap (λ (x : List ℕ). take at l ++ x) (sym (append-assoc a b _) ∙ ap (λ (x : List ℕ). a ++ b ++ x) same)
+      ∙ append-assoc (take at l) a _ ∙ ap (λ (x : List ℕ). take at l ++ x)
+      (sym (append-assoc a b _) ∙ ap (λ (x : List ℕ). a ++ b ++ x) same)
 
 -- a turn of a loop that puts the bytes of src one by one
-pub put-more : (l src m : List ℕ) (at i : ℕ) → at + length src ≤ length l → i < length src → length m ≡ length l → m ≡ putAt l at (take i src)
+pub put-more : (l src m : List ℕ) (at i : ℕ) → at + length src ≤ length l → i < length src → length m ≡ length l
+    → m ≡ putAt l at (take i src)
     → set m (at + i) (getD src i 0) ≡ putAt l at (take (i + 1) src)
 put-more l src m at i room h long e =
     put-one m (at + i) (getD src i 0) (omega arith)
@@ -49,9 +52,11 @@ pub printed-one : (l : List ℕ) (at x : ℕ) → at < length l → Printed 1 (x
 printed-one l at x h = record { buffer = put-one l at x h; place = refl; within = omega arith }
 
 -- one after the other
-pub printed-then : {q r : ℕ} {a b old m new : List ℕ} {at i j : ℕ} → at ≤ length old → Printed q a old at m i → Printed r b m i new j → Printed (q + r) (a ++ b) old at new j
+pub printed-then : {q r : ℕ} {a b old m new : List ℕ} {at i j : ℕ} → at ≤ length old → Printed q a old at m i → Printed r b m i new j
+    → Printed (q + r) (a ++ b) old at new j
 printed-then {q} {r} {a} {b} {old} {m} {new} {at} {i} {j} h x y = record {
-  buffer = y .buffer ∙ ap (λ (l : List ℕ). putAt l i b) (x .buffer) ∙ ap (λ (k : ℕ). putAt (putAt old at a) k b) (x .place) ∙ put-then old at a b h;
+  buffer = y .buffer ∙ ap (λ (l : List ℕ). putAt l i b) (x .buffer) ∙ ap (λ (k : ℕ). putAt (putAt old at a) k b) (x .place)
+      ∙ put-then old at a b h;
   place = y .place ∙ ap (λ (k : ℕ). k + length b) (x .place) ∙ rw (length-append, add-assoc);
   within = omega arith;
 }
@@ -65,8 +70,10 @@ printed-as {q} {r} {a} {b} {old} {new} {at} {j} h e x = record {
 }
 
 -- what stands in front of the next place
-pub printed-front : {q : ℕ} {bs old new : List ℕ} {at next : ℕ} → at ≤ length old → Printed q bs old at new next → take next new ≡ take at old ++ bs
+pub printed-front : {q : ℕ} {bs old new : List ℕ} {at next : ℕ} → at ≤ length old → Printed q bs old at new next
+    → take next new ≡ take at old ++ bs
 unfolding putAt
 printed-front {q} {bs} {old} {new} {at} {next} h x =
-    let long : length (take at old ++ bs) ≡ next = length-append (take at old) bs ∙ ap (λ (k : ℕ). k + length bs) (length-take-le at old h) ∙ sym (x .place) in
+    let long : length (take at old ++ bs) ≡ next = length-append (take at old) bs ∙ ap (λ (k : ℕ). k + length bs) (length-take-le at old h)
+    ∙ sym (x .place) in
     ap (take next) (x .buffer ∙ sym (append-assoc (take at old) bs _)) ∙ take-at (take at old ++ bs) _ next long

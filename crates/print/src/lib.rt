@@ -7,7 +7,8 @@ ghost use lib.ListN.{length};
 ghost use Rattle.model.specs.Sizes.{vacant};
 ghost use Rattle.model.specs.Calls.{openDone, readDone, writeDone, stepDone, stepClean, flushDone, refused};
 ghost use Rattle.print.specs.Text.{lastDigit, decimal};
-ghost use Rattle.print.specs.Print.{Printed, lineRoom, wearRoom, spaced, openLine, writeLine, readLine, stepLine, flushLine, wearLine, badLine, refusal, erased};
+ghost use Rattle.print.specs.Print.{Printed, lineRoom, wearRoom, spaced, openLine, writeLine, readLine, stepLine, flushLine};
+ghost use Rattle.print.specs.Print.{wearLine, badLine, refusal, erased};
 
 // (bad n), for line n.
 pub fn put_bad(out: &mut [u8], at: usize, n: u32) -> usize
@@ -125,7 +126,8 @@ pub fn put_flush_refused(out: &mut [u8], at: usize, number: u32) -> usize
 // (wear w0 w1 ..), a number for each block.
 pub fn put_wear(out: &mut [u8], at: usize, wear: &[u32]) -> usize
     requires { ⌜ at + wearRoom (length (now wear)) ≤ length (now out) ⌝ }
-    ensures { λ r. ⌜ Printed (wearRoom (length (now (wear .entry)))) (wearLine (now (wear .entry))) (now (out .entry)) at (now (out .exit)) r ⌝ }
+    ensures { λ r. ⌜ (
+        Printed (wearRoom (length (now (wear .entry)))) (wearLine (now (wear .entry))) (now (out .entry)) at (now (out .exit)) r) ⌝ }
 {
     let next = put_bytes(out, at, b"(wear");
     let end = put_numbers(out, next, wear);
@@ -135,7 +137,8 @@ pub fn put_wear(out: &mut [u8], at: usize, wear: &[u32]) -> usize
 // The bytes of lead, and n in decimal.
 fn put_number(out: &mut [u8], at: usize, lead: &[u8], n: u32) -> usize
     requires { ⌜ at + (length (now lead) + 10) ≤ length (now out) ⌝ }
-    ensures { λ r. ⌜ Printed (length (now (lead .entry)) + 10) (now (lead .entry) ++ decimal n) (now (out .entry)) at (now (out .exit)) r ⌝ }
+    ensures { λ r. ⌜ (
+        Printed (length (now (lead .entry)) + 10) (now (lead .entry) ++ decimal n) (now (out .entry)) at (now (out .exit)) r) ⌝ }
 {
     let next = put_bytes(out, at, lead);
     put_decimal(out, next, n)
@@ -144,7 +147,9 @@ fn put_number(out: &mut [u8], at: usize, lead: &[u8], n: u32) -> usize
 // Each number in decimal, after a space.
 fn put_numbers(out: &mut [u8], at: usize, numbers: &[u32]) -> usize
     requires { ⌜ at + 11 * length (now numbers) ≤ length (now out) ⌝ }
-    ensures { λ r. ⌜ Printed (11 * length (now (numbers .entry))) (spaced (map decimal (now (numbers .entry)))) (now (out .entry)) at (now (out .exit)) r ⌝ }
+    ensures { λ r. ⌜ (
+        let d = numbers .entry in
+        Printed (11 * length (now d)) (spaced (map decimal (now d))) (now (out .entry)) at (now (out .exit)) r) ⌝ }
 {
     let mut next = at;
     let mut i = 0;
@@ -160,7 +165,9 @@ fn put_numbers(out: &mut [u8], at: usize, numbers: &[u32]) -> usize
 // The same and a closing bracket.
 fn put_field(out: &mut [u8], at: usize, lead: &[u8], n: u32) -> usize
     requires { ⌜ at + (length (now lead) + 11) ≤ length (now out) ⌝ }
-    ensures { λ r. ⌜ Printed (length (now (lead .entry)) + 11) (now (lead .entry) ++ (decimal n ++ (41 ∷ []))) (now (out .entry)) at (now (out .exit)) r ⌝ }
+    ensures { λ r. ⌜ (
+        Printed (length (now (lead .entry)) + 11) (now (lead .entry) ++ (decimal n ++ (41 ∷ []))) (now (out .entry)) at
+        (now (out .exit)) r) ⌝ }
 {
     let next = put_number(out, at, lead, n);
     out[next] = b')';

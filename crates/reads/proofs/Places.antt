@@ -47,14 +47,17 @@ module _ (sz : Sizes) (flash pspace bspace : List ℕ) (n : ℕ) (page : List �
   has-buffer = let e = q .page-length in rw (zero-mul (sz .S)) (omega arith)
 
   -- by what the searches found and what was copied
-  pub from-slot : (d : Directory) (i : ℕ) (page′ : List ℕ) → i ≡ slotOf sz d n → i < sz .P → page′ ≡ putPage (sz .S) page 0 (pageAt (sz .S) pspace i) → Peeked sz d flash pspace bspace n Slot page′
+  pub from-slot : (d : Directory) (i : ℕ) (page′ : List ℕ) → i ≡ slotOf sz d n → i < sz .P
+      → page′ ≡ putPage (sz .S) page 0 (pageAt (sz .S) pspace i) → Peeked sz d flash pspace bspace n Slot page′
   unfolding foundAt readPage inSlots
   from-slot d i page′ ei l ep = let e : ltb (slotOf sz d n) (sz .P) ≡ true = lt-ltb (slotOf sz d n) (sz .P) (rw (sym ei) l) in record {
     found-is = rw (e, foundAt);
-    page-is = rw (e, readPage) (ep ∙ put-whole (sz .S) page _ (q .page-length) ∙ sym (page-at (sz .S) (sz .P) pspace (zeroPage sz) i l) ∙ ap (λ (x : ℕ). getD (pagesOf (sz .S) (sz .P) pspace) x (zeroPage sz)) ei);
+    page-is = rw (e, readPage) (ep ∙ put-whole (sz .S) page _ (q .page-length) ∙ sym (page-at (sz .S) (sz .P) pspace (zeroPage sz) i l)
+        ∙ ap (λ (x : ℕ). getD (pagesOf (sz .S) (sz .P) pspace) x (zeroPage sz)) ei);
   }
 
-  pub from-frame : (d : Directory) (i f o : ℕ) (page′ : List ℕ) → i ≡ slotOf sz d n → sz .P ≤ i → f ≡ frameWith sz d n → f < sz .B → o ≡ n % sz .K
+  pub from-frame : (d : Directory) (i f o : ℕ) (page′ : List ℕ) → i ≡ slotOf sz d n → sz .P ≤ i → f ≡ frameWith sz d n → f < sz .B
+      → o ≡ n % sz .K
       → page′ ≡ putPage (sz .S) page 0 (pageAt (sz .S) bspace (f * sz .K + o)) → Peeked sz d flash pspace bspace n (Frame f) page′
   unfolding foundAt readPage inSlots
   from-frame d i f o page′ ei m ef l eo ep =
@@ -62,8 +65,10 @@ module _ (sz : Sizes) (flash pspace bspace : List ℕ) (n : ℕ) (page : List �
       let g : ltb (frameWith sz d n) (sz .B) ≡ true = lt-ltb (frameWith sz d n) (sz .B) (rw (sym ef) l) in
       record {
         found-is = rw (e, foundAt) (rw g (ap Frame ef));
-        page-is = rw (e, readPage) (rw g (ep ∙ put-whole (sz .S) page _ (q .page-length) ∙ ap (λ (x : ℕ). pageAt (sz .S) bspace (f * sz .K + x)) eo
-            ∙ sym (page-at (sz .S) (sz .B * sz .K) bspace (zeroPage sz) _ (frame-page-lt f l)) ∙ ap (λ (x : ℕ). getD (pagesOf (sz .S) (sz .B * sz .K) bspace) (x * sz .K + n % sz .K) (zeroPage sz)) ef));
+        page-is = rw (e, readPage) (rw g (ep ∙ put-whole (sz .S) page _ (q .page-length)
+            ∙ ap (λ (x : ℕ). pageAt (sz .S) bspace (f * sz .K + x)) eo
+            ∙ sym (page-at (sz .S) (sz .B * sz .K) bspace (zeroPage sz) _ (frame-page-lt f l))
+            ∙ ap (λ (x : ℕ). getD (pagesOf (sz .S) (sz .B * sz .K) bspace) (x * sz .K + n % sz .K) (zeroPage sz)) ef));
       }
 
   pub from-flash : (d : Directory) (i f : ℕ) (page′ : List ℕ) → i ≡ slotOf sz d n → sz .P ≤ i → f ≡ frameWith sz d n → sz .B ≤ f
@@ -74,7 +79,8 @@ module _ (sz : Sizes) (flash pspace bspace : List ℕ) (n : ℕ) (page : List �
       let g : ltb (frameWith sz d n) (sz .B) ≡ false = le-ltb (frameWith sz d n) (sz .B) (rw (sym ef) k) in
       record {
         found-is = rw (e, foundAt) (rw g);
-        page-is = rw (e, readPage) (rw g (ep ∙ put-whole (sz .S) page _ (q .page-length) ∙ sym (page-at (sz .S) (sz .N * sz .K) flash (zeroPage sz) n (q .page-lt))));
+        page-is = rw (e, readPage) (rw g (ep ∙ put-whole (sz .S) page _ (q .page-length)
+            ∙ sym (page-at (sz .S) (sz .N * sz .K) flash (zeroPage sz) n (q .page-lt))));
       }
 
 -- ---- way and directory by where the page was found
@@ -116,12 +122,19 @@ module _ (sz : Sizes) (d : Directory) (n : ℕ) where
   pub frame-below : (f : ℕ) → Frame f ≡ foundAt sz d n → f < sz .B
   frame-below f e = rw (sym e) at below-found
 
-  pub read-out : {flash pspace bspace page′ : List ℕ} (found : Found) (way : ℕ) (d′ : Directory) → Peeked sz d flash pspace bspace n found page′
+  pub read-out : {flash pspace bspace page′ : List ℕ} (found : Found) (way : ℕ) (d′ : Directory)
+      → Peeked sz d flash pspace bspace n found page′
       → d′ ≡ after sz d found → way ≡ wayOf found → ReadOut sz d flash pspace bspace n way d′ page′
-  read-out found way d′ k a b = record { directory-is = a ∙ ap (after sz d) (k .found-is) ∙ after-found; way-is = b ∙ ap wayOf (k .found-is) ∙ way-found; page-is = k .page-is }
+  read-out found way d′ k a b = record {
+    directory-is = a ∙ ap (after sz d) (k .found-is) ∙ after-found;
+    way-is = b
+        ∙ ap wayOf (k .found-is) ∙ way-found;
+    page-is = k .page-is;
+  }
 
 -- a read that counts as no use looks at no order of use
-pub peeked-any : {sz : Sizes} {s f v flash pspace bspace page′ : List ℕ} {n : ℕ} {found : Found} (r : List ℕ) → Peeked sz (numbers s f v []) flash pspace bspace n found page′
+pub peeked-any : {sz : Sizes} {s f v flash pspace bspace page′ : List ℕ} {n : ℕ} {found : Found} (r : List ℕ)
+    → Peeked sz (numbers s f v []) flash pspace bspace n found page′
     → Peeked sz (numbers s f v r) flash pspace bspace n found page′
 unfolding foundAt inSlots slotOf frameWith inFrame readPage
 peeked-any r k = record { found-is = k .found-is; page-is = k .page-is }

@@ -28,8 +28,13 @@ pub fn read(
     n: PageNo,
     page: &mut [u8],
 ) -> u32
-    requires { ⌜ Sound (sizesOf z) (numbers (now slots) (now frames) (now valid) (now recency)) × Readable (sizesOf z) (now flash) (now pspace) (now bspace) (n .0) (now page) ⌝ }
-    ensures { λ r. ⌜ ReadOut (sizesOf z) (numbers (now (slots .entry)) (now (frames .entry)) (now (valid .entry)) (now (recency .entry))) (now (flash .entry)) (now (pspace .entry)) (now (bspace .entry)) (n .0) r (numbers (now (slots .entry)) (now (frames .entry)) (now (valid .entry)) (now (recency .exit))) (now (page .exit)) ⌝ }
+    requires { ⌜ (
+        let d = numbers (now slots) (now frames) (now valid) (now recency) in
+        Sound (sizesOf z) d × Readable (sizesOf z) (now flash) (now pspace) (now bspace) (n .0) (now page)) ⌝ }
+    ensures { λ r. ⌜ (
+        let d = numbers (now (slots .entry)) (now (frames .entry)) (now (valid .entry)) (now (recency .entry)) in
+        let d′ = numbers (now (slots .entry)) (now (frames .entry)) (now (valid .entry)) (now (recency .exit)) in
+        ReadOut (sizesOf z) d (now (flash .entry)) (now (pspace .entry)) (now (bspace .entry)) (n .0) r d′ (now (page .exit))) ⌝ }
 {
     let found = peek(z, slots, frames, valid, flash, pspace, bspace, n, page);
     match found {
@@ -55,7 +60,9 @@ pub fn peek(
     page: &mut [u8],
 ) -> Found
     requires { ⌜ Readable (sizesOf z) (now flash) (now pspace) (now bspace) (n .0) (now page) ⌝ }
-    ensures { λ r. ⌜ Peeked (sizesOf z) (numbers (now (slots .entry)) (now (frames .entry)) (now (valid .entry)) []) (now (flash .entry)) (now (pspace .entry)) (now (bspace .entry)) (n .0) r (now (page .exit)) ⌝ }
+    ensures { λ r. ⌜ (
+        let d = numbers (now (slots .entry)) (now (frames .entry)) (now (valid .entry)) [] in
+        Peeked (sizesOf z) d (now (flash .entry)) (now (pspace .entry)) (now (bspace .entry)) (n .0) r (now (page .exit))) ⌝ }
 {
     let s = z.page_size as usize;
     let k = z.pages_per_block as usize;

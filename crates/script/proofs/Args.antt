@@ -27,7 +27,8 @@ pub record ReadTo (ws rest : List (List ℕ)) (count : ℕ) (values : List ℕ) 
 every-front : (f r : List (List ℕ)) → every (map isNumber (f ++ r)) ≡ (every (map isNumber f) && every (map isNumber r))
 unfolding every
 every-front [] r = refl
-every-front (w ∷ f) r = ap (λ b. isNumber w && b) (every-front f r) ∙ sym (and-assoc (isNumber w) (every (map isNumber f)) (every (map isNumber r)))
+every-front (w ∷ f) r = ap (λ b. isNumber w && b) (every-front f r)
+    ∙ sym (and-assoc (isNumber w) (every (map isNumber f)) (every (map isNumber r)))
 
 map-front : (f r : List (List ℕ)) → map valueOf (f ++ r) ≡ map valueOf f ++ map valueOf r
 map-front [] r = refl
@@ -37,7 +38,8 @@ pub read-none : (ws : List (List ℕ)) (values : List ℕ) → ReadTo ws ws 0 va
 unfolding every
 read-none ws values = record { front = []; split = refl; long = refl; numbers = refl; taken = refl }
 
-pub read-more : {ws rest : List (List ℕ)} {w : List ℕ} {count : ℕ} {values : List ℕ} → ReadTo ws (w ∷ rest) count values → isNumber w ≡ true → count < length values
+pub read-more : {ws rest : List (List ℕ)} {w : List ℕ} {count : ℕ} {values : List ℕ} → ReadTo ws (w ∷ rest) count values
+    → isNumber w ≡ true → count < length values
     → ReadTo ws rest (count + 1) (set values count (valueOf w))
 unfolding every
 read-more {ws} {rest} {w} {count} {values} r h k = record {
@@ -45,24 +47,35 @@ read-more {ws} {rest} {w} {count} {values} r h k = record {
   split = r .split ∙ sym (append-assoc (r .front) (w ∷ []) rest);
   long = length-append (r .front) (w ∷ []) ∙ ap (λ (n : ℕ). n + 1) (r .long);
   numbers = every-front (r .front) (w ∷ []) ∙ and-i (r .numbers) (and-i h refl);
-  taken = map-front (r .front) (w ∷ []) ∙ ap (λ (l : List ℕ). l ++ (valueOf w ∷ [])) (r .taken) ∙ sym (take-suc-set values count (valueOf w) k)
+  taken = map-front (r .front) (w ∷ []) ∙ ap (λ (l : List ℕ). l ++ (valueOf w ∷ [])) (r .taken)
+      ∙ sym (take-suc-set values count (valueOf w) k)
       ∙ ap (λ (n : ℕ). take n (set values count (valueOf w))) (sym (add-one count));
 }
 
-pub read-all : {ws : List (List ℕ)} (r : Numbers) → length (r .values) ≡ 6 → ReadTo ws [] (r .count) (r .values) → r .count ≤ 6 → NumbersOf ws r
+pub read-all : {ws : List (List ℕ)} (r : Numbers) → length (r .values) ≡ 6 → ReadTo ws [] (r .count) (r .values) → r .count ≤ 6
+    → NumbersOf ws r
 read-all {ws} r l d h =
     let e : ws ≡ d .front = d .split ∙ append-nil (d .front) in
-    record { long = l; six = λ _. ap (λ (l : List (List ℕ)). every (map isNumber l)) e ∙ d .numbers; values = λ _. ap (map valueOf) e ∙ d .taken; more = λ k. absurd (omega arith) }
+    record {
+      long = l;
+      six = λ _. ap (λ (l : List (List ℕ)). every (map isNumber l)) e ∙ d .numbers;
+      values = λ _. ap (map valueOf) e
+          ∙ d .taken;
+      more = λ k. absurd (omega arith);
+    }
 
-pub read-past : {ws : List (List ℕ)} (r : Numbers) → length (r .values) ≡ 6 → r .count ≡ 7 → (every (map isNumber ws) && leb (length ws) 6) ≡ false → NumbersOf ws r
+pub read-past : {ws : List (List ℕ)} (r : Numbers) → length (r .values) ≡ 6 → r .count ≡ 7
+    → (every (map isNumber ws) && leb (length ws) 6) ≡ false → NumbersOf ws r
 read-past {ws} r l e h = record { long = l; six = λ k. absurd (omega arith); values = λ k. absurd (omega arith); more = λ _. h }
 
-pub read-stop : {ws rest : List (List ℕ)} {w : List ℕ} {count : ℕ} {values : List ℕ} → ReadTo ws (w ∷ rest) count values → (isNumber w ≡ false) ⊎ (count ≡ 6)
+pub read-stop : {ws rest : List (List ℕ)} {w : List ℕ} {count : ℕ} {values : List ℕ} → ReadTo ws (w ∷ rest) count values
+    → (isNumber w ≡ false) ⊎ (count ≡ 6)
     → (every (map isNumber ws) && leb (length ws) 6) ≡ false
 unfolding every
 read-stop {ws} {rest} {w} {count} {values} r h = by-test (every (map isNumber ws) && leb (length ws) 6) (λ t.
     let n : (every (map isNumber (r .front)) && every (map isNumber (w ∷ rest))) ≡ true =
-    sym (every-front (r .front) (w ∷ rest)) ∙ ap (λ (l : List (List ℕ)). every (map isNumber l)) (sym (r .split)) ∙ and-l (every (map isNumber ws)) (leb (length ws) 6) t in
+    sym (every-front (r .front) (w ∷ rest)) ∙ ap (λ (l : List (List ℕ)). every (map isNumber l)) (sym (r .split))
+    ∙ and-l (every (map isNumber ws)) (leb (length ws) 6) t in
     let i = and-l (isNumber w) (every (map isNumber rest)) (and-r (every (map isNumber (r .front))) (every (map isNumber (w ∷ rest))) n) in
     let k = leb-true (length ws) 6 (and-r (every (map isNumber ws)) (leb (length ws) 6) t) in
     let l = ap length (r .split) ∙ length-append (r .front) (w ∷ rest) in

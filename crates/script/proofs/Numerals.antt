@@ -45,7 +45,8 @@ decimal-large n h d =
     let e = decimal-more n h in
     let l = length-more n h in
     let s = d .some in
-    let front : (i : ℕ) → i < length w → getD (decimal n) i 0 ≡ getD w i 0 = λ i k. ap (λ (x : List ℕ). getD x i 0) e ∙ List·getD-append w _ 0 i k in
+    let front : (i : ℕ) → i < length w → getD (decimal n) i 0 ≡ getD w i 0 = λ i k. ap (λ (x : List ℕ). getD x i 0) e
+    ∙ List·getD-append w _ 0 i k in
     record {
       value = let v = d .value in let z = ap valueOf e ∙ value-snoc 0 w (lastDigit n) in omega arith;
       digit = λ i k. by-test (ltb i (length w))
@@ -76,7 +77,8 @@ number-decimal n h =
       digit = d .digit;
       first = by-test (ltb n 10)
           (λ t. or-l (not (eqb (getD (decimal n) 0 0) 48)) (eq-eqb (length (decimal n)) 1 (length-one n (ltb-true n 10 t))))
-          (λ t. let k = ltb-false n 10 t in or-r (eqb (length (decimal n)) 1) (not-i (ne-eqb (getD (decimal n) 0 0) 48 (d .first (omega arith)))));
+          (λ t. let k = ltb-false n 10 t in or-r (eqb (length (decimal n)) 1)
+          (not-i (ne-eqb (getD (decimal n) 0 0) 48 (d .first (omega arith)))));
       small = omega arith;
     })
 
@@ -89,7 +91,8 @@ decimal-snoc v d p h =
     decimal-more (v * 10 + d) (omega arith) ∙ rw (q, r)
 
 -- digits after a number that is not 0
-decimal-on : (w : List ℕ) (v : ℕ) → 0 < v → ((i : ℕ) → i < length w → isDigit (getD w i 0) ≡ true) → decimal (valueFrom v w) ≡ decimal v ++ w
+decimal-on : (w : List ℕ) (v : ℕ) → 0 < v → ((i : ℕ) → i < length w → isDigit (getD w i 0) ≡ true)
+    → decimal (valueFrom v w) ≡ decimal v ++ w
 unfolding valueFrom
 decimal-on [] v p h = sym (append-nil (decimal v))
 decimal-on (x ∷ w) v p h =
@@ -119,7 +122,8 @@ first-on x w n =
     zero-on x w (eqb-true x 48 t) (omega arith))
     (λ t. let z = eqb-false x 48 t in
     let e : 48 + (x - 48) % 10 ≡ x = omega arith in
-    rw v (decimal-on w (x - 48) (omega arith) (λ i k. n .digit (suc i) (omega arith)) ∙ ap (λ (l : List ℕ). l ++ w) (decimal-one (x - 48) (omega arith)) ∙ ap (λ (y : ℕ). y ∷ w) e))
+    rw v (decimal-on w (x - 48) (omega arith) (λ i k. n .digit (suc i) (omega arith))
+    ∙ ap (λ (l : List ℕ). l ++ w) (decimal-one (x - 48) (omega arith)) ∙ ap (λ (y : ℕ). y ∷ w) e))
 
 pub decimal-value : (w : List ℕ) → isNumber w ≡ true → decimal (valueOf w) ≡ w
 decimal-value [] h = let z = number-facts [] h .some in absurd (omega arith)

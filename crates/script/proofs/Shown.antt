@@ -6,7 +6,8 @@ use Rattle.prelude.specs.Tests.{every}
 use Rattle.prelude.specs.Scan.{all}
 use Rattle.model.specs.Sizes.{sizesOk}
 use Rattle.print.specs.Text.{bytes}
-use Rattle.script.specs.Forms.{Form, opens, writes, reads, steps, flushes, wears, bad, pieces, linesOf, wordsOf, valueFrom, isNumber, buffersFit, opening, same, formWith, formOfWords, bracketed, formOf}
+use Rattle.script.specs.Forms.{Form, opens, writes, reads, steps, flushes, wears, bad, pieces, linesOf, wordsOf, valueFrom, isNumber}
+use Rattle.script.specs.Forms.{buffersFit, opening, same, formWith, formOfWords, bracketed, formOf}
 
 -- a line, and what it says
 pub record Row : Type 0 where

@@ -17,7 +17,8 @@ use Rattle.script.specs.Forms.{isDigit, valueFrom, valueOf, isNumber}
 use Rattle.script.specs.Parts.{numberOf}
 
 -- one digit more
-pub value-more : (v : ℕ) (w : List ℕ) (i : ℕ) → i < length w → valueFrom v (drop i w) ≡ valueFrom (v * 10 + (getD w i 0 - 48)) (drop (i + 1) w)
+pub value-more : (v : ℕ) (w : List ℕ) (i : ℕ) → i < length w → valueFrom v (drop i w)
+    ≡ valueFrom (v * 10 + (getD w i 0 - 48)) (drop (i + 1) w)
 unfolding valueFrom
 value-more v w i h = rw (drop-cons w i 0 h, add-one)
 
@@ -40,7 +41,11 @@ module _ (x : ℕ) where
 
   pub digit-out : (ltb x 48 || ltb 57 x) ≡ true → isDigit x ≡ true → ⊥
   digit-out h d = let l = leb-true 48 x (and-l (leb 48 x) (leb x 57) d) in let k = leb-true x 57 (and-r (leb 48 x) (leb x 57) d) in
-      elim (or-cases (ltb x 48) (ltb 57 x) h) [ inl e ↦ let z = ltb-true x 48 e in omega arith | inr e ↦ let z = ltb-true 57 x e in omega arith ]
+      elim (or-cases (ltb x 48) (ltb 57 x) h) [
+        | inl e ↦ let z = ltb-true x 48 e in omega arith
+        | inr e ↦ let z = ltb-true 57 x e in
+            omega arith
+      ]
 
   pub digit-is : 48 ≤ x → x ≤ 57 → isDigit x ≡ true
   digit-is l k = and-i (le-leb 48 x l) (le-leb x 57 k)
@@ -73,12 +78,19 @@ module _ (w : List ℕ) where
   pub number-facts : isNumber w ≡ true → Number
   unfolding isNumber
   number-facts h =
-      let e = each (leb 1 (length w) ∷ all (length w) (λ i. isDigit (getD w i 0)) ∷ (eqb (length w) 1 || not (eqb (getD w 0 0) 48)) ∷ leb (valueOf w) 4294967295 ∷ []) h in
-      record { some = leb-true 1 (length w) (e .0); digit = all-at (length w) _ (e .1 .0); first = e .1 .1 .0; small = leb-true (valueOf w) 4294967295 (e .1 .1 .1 .0) }
+      let e = each (leb 1 (length w) ∷ all (length w) (λ i. isDigit (getD w i 0)) ∷ (eqb (length w) 1 || not (eqb (getD w 0 0) 48))
+      ∷ leb (valueOf w) 4294967295 ∷ []) h in
+      record {
+        some = leb-true 1 (length w) (e .0);
+        digit = all-at (length w) _ (e .1 .0);
+        first = e .1 .1 .0;
+        small = leb-true (valueOf w) 4294967295 (e .1 .1 .1 .0);
+      }
 
   pub number-test : Number → isNumber w ≡ true
   unfolding isNumber
-  number-test n = every-of (leb 1 (length w) ∷ all (length w) (λ i. isDigit (getD w i 0)) ∷ (eqb (length w) 1 || not (eqb (getD w 0 0) 48)) ∷ leb (valueOf w) 4294967295 ∷ [])
+  number-test n = every-of (leb 1 (length w) ∷ all (length w) (λ i. isDigit (getD w i 0)) ∷ (eqb (length w) 1 || not (eqb (getD w 0 0) 48))
+      ∷ leb (valueOf w) 4294967295 ∷ [])
       (le-leb 1 (length w) (n .some), (all-of (length w) _ (n .digit), (n .first, (le-leb (valueOf w) 4294967295 (n .small), tt))))
 
   pub number-is : Number → numberOf w ≡ valueOf w
@@ -88,4 +100,5 @@ module _ (w : List ℕ) where
   number-some h = by-test (isNumber w) (λ e. (e, rw e)) (λ e. let z : numberOf w ≡ 4294967296 = rw e in absurd (omega arith))
 
   pub number-high : 4294967295 < numberOf w → isNumber w ≡ false
-  number-high h = by-test (isNumber w) (λ e. let n = number-facts e in let s = n .small in let i = number-is n in absurd (omega arith)) (λ e. e)
+  number-high h = by-test (isNumber w) (λ e. let n = number-facts e in let s = n .small in let i = number-is n in absurd (omega arith))
+      (λ e. e)

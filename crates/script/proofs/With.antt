@@ -11,7 +11,8 @@ use borrow.Author.Tests.{eqb-true, ne-eqb, leb-false, le-leb, lt-leb}
 use Rattle.prelude.proofs.Tests.{by-test, and-l, and-r, and-not-l}
 use Rattle.prelude.specs.Tests.{every}
 use Rattle.print.specs.Text.{bytes}
-use Rattle.script.specs.Forms.{Form, writes, reads, steps, flushes, wears, bad, wordsOf, valueOf, isNumber, opening, same, sizesFrom, formWith, formOfWords, bracketed, formOf}
+use Rattle.script.specs.Forms.{Form, writes, reads, steps, flushes, wears, bad, wordsOf, valueOf, isNumber, opening, same, sizesFrom}
+use Rattle.script.specs.Forms.{formWith, formOfWords, bracketed, formOf}
 use Rattle.script.specs.Parts.{NumbersOf}
 use Rattle.script.specs.declared.Numbers.{Numbers}
 
@@ -45,13 +46,15 @@ module _ (w : List ℕ) (count : ℕ) (v : List ℕ) (h : count ≤ length v) wh
   six : count ≡ 6 → sizesFrom (take count v) ≡ sizesFrom v
   six e = rw (at 0 (omega arith), at 1 (omega arith), at 2 (omega arith), at 3 (omega arith), at 4 (omega arith), at 5 (omega arith))
 
-  pair : (same w (bytes "write") && (eqb (length (take count v)) 2 && leb (getD (take count v) 1 0) 255)) ≡ (same w (bytes "write") && (eqb count 2 && leb (getD v 1 0) 255))
+  pair : (same w (bytes "write") && (eqb (length (take count v)) 2 && leb (getD (take count v) 1 0) 255))
+      ≡ (same w (bytes "write") && (eqb count 2 && leb (getD v 1 0) 255))
   pair = rw long (by-test (eqb count 2)
       (λ t. let e = eqb-true count 2 t in ap (λ (n : ℕ). same w (bytes "write") && (eqb count 2 && leb n 255)) (at 1 (omega arith)))
       (λ t. rw t))
 
   two : (same w (bytes "write") && (eqb count 2 && leb (getD v 1 0) 255)) ≡ true → count ≡ 2
-  two t = eqb-true count 2 (and-l (eqb count 2) (leb (getD v 1 0) 255) (and-r (same w (bytes "write")) (eqb count 2 && leb (getD v 1 0) 255) t))
+  two t = eqb-true count 2 (and-l (eqb count 2) (leb (getD v 1 0) 255)
+      (and-r (same w (bytes "write")) (eqb count 2 && leb (getD v 1 0) 255) t))
 
   pub form-from : formWith w (take count v) ≡ formFrom w count v
   unfolding formWith formFrom
@@ -104,11 +107,13 @@ module _ (w : List ℕ) (count : ℕ) (v : List ℕ) where
   unfolding formFrom
   from-flush a b c d e = rw (a, b, c, d, e)
 
-  pub from-wear : isOpen ≡ false → isWrite ≡ false → isRead ≡ false → isStep ≡ false → isFlush ≡ false → isWear ≡ true → formFrom w count v ≡ wears
+  pub from-wear : isOpen ≡ false → isWrite ≡ false → isRead ≡ false → isStep ≡ false → isFlush ≡ false → isWear ≡ true
+      → formFrom w count v ≡ wears
   unfolding formFrom
   from-wear a b c d e f = rw (a, b, c, d, e, f)
 
-  pub from-bad : isOpen ≡ false → isWrite ≡ false → isRead ≡ false → isStep ≡ false → isFlush ≡ false → isWear ≡ false → formFrom w count v ≡ bad
+  pub from-bad : isOpen ≡ false → isWrite ≡ false → isRead ≡ false → isStep ≡ false → isFlush ≡ false → isWear ≡ false
+      → formFrom w count v ≡ bad
   unfolding formFrom
   from-bad a b c d e f = rw (a, b, c, d, e, f)
 
@@ -116,9 +121,11 @@ module _ (w : List ℕ) (count : ℕ) (v : List ℕ) where
 pub form-more : (w ns : List ℕ) → 6 < length ns → formWith w ns ≡ bad
 unfolding formWith formFrom
 form-more w ns h =
-    let no : (word : List ℕ) (k : ℕ) → k ≤ 6 → (same w word && eqb (length ns) k) ≡ false = λ word k l. rw (ne-eqb (length ns) k (λ e. omega arith)) (and-false (same w word)) in
+    let no : (word : List ℕ) (k : ℕ) → k ≤ 6 → (same w word && eqb (length ns) k)
+    ≡ false = λ word k l. rw (ne-eqb (length ns) k (λ e. omega arith)) (and-false (same w word)) in
     let pair : isWrite w (length ns) ns ≡ false = rw (ne-eqb (length ns) 2 (λ e. omega arith)) (and-false (same w (bytes "write"))) in
-    from-bad w (length ns) ns (no (bytes "open") 6 (omega arith)) pair (no (bytes "read") 1 (omega arith)) (no (bytes "step") 0 (omega arith)) (no (bytes "flush") 0 (omega arith)) (no (bytes "wear") 0 (omega arith))
+    from-bad w (length ns) ns (no (bytes "open") 6 (omega arith)) pair (no (bytes "read") 1 (omega arith))
+    (no (bytes "step") 0 (omega arith)) (no (bytes "flush") 0 (omega arith)) (no (bytes "wear") 0 (omega arith))
 
 -- ---- a word and the words after it
 
@@ -130,7 +137,8 @@ module _ (w : List ℕ) (ws : List (List ℕ)) (r : Numbers) (n : NumbersOf ws r
   pub words-bad : 6 < r .count → formOfWords (w ∷ ws) ≡ bad
   unfolding formOfWords
   words-bad h = by-test (every (map isNumber ws))
-      (λ t. rw t (form-more w (map valueOf ws) (let l = leb-false (length ws) 6 (and-not-l t (n .more h)) in let m = length-map ws valueOf in omega arith)))
+      (λ t. rw t (form-more w (map valueOf ws) (let l = leb-false (length ws) 6 (and-not-l t (n .more h)) in
+      let m = length-map ws valueOf in omega arith)))
       (λ t. rw t)
 
 -- ---- brackets

@@ -29,7 +29,8 @@ module _ (b : ℕ) (l : List ℕ) (i : ℕ) where
   end-hit h e = let z = ap length (ap (upTo b) (drop-cons l i 0 h) ∙ cons-hit b (getD l i 0) (drop (suc i) l) e) in omega arith
 
   pub end-miss : i < length l → eqb (getD l i 0) b ≡ false → endOf b l i ≡ endOf b l (i + 1)
-  end-miss h e = let z = ap length (ap (upTo b) (drop-cons l i 0 h) ∙ cons-miss b (getD l i 0) (drop (suc i) l) e) in rw add-one (omega arith)
+  end-miss h e = let z = ap length (ap (upTo b) (drop-cons l i 0 h) ∙ cons-miss b (getD l i 0) (drop (suc i) l) e) in
+      rw add-one (omega arith)
 
   pub end-end : length l ≤ i → endOf b l i ≡ i
   unfolding upTo
@@ -47,7 +48,8 @@ end-le b l at h = let z = upto-le b (drop at l) in let d = length-drop at l in o
 take-upto : (b : ℕ) (l : List ℕ) → take (length (upTo b l)) l ≡ upTo b l
 unfolding upTo
 take-upto b [] = refl
-take-upto b (x ∷ l) = by-test (eqb x b) (λ t. rw (cons-hit b x l t)) (λ t. rw (cons-miss b x l t) (ap (λ (m : List ℕ). x ∷ m) (take-upto b l)))
+take-upto b (x ∷ l) = by-test (eqb x b) (λ t. rw (cons-hit b x l t))
+    (λ t. rw (cons-miss b x l t) (ap (λ (m : List ℕ). x ∷ m) (take-upto b l)))
 
 -- the piece from `at` to its end
 pub piece-is : (b : ℕ) (l : List ℕ) (at : ℕ) → take (endOf b l at - at) (drop at l) ≡ upTo b (drop at l)
@@ -82,13 +84,16 @@ module _ (b : ℕ) (none : List (List ℕ)) (ends : (x : ℕ) → longer x none 
   with x l u = u ∷ after b none (x ∷ l) (length u)
 
   first-hit : (x : ℕ) (l : List ℕ) → eqb x b ≡ true → pieces b none (x ∷ l) ≡ with x l (upTo b (x ∷ l))
-  first-hit x l t = pieces-hit b none x l t ∙ ap (λ (ps : List (List ℕ)). [] ∷ ps) (sym (after-zero b none x l)) ∙ ap (with x l) (sym (cons-hit b x l t))
+  first-hit x l t = pieces-hit b none x l t ∙ ap (λ (ps : List (List ℕ)). [] ∷ ps) (sym (after-zero b none x l))
+      ∙ ap (with x l) (sym (cons-hit b x l t))
 
   pieces-first : (x : ℕ) (l : List ℕ) → pieces b none (x ∷ l) ≡ with x l (upTo b (x ∷ l))
   unfolding pieces upTo
-  pieces-first x [] = by-test (eqb x b) (first-hit x []) (λ t. pieces-miss b none x [] t ∙ ends x ∙ ap (with x []) (sym (cons-miss b x [] t)))
+  pieces-first x [] = by-test (eqb x b) (first-hit x []) (λ t. pieces-miss b none x [] t ∙ ends x
+      ∙ ap (with x []) (sym (cons-miss b x [] t)))
   pieces-first x (y ∷ m) = by-test (eqb x b) (first-hit x (y ∷ m)) (λ t. pieces-miss b none x (y ∷ m) t ∙ ap (longer x) (pieces-first y m)
-      ∙ ap (λ (ps : List (List ℕ)). (x ∷ upTo b (y ∷ m)) ∷ ps) (sym (after-cons b none x (y ∷ m) _)) ∙ ap (with x (y ∷ m)) (sym (cons-miss b x (y ∷ m) t)))
+      ∙ ap (λ (ps : List (List ℕ)). (x ∷ upTo b (y ∷ m)) ∷ ps) (sym (after-cons b none x (y ∷ m) _))
+      ∙ ap (with x (y ∷ m)) (sym (cons-miss b x (y ∷ m) t)))
 
 after-drop : (b : ℕ) (none : List (List ℕ)) (l : List ℕ) (at e : ℕ) → after b none (drop at l) e ≡ after b none l (at + e)
 after-drop b none l at e =
@@ -106,7 +111,8 @@ words-first (x ∷ l) = pieces-first 32 ([] ∷ []) (λ y. refl) x l
 -- the words from `at` on: the one there, and those after it
 pub words-from : (l : List ℕ) (at : ℕ) → wordsOf (drop at l) ≡ upTo 32 (drop at l) ∷ wordsAfter l (endOf 32 l at)
 unfolding wordsOf
-words-from l at = words-first (drop at l) ∙ ap (λ (ps : List (List ℕ)). upTo 32 (drop at l) ∷ ps) (after-drop 32 ([] ∷ []) l at (length (upTo 32 (drop at l))))
+words-from l at = words-first (drop at l) ∙ ap (λ (ps : List (List ℕ)). upTo 32 (drop at l) ∷ ps)
+    (after-drop 32 ([] ∷ []) l at (length (upTo 32 (drop at l))))
 
 pub first-word : (l : List ℕ) → take (endOf 32 l 0) l ≡ upTo 32 l
 first-word l = let e : endOf 32 l 0 ≡ length (upTo 32 l) = omega arith in rw e (take-upto 32 l)

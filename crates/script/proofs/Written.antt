@@ -16,12 +16,14 @@ use Rattle.prelude.proofs.Tests.{by-test, clash, and-l, and-r, and-i, each, eve
 use Rattle.model.specs.Sizes.{sizesOk}
 use Rattle.print.specs.Text.{bytes, decimal, form, items}
 use Rattle.print.specs.Print.{spaced}
-use Rattle.script.specs.Forms.{Form, opens, writes, reads, steps, flushes, wears, bad, longer, pieces, wordsOf, isDigit, valueOf, isNumber, five, buffersFit, opening, same, sizesFrom, formWith, formOfWords, bracketed, inside, formOf}
+use Rattle.script.specs.Forms.{Form, opens, writes, reads, steps, flushes, wears, bad, longer, pieces, wordsOf, isDigit, valueOf}
+use Rattle.script.specs.Forms.{isNumber, five, buffersFit, opening, same, sizesFrom, formWith, formOfWords, bracketed, inside, formOf}
 use Rattle.script.specs.Parts.{upTo, endOf, wordsAfter}
 use Rattle.script.specs.Written.{numbersOf, written, Sayable}
 use Rattle.script.proofs.Words.{pieces-hit, pieces-miss, words-from}
 use Rattle.script.proofs.Value.{number-facts}
-use Rattle.script.proofs.With.{isOpen, isWrite, isRead, isStep, isFlush, isWear, formFrom, from-open, from-write, from-read, from-step, from-flush, from-wear, from-bad}
+use Rattle.script.proofs.With.{isOpen, isWrite, isRead, isStep, isFlush, isWear, formFrom, from-open, from-write, from-read}
+use Rattle.script.proofs.With.{from-step, from-flush, from-wear, from-bad}
 use Rattle.script.proofs.Numerals.{value-decimal, digit-decimal, number-decimal, decimal-value}
 
 -- ---- words joined by single spaces
@@ -49,7 +51,8 @@ words-joined : (l : List ℕ) → joined (wordsOf l) ≡ l
 unfolding wordsOf pieces spaced
 words-joined [] = refl
 words-joined (x ∷ l) = by-test (eqb x 32)
-    (λ t. rw (pieces-hit 32 ([] ∷ []) x l t) (space-joined l ∙ ap (λ (m : List ℕ). 32 ∷ m) (words-joined l) ∙ ap (λ (y : ℕ). y ∷ l) (sym (eqb-true x 32 t))))
+    (λ t. rw (pieces-hit 32 ([] ∷ []) x l t) (space-joined l ∙ ap (λ (m : List ℕ). 32 ∷ m) (words-joined l)
+    ∙ ap (λ (y : ℕ). y ∷ l) (sym (eqb-true x 32 t))))
     (λ t. rw (pieces-miss 32 ([] ∷ []) x l t) (joined-longer x (wordsOf l) ∙ ap (λ (m : List ℕ). x ∷ m) (words-joined l)))
 
 -- a clear word alone, and before a space
@@ -76,7 +79,10 @@ joined-words w (v ∷ ws) c cs = clear-space w (joined (v ∷ ws)) c ∙ ap (λ 
 -- digits are clear
 clear-digits : (w : List ℕ) → ((i : ℕ) → i < length w → isDigit (getD w i 0) ≡ true) → Clear w
 clear-digits [] h = tt
-clear-digits (x ∷ w) h = (ne-eqb x 32 (λ e. let l = leb-true 48 x (and-l (leb 48 x) (leb x 57) (h 0 (omega arith))) in omega arith), clear-digits w (λ i k. h (suc i) (omega arith)))
+clear-digits (x ∷ w) h = (
+  ne-eqb x 32 (λ e. let l = leb-true 48 x (and-l (leb 48 x) (leb x 57) (h 0 (omega arith))) in omega arith),
+  clear-digits w (λ i k. h (suc i) (omega arith)),
+)
 
 clear-decimals : (ns : List ℕ) → AllClear (map decimal ns)
 clear-decimals [] = tt
@@ -91,11 +97,13 @@ within x = 40 ∷ (x ++ (41 ∷ []))
 items-spaced : (l : List (List ℕ)) → items l ≡ spaced l ++ (41 ∷ [])
 unfolding items spaced
 items-spaced [] = refl
-items-spaced (i ∷ l) = ap (λ (m : List ℕ). 32 ∷ m) (ap (λ (m : List ℕ). i ++ m) (items-spaced l) ∙ sym (append-assoc i (spaced l) (41 ∷ [])))
+items-spaced (i ∷ l) = ap (λ (m : List ℕ). 32 ∷ m) (ap (λ (m : List ℕ). i ++ m) (items-spaced l)
+    ∙ sym (append-assoc i (spaced l) (41 ∷ [])))
 
 form-within : (w : String) (l : List (List ℕ)) → form w l ≡ within (joined (bytes w ∷ l))
 unfolding form
-form-within w l = ap (λ (m : List ℕ). 40 ∷ m) (ap (λ (m : List ℕ). bytes w ++ m) (items-spaced l) ∙ sym (append-assoc (bytes w) (spaced l) (41 ∷ [])))
+form-within w l = ap (λ (m : List ℕ). 40 ∷ m) (ap (λ (m : List ℕ). bytes w ++ m) (items-spaced l)
+    ∙ sym (append-assoc (bytes w) (spaced l) (41 ∷ [])))
 
 module _ (x : List ℕ) where
   long : length (within x) ≡ length x + 2
@@ -109,7 +117,17 @@ module _ (x : List ℕ) where
   within-bracketed =
       let z = long in
       let e : length (within x) - 1 ≡ suc (length x) = omega arith in
-      every-of _ (le-leb 2 (length (within x)) (omega arith), (refl, (eq-eqb (getD (within x) (length (within x) - 1) 0) 41 (ap (λ (k : ℕ). getD (within x) k 0) e ∙ getD-at x 41 [] 0 (length x) refl), tt)))
+      every-of _ (
+        le-leb 2 (length (within x)) (omega arith),
+        (
+          refl,
+          (
+            eq-eqb (getD (within x) (length (within x) - 1) 0) 41 (ap (λ (k : ℕ). getD (within x) k 0) e
+                ∙ getD-at x 41 [] 0 (length x) refl),
+            tt,
+          ),
+        ),
+      )
 
   within-form : formOf (within x) ≡ formOfWords (wordsOf x)
   unfolding formOf
@@ -147,19 +165,23 @@ decimals-numbers (n ∷ ns) h = and-i (number-decimal n (h .0)) (decimals-number
 
 decimals-values : (ns : List ℕ) → map valueOf (map decimal ns) ≡ ns
 decimals-values [] = refl
-decimals-values (n ∷ ns) = ap (λ (k : ℕ). k ∷ map valueOf (map decimal ns)) (value-decimal n) ∙ ap (λ (l : List ℕ). n ∷ l) (decimals-values ns)
+decimals-values (n ∷ ns) = ap (λ (k : ℕ). k ∷ map valueOf (map decimal ns)) (value-decimal n)
+    ∙ ap (λ (l : List ℕ). n ∷ l) (decimals-values ns)
 
 form-numbers : (w : String) (ns : List ℕ) → Clear (bytes w) → AllFit ns → formOf (form w (map decimal ns)) ≡ formWith (bytes w) ns
 unfolding formOfWords
 form-numbers w ns c h =
-    ap formOf (form-within w (map decimal ns)) ∙ within-form (joined (bytes w ∷ map decimal ns)) ∙ ap formOfWords (joined-words (bytes w) (map decimal ns) c (clear-decimals ns))
+    ap formOf (form-within w (map decimal ns)) ∙ within-form (joined (bytes w ∷ map decimal ns))
+    ∙ ap formOfWords (joined-words (bytes w) (map decimal ns) c (clear-decimals ns))
     ∙ rw (decimals-numbers ns h, decimals-values ns)
 
 pub read-back : (f : Form) → Sayable f → formOf (written f) ≡ f
 unfolding formWith same opening
 read-back (opens sz) h =
-    form-numbers "open" (numbersOf sz) (refl, (refl, (refl, (refl, tt)))) (h .S-fits, (h .K-fits, (h .N-fits, (h .P-fits, (h .B-fits, (h .W-fits, tt)))))) ∙ rw (h .room)
-read-back (writes n b) h = form-numbers "write" (n ∷ b ∷ []) (refl, (refl, (refl, (refl, (refl, tt))))) (h .0, (omega (arith, h .1), tt)) ∙ rw (le-leb b 255 (omega (arith, h .1)))
+    form-numbers "open" (numbersOf sz) (refl, (refl, (refl, (refl, tt))))
+    (h .S-fits, (h .K-fits, (h .N-fits, (h .P-fits, (h .B-fits, (h .W-fits, tt)))))) ∙ rw (h .room)
+read-back (writes n b) h = form-numbers "write" (n ∷ b ∷ []) (refl, (refl, (refl, (refl, (refl, tt))))) (h .0, (omega (arith, h .1), tt))
+    ∙ rw (le-leb b 255 (omega (arith, h .1)))
 read-back (reads n) h = form-numbers "read" (n ∷ []) (refl, (refl, (refl, (refl, tt)))) (h, tt)
 read-back steps h = form-numbers "step" [] (refl, (refl, (refl, (refl, tt)))) tt
 read-back flushes h = form-numbers "flush" [] (refl, (refl, (refl, (refl, (refl, tt))))) tt
@@ -180,7 +202,8 @@ unfolding same
 same-is [] [] h = refl
 same-is [] (y ∷ v) h = clash h refl
 same-is (x ∷ w) [] h = clash h refl
-same-is (x ∷ w) (y ∷ v) h = ap (λ (z : ℕ). z ∷ w) (eqb-true x y (and-l (eqb x y) (same w v) h)) ∙ ap (λ (l : List ℕ). y ∷ l) (same-is w v (and-r (eqb x y) (same w v) h))
+same-is (x ∷ w) (y ∷ v) h = ap (λ (z : ℕ). z ∷ w) (eqb-true x y (and-l (eqb x y) (same w v) h))
+    ∙ ap (λ (l : List ℕ). y ∷ l) (same-is w v (and-r (eqb x y) (same w v) h))
 
 numbers-decimals : (ws : List (List ℕ)) → every (map isNumber ws) ≡ true → ws ≡ map decimal (map valueOf ws)
 unfolding every
@@ -188,7 +211,8 @@ numbers-decimals [] h = refl
 numbers-decimals (w ∷ ws) h =
     let a = and-l (isNumber w) (every (map isNumber ws)) h in
     let b = and-r (isNumber w) (every (map isNumber ws)) h in
-    ap (λ (l : List (List ℕ)). w ∷ l) (numbers-decimals ws b) ∙ ap (λ (v : List ℕ). v ∷ map decimal (map valueOf ws)) (sym (decimal-value w a))
+    ap (λ (l : List (List ℕ)). w ∷ l) (numbers-decimals ws b) ∙ ap (λ (v : List ℕ). v ∷ map decimal (map valueOf ws))
+    (sym (decimal-value w a))
 
 numbers-fit : (ws : List (List ℕ)) → every (map isNumber ws) ≡ true → AllFit (map valueOf ws)
 unfolding every
@@ -204,17 +228,31 @@ fit-at (n ∷ ns) (suc i) h = fit-at ns i (h .1)
 
 module _ (w ns : List ℕ) (fit : AllFit ns) where
   -- a word with k numbers is written so
-  word-is : (v : String) (k : ℕ) → (same w (bytes v) && eqb (length ns) k) ≡ true → within (joined (w ∷ map decimal ns)) ≡ form v (map decimal (tab k (λ i. getD ns i 0)))
+  word-is : (v : String) (k : ℕ) → (same w (bytes v) && eqb (length ns) k) ≡ true
+      → within (joined (w ∷ map decimal ns)) ≡ form v (map decimal (tab k (λ i. getD ns i 0)))
   word-is v k t =
       ap (λ (x : List ℕ). within (joined (x ∷ map decimal ns))) (same-is w (bytes v) (and-l (same w (bytes v)) (eqb (length ns) k) t))
-      ∙ ap (λ (l : List ℕ). within (joined (bytes v ∷ map decimal l))) (sym (tab-list 0 k ns (eqb-true (length ns) k (and-r (same w (bytes v)) (eqb (length ns) k) t))))
+      ∙ ap (λ (l : List ℕ). within (joined (bytes v ∷ map decimal l)))
+      (sym (tab-list 0 k ns (eqb-true (length ns) k (and-r (same w (bytes v)) (eqb (length ns) k) t))))
       ∙ sym (form-within v _)
 
-  says-opening : (same w (bytes "open") && eqb (length ns) 6) ≡ true → (opening (sizesFrom ns) ≡ bad → ⊥) → Says (within (joined (w ∷ map decimal ns))) (opening (sizesFrom ns))
+  says-opening : (same w (bytes "open") && eqb (length ns) 6) ≡ true → (opening (sizesFrom ns) ≡ bad → ⊥)
+      → Says (within (joined (w ∷ map decimal ns))) (opening (sizesFrom ns))
   unfolding opening tab tabFrom
   says-opening t = by-test (sizesOk (five (sizesFrom ns)) && not (buffersFit (sizesFrom ns)))
       (λ e. rw e (λ h. absurd (h refl)))
-      (λ e. rw e (λ h. (word-is "open" 6 t, record { S-fits = fit-at ns 0 fit; K-fits = fit-at ns 1 fit; N-fits = fit-at ns 2 fit; P-fits = fit-at ns 3 fit; B-fits = fit-at ns 4 fit; W-fits = fit-at ns 5 fit; room = e })))
+      (λ e. rw e (λ h. (
+        word-is "open" 6 t,
+        record {
+          S-fits = fit-at ns 0 fit;
+          K-fits = fit-at ns 1 fit;
+          N-fits = fit-at ns 2 fit;
+          P-fits = fit-at ns 3 fit;
+          B-fits = fit-at ns 4 fit;
+          W-fits = fit-at ns 5 fit;
+          room = e;
+        },
+      )))
 
   says-write : isWrite w (length ns) ns ≡ true → Says (within (joined (w ∷ map decimal ns))) (writes (getD ns 0 0) (getD ns 1 0))
   unfolding tab tabFrom

@@ -17,7 +17,8 @@ use Rattle.answer.specs.Carried.{buffers}
 use Rattle.store.specs.View.{lengthsOk}
 
 -- the test of the four lengths is the model's
-pub lengths-lent : (sz : Sizes) (flash wear pspace bspace : List ℕ) → lengthsOk sz (length flash) (length wear) (length pspace) (length bspace) ≡ lentOk sz (buffers flash wear pspace bspace)
+pub lengths-lent : (sz : Sizes) (flash wear pspace bspace : List ℕ)
+    → lengthsOk sz (length flash) (length wear) (length pspace) (length bspace) ≡ lentOk sz (buffers flash wear pspace bspace)
 unfolding lengthsOk lentOk every
 lengths-lent sz flash wear pspace bspace = rw (and-true (eqb (length bspace) (sz .B * sz .K * sz .S)))
 
@@ -50,6 +51,7 @@ module _ (sz : Sizes) (u : Buffers) where
   unfolding openStore
   open-overworn a b c = let d : within (sz .N) ≡ false = sym (ap within (wear-length sz u b)) ∙ c in rw (a, openStore) (rw b (rw d))
 
-  pub open-done : sizesOk sz ≡ true → lentOk sz u ≡ true → within (length (u .wear)) ≡ true → openStore sz u ≡ record { answer = openDone; cache = record { sizes = sz; directory = vacantDirectory } }
+  pub open-done : sizesOk sz ≡ true → lentOk sz u ≡ true → within (length (u .wear)) ≡ true
+      → openStore sz u ≡ record { answer = openDone; cache = record { sizes = sz; directory = vacantDirectory } }
   unfolding openStore
   open-done a b c = let d : within (sz .N) ≡ true = sym (ap within (wear-length sz u b)) ∙ c in rw (a, openStore) (rw b (rw d))

@@ -41,7 +41,8 @@ stays a why e x y = sym (ap (λ (t : Write). cond (isRefused (writeOf t)) x y) e
 
 -- ---- from what a part write asks to what its read and its write ask, and back from what they leave
 
-module _ (sz : Sizes) (d : Directory) (u : Buffers) (n first : ℕ) (x page : Page) (q : PartReady sz d u n first x page) (whole : Page) (e : length whole ≡ sz .S) where
+module _ (sz : Sizes) (d : Directory) (u : Buffers) (n first : ℕ) (x page : Page) (q : PartReady sz d u n first x page) (whole : Page)
+    (e : length whole ≡ sz .S) where
   pub part-readable : Readable sz (u .flash) (u .pspace) (u .bspace) n whole
   part-readable = let f = q .ready .fits in record {
     limits = q .ready .sound .limits;
@@ -56,11 +57,13 @@ module _ (sz : Sizes) (d : Directory) (u : Buffers) (n first : ℕ) (x page : Pa
   part-writable = record { ready = q .ready; page-lt = q .page-lt; page-length = e }
 
 -- the combined page is read without a use, and so without the order of use
-module _ (sz : Sizes) (s f v r : List ℕ) (u : Buffers) (n first : ℕ) (x page whole : Page) (answer : Answer) (d′ : Directory) (u′ : Buffers) (page′ : Page) where
+module _ (sz : Sizes) (s f v r : List ℕ) (u : Buffers) (n first : ℕ) (x page whole : Page) (answer : Answer) (d′ : Directory)
+    (u′ : Buffers) (page′ : Page) where
   abbrev d : Directory
   d = numbers s f v r
 
-  pub part-wrote : whole ≡ combined (zeroPage sz) sz (numbers s f v []) (pages sz (u .flash) (u .pspace) (u .bspace)) n first x → Wrote sz d u n whole (plan leastRecent sz d (u .wear) n) answer d′ u′
+  pub part-wrote : whole ≡ combined (zeroPage sz) sz (numbers s f v []) (pages sz (u .flash) (u .pspace) (u .bspace)) n first x
+      → Wrote sz d u n whole (plan leastRecent sz d (u .wear) n) answer d′ u′
       → page′ ≡ cond (isRefused answer) page whole → PartWrote sz d u n first x page answer d′ u′ page′
   unfolding memoryOf combined readPage inSlots slotOf frameWith inFrame
   part-wrote e h p = record { wrote = rw e at h; page-is = rw e at p }

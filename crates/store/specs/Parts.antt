@@ -22,6 +22,7 @@ abbrev pub combinedOf : Sizes → Directory → Buffers → ℕ → ℕ → Page
 combinedOf sz d u n first x = combined (zeroPage sz) sz d (memoryOf sz u) n first x
 
 -- the combined page was written, and the page buffer has it where the write is accepted
-pub record PartWrote (sz : Sizes) (d : Directory) (u : Buffers) (n first : ℕ) (x page : Page) (answer : Answer) (d′ : Directory) (u′ : Buffers) (page′ : Page) : Type 0 where
+pub record PartWrote (sz : Sizes) (d : Directory) (u : Buffers) (n first : ℕ) (x page : Page) (answer : Answer) (d′ : Directory)
+    (u′ : Buffers) (page′ : Page) : Type 0 where
   pub wrote : Wrote sz d u n (combinedOf sz d u n first x) (plan leastRecent sz d (u .wear) n) answer d′ u′
   pub page-is : page′ ≡ cond (isRefused answer) page (combinedOf sz d u n first x)

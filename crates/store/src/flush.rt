@@ -28,7 +28,10 @@ impl Cache {
         pspace: &[u8],
         bspace: &mut [u8],
     ) -> StepOut
-        ensures { λ r. ⌜ stepResult r (buffers (now (flash .exit)) (now (wear .exit)) (now (pspace .entry)) (now (bspace .exit))) ≡ call leastRecent (storeOf self (buffers (now (flash .entry)) (now (wear .entry)) (now (pspace .entry)) (now (bspace .entry)))) step ⌝ }
+        ensures { λ r. ⌜ (
+            let u = buffers (now (flash .entry)) (now (wear .entry)) (now (pspace .entry)) (now (bspace .entry)) in
+            let u′ = buffers (now (flash .exit)) (now (wear .exit)) (now (pspace .entry)) (now (bspace .exit)) in
+            stepResult r u′ ≡ call leastRecent (storeOf self u) step) ⌝ }
     {
         let z = self.sizes;
         let d = self.directory;
@@ -64,7 +67,10 @@ impl Cache {
         pspace: &[u8],
         bspace: &mut [u8],
     ) -> FlushOut
-        ensures { λ r. ⌜ flushResult r (buffers (now (flash .exit)) (now (wear .exit)) (now (pspace .entry)) (now (bspace .exit))) ≡ call leastRecent (storeOf self (buffers (now (flash .entry)) (now (wear .entry)) (now (pspace .entry)) (now (bspace .entry)))) flush ⌝ }
+        ensures { λ r. ⌜ (
+            let u = buffers (now (flash .entry)) (now (wear .entry)) (now (pspace .entry)) (now (bspace .entry)) in
+            let u′ = buffers (now (flash .exit)) (now (wear .exit)) (now (pspace .entry)) (now (bspace .exit)) in
+            flushResult r u′ ≡ call leastRecent (storeOf self u) flush) ⌝ }
     {
         let z = self.sizes;
         let d = self.directory;
@@ -106,7 +112,12 @@ fn attempt_step(
     bspace: &mut [u8],
 ) -> Step
     requires { ⌜ Shape (numbers (now slots) (now frames) (now valid) (now recency)) ⌝ }
-    ensures { λ r. ⌜ resultWith (stepOf r) z (numbers (now (slots .exit)) (now (frames .exit)) (now (valid .exit)) (now (recency .entry))) (buffers (now (flash .exit)) (now (wear .exit)) (now (pspace .entry)) (now (bspace .exit))) [] ≡ call leastRecent (storeWith z (numbers (now (slots .entry)) (now (frames .entry)) (now (valid .entry)) (now (recency .entry))) (buffers (now (flash .entry)) (now (wear .entry)) (now (pspace .entry)) (now (bspace .entry)))) step ⌝ }
+    ensures { λ r. ⌜ (
+        let d = numbers (now (slots .entry)) (now (frames .entry)) (now (valid .entry)) (now (recency .entry)) in
+        let u = buffers (now (flash .entry)) (now (wear .entry)) (now (pspace .entry)) (now (bspace .entry)) in
+        let d′ = numbers (now (slots .exit)) (now (frames .exit)) (now (valid .exit)) (now (recency .entry)) in
+        let u′ = buffers (now (flash .exit)) (now (wear .exit)) (now (pspace .entry)) (now (bspace .exit)) in
+        resultWith (stepOf r) z d′ u′ [] ≡ call leastRecent (storeWith z d u) step) ⌝ }
 {
     if !lists_sound(z, slots, frames, valid, recency) {
         return Step::Refused(Refusal::Record);
@@ -140,7 +151,12 @@ fn attempt_flush(
     bspace: &mut [u8],
 ) -> Flush
     requires { ⌜ Shape (numbers (now slots) (now frames) (now valid) (now recency)) ⌝ }
-    ensures { λ r. ⌜ resultWith (flushOf r) z (numbers (now (slots .exit)) (now (frames .exit)) (now (valid .exit)) (now (recency .entry))) (buffers (now (flash .exit)) (now (wear .exit)) (now (pspace .entry)) (now (bspace .exit))) [] ≡ call leastRecent (storeWith z (numbers (now (slots .entry)) (now (frames .entry)) (now (valid .entry)) (now (recency .entry))) (buffers (now (flash .entry)) (now (wear .entry)) (now (pspace .entry)) (now (bspace .entry)))) flush ⌝ }
+    ensures { λ r. ⌜ (
+        let d = numbers (now (slots .entry)) (now (frames .entry)) (now (valid .entry)) (now (recency .entry)) in
+        let u = buffers (now (flash .entry)) (now (wear .entry)) (now (pspace .entry)) (now (bspace .entry)) in
+        let d′ = numbers (now (slots .exit)) (now (frames .exit)) (now (valid .exit)) (now (recency .entry)) in
+        let u′ = buffers (now (flash .exit)) (now (wear .exit)) (now (pspace .entry)) (now (bspace .exit)) in
+        resultWith (flushOf r) z d′ u′ [] ≡ call leastRecent (storeWith z d u) flush) ⌝ }
 {
     if !lists_sound(z, slots, frames, valid, recency) {
         return Flush::Refused(Refusal::Record);

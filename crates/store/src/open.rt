@@ -26,7 +26,9 @@ impl Cache {
 
     // Opens a store of these sizes on the buffers lent: checks the sizes, the buffers' lengths and the wear.
     pub fn open(sizes: Sizes, flash: &[u8], wear: &[u32], pspace: &[u8], bspace: &[u8]) -> Opened
-        ensures { λ r. ⌜ openedOf r ≡ openStore (sizesOf sizes) (buffers (now (flash .entry)) (now (wear .entry)) (now (pspace .entry)) (now (bspace .entry))) ⌝ }
+        ensures { λ r. ⌜ (
+            let u = buffers (now (flash .entry)) (now (wear .entry)) (now (pspace .entry)) (now (bspace .entry)) in
+            openedOf r ≡ openStore (sizesOf sizes) u) ⌝ }
     {
         if !sizes.ok() {
             return refused(Refusal::Size);

@@ -37,7 +37,11 @@ impl Cache {
         bytes: &[u8],
         page: &mut [u8],
     ) -> WriteOut
-        ensures { λ r. ⌜ writeResult r (buffers (now (flash .exit)) (now (wear .exit)) (now (pspace .exit)) (now (bspace .exit))) (now (page .exit)) ≡ call leastRecent (storeOf self (buffers (now (flash .entry)) (now (wear .entry)) (now (pspace .entry)) (now (bspace .entry)))) (part (n .0) first (now (bytes .entry)) (now (page .entry))) ⌝ }
+        ensures { λ r. ⌜ (
+            let u = buffers (now (flash .entry)) (now (wear .entry)) (now (pspace .entry)) (now (bspace .entry)) in
+            let u′ = buffers (now (flash .exit)) (now (wear .exit)) (now (pspace .exit)) (now (bspace .exit)) in
+            writeResult r u′ (now (page .exit)) ≡ call leastRecent (storeOf self u)
+            (part (n .0) first (now (bytes .entry)) (now (page .entry)))) ⌝ }
     {
         let z = self.sizes;
         let d = self.directory;
@@ -87,7 +91,13 @@ fn attempt(
     page: &mut [u8],
 ) -> Write
     requires { ⌜ Shape (numbers (now slots) (now frames) (now valid) (now recency)) ⌝ }
-    ensures { λ r. ⌜ resultWith (writeOf r) z (numbers (now (slots .exit)) (now (frames .exit)) (now (valid .exit)) (now (recency .exit))) (buffers (now (flash .exit)) (now (wear .exit)) (now (pspace .exit)) (now (bspace .exit))) (now (page .exit)) ≡ call leastRecent (storeWith z (numbers (now (slots .entry)) (now (frames .entry)) (now (valid .entry)) (now (recency .entry))) (buffers (now (flash .entry)) (now (wear .entry)) (now (pspace .entry)) (now (bspace .entry)))) (part (n .0) first (now (bytes .entry)) (now (page .entry))) ⌝ }
+    ensures { λ r. ⌜ (
+        let d = numbers (now (slots .entry)) (now (frames .entry)) (now (valid .entry)) (now (recency .entry)) in
+        let u = buffers (now (flash .entry)) (now (wear .entry)) (now (pspace .entry)) (now (bspace .entry)) in
+        let d′ = numbers (now (slots .exit)) (now (frames .exit)) (now (valid .exit)) (now (recency .exit)) in
+        let u′ = buffers (now (flash .exit)) (now (wear .exit)) (now (pspace .exit)) (now (bspace .exit)) in
+        resultWith (writeOf r) z d′ u′ (now (page .exit)) ≡ call leastRecent (storeWith z d u)
+        (part (n .0) first (now (bytes .entry)) (now (page .entry)))) ⌝ }
 {
     if !lists_sound(z, slots, frames, valid, recency) {
         return Write::Refused(Refusal::Record);
@@ -140,8 +150,16 @@ fn write_apart(
     bytes: &[u8],
     page: &mut [u8],
 ) -> Write
-    requires { ⌜ PartReady (sizesOf z) (numbers (now slots) (now frames) (now valid) (now recency)) (buffers (now flash) (now wear) (now pspace) (now bspace)) (n .0) first (now bytes) (now page) ⌝ }
-    ensures { λ r. ⌜ PartWrote (sizesOf z) (numbers (now (slots .entry)) (now (frames .entry)) (now (valid .entry)) (now (recency .entry))) (buffers (now (flash .entry)) (now (wear .entry)) (now (pspace .entry)) (now (bspace .entry))) (n .0) first (now (bytes .entry)) (now (page .entry)) (writeOf r) (numbers (now (slots .exit)) (now (frames .exit)) (now (valid .exit)) (now (recency .exit))) (buffers (now (flash .exit)) (now (wear .exit)) (now (pspace .exit)) (now (bspace .exit))) (now (page .exit)) ⌝ }
+    requires { ⌜ (
+        let d = numbers (now slots) (now frames) (now valid) (now recency) in
+        let u = buffers (now flash) (now wear) (now pspace) (now bspace) in
+        PartReady (sizesOf z) d u (n .0) first (now bytes) (now page)) ⌝ }
+    ensures { λ r. ⌜ (
+        let d = numbers (now (slots .entry)) (now (frames .entry)) (now (valid .entry)) (now (recency .entry)) in
+        let u = buffers (now (flash .entry)) (now (wear .entry)) (now (pspace .entry)) (now (bspace .entry)) in
+        let d′ = numbers (now (slots .exit)) (now (frames .exit)) (now (valid .exit)) (now (recency .exit)) in
+        let u′ = buffers (now (flash .exit)) (now (wear .exit)) (now (pspace .exit)) (now (bspace .exit)) in
+        PartWrote (sizesOf z) d u (n .0) first (now (bytes .entry)) (now (page .entry)) (writeOf r) d′ u′ (now (page .exit))) ⌝ }
 {
     let s = z.page_size as usize;
     let mut whole = [0u8; 2048];
@@ -180,8 +198,16 @@ fn write_combined(
     page: &mut [u8],
     whole: &mut [u8],
 ) -> Write
-    requires { ⌜ PartReady (sizesOf z) (numbers (now slots) (now frames) (now valid) (now recency)) (buffers (now flash) (now wear) (now pspace) (now bspace)) (n .0) first (now bytes) (now page) × (length (now whole) ≡ z .«page_size») ⌝ }
-    ensures { λ r. ⌜ PartWrote (sizesOf z) (numbers (now (slots .entry)) (now (frames .entry)) (now (valid .entry)) (now (recency .entry))) (buffers (now (flash .entry)) (now (wear .entry)) (now (pspace .entry)) (now (bspace .entry))) (n .0) first (now (bytes .entry)) (now (page .entry)) (writeOf r) (numbers (now (slots .exit)) (now (frames .exit)) (now (valid .exit)) (now (recency .exit))) (buffers (now (flash .exit)) (now (wear .exit)) (now (pspace .exit)) (now (bspace .exit))) (now (page .exit)) ⌝ }
+    requires { ⌜ (
+        let d = numbers (now slots) (now frames) (now valid) (now recency) in
+        let u = buffers (now flash) (now wear) (now pspace) (now bspace) in
+        PartReady (sizesOf z) d u (n .0) first (now bytes) (now page) × (length (now whole) ≡ z .«page_size»)) ⌝ }
+    ensures { λ r. ⌜ (
+        let d = numbers (now (slots .entry)) (now (frames .entry)) (now (valid .entry)) (now (recency .entry)) in
+        let u = buffers (now (flash .entry)) (now (wear .entry)) (now (pspace .entry)) (now (bspace .entry)) in
+        let d′ = numbers (now (slots .exit)) (now (frames .exit)) (now (valid .exit)) (now (recency .exit)) in
+        let u′ = buffers (now (flash .exit)) (now (wear .exit)) (now (pspace .exit)) (now (bspace .exit)) in
+        PartWrote (sizesOf z) d u (n .0) first (now (bytes .entry)) (now (page .entry)) (writeOf r) d′ u′ (now (page .exit))) ⌝ }
 {
     combine(
         z,
@@ -227,8 +253,12 @@ fn combine(
     bytes: &[u8],
     whole: &mut [u8],
 )
-    requires { ⌜ Readable (sizesOf z) (now flash) (now pspace) (now bspace) (n .0) (now whole) × (first + length (now bytes) ≤ z .«page_size») ⌝ }
-    ensures { λ _. ⌜ now (whole .exit) ≡ combined (zeroPage (sizesOf z)) (sizesOf z) (numbers (now (slots .entry)) (now (frames .entry)) (now (valid .entry)) []) (pages (sizesOf z) (now (flash .entry)) (now (pspace .entry)) (now (bspace .entry))) (n .0) first (now (bytes .entry)) ⌝ }
+    requires { ⌜ (
+        Readable (sizesOf z) (now flash) (now pspace) (now bspace) (n .0) (now whole) × (first + length (now bytes) ≤ z .«page_size»)) ⌝ }
+    ensures { λ _. ⌜ (
+        let d = numbers (now (slots .entry)) (now (frames .entry)) (now (valid .entry)) [] in
+        let m = pages (sizesOf z) (now (flash .entry)) (now (pspace .entry)) (now (bspace .entry)) in
+        now (whole .exit) ≡ combined (zeroPage (sizesOf z)) (sizesOf z) d m (n .0) first (now (bytes .entry))) ⌝ }
 {
     reads::peek(z, slots, frames, valid, flash, pspace, bspace, n, whole);
     page::lay(whole, first as usize, bytes);

@@ -29,7 +29,9 @@ impl Cache {
         n: PageNo,
         page: &mut [u8],
     ) -> ReadOut
-        ensures { λ r. ⌜ readResult r (buffers (now (flash .entry)) (now (wear .entry)) (now (pspace .entry)) (now (bspace .entry))) (now (page .exit)) ≡ call leastRecent (storeOf self (buffers (now (flash .entry)) (now (wear .entry)) (now (pspace .entry)) (now (bspace .entry)))) (read (n .0) (now (page .entry))) ⌝ }
+        ensures { λ r. ⌜ (
+            let u = buffers (now (flash .entry)) (now (wear .entry)) (now (pspace .entry)) (now (bspace .entry)) in
+            readResult r u (now (page .exit)) ≡ call leastRecent (storeOf self u) (read (n .0) (now (page .entry)))) ⌝ }
     {
         let z = self.sizes;
         let d = self.directory;
@@ -82,7 +84,11 @@ fn attempt(
     page: &mut [u8],
 ) -> Read
     requires { ⌜ Shape (numbers (now slots) (now frames) (now valid) (now recency)) ⌝ }
-    ensures { λ r. ⌜ resultWith (readOf r) z (numbers (now (slots .entry)) (now (frames .entry)) (now (valid .entry)) (now (recency .exit))) (buffers (now (flash .entry)) (now (wear .entry)) (now (pspace .entry)) (now (bspace .entry))) (now (page .exit)) ≡ call leastRecent (storeWith z (numbers (now (slots .entry)) (now (frames .entry)) (now (valid .entry)) (now (recency .entry))) (buffers (now (flash .entry)) (now (wear .entry)) (now (pspace .entry)) (now (bspace .entry)))) (read (n .0) (now (page .entry))) ⌝ }
+    ensures { λ r. ⌜ (
+        let u = buffers (now (flash .entry)) (now (wear .entry)) (now (pspace .entry)) (now (bspace .entry)) in
+        let d = numbers (now (slots .entry)) (now (frames .entry)) (now (valid .entry)) (now (recency .entry)) in
+        let d′ = numbers (now (slots .entry)) (now (frames .entry)) (now (valid .entry)) (now (recency .exit)) in
+        resultWith (readOf r) z d′ u (now (page .exit)) ≡ call leastRecent (storeWith z d u) (read (n .0) (now (page .entry)))) ⌝ }
 {
     if !lists_sound(z, slots, frames, valid, recency) {
         return Read::Refused(Refusal::Record);

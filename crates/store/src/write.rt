@@ -28,7 +28,10 @@ impl Cache {
         n: PageNo,
         page: &[u8],
     ) -> WriteOut
-        ensures { λ r. ⌜ writeResult r (buffers (now (flash .exit)) (now (wear .exit)) (now (pspace .exit)) (now (bspace .exit))) (now (page .entry)) ≡ call leastRecent (storeOf self (buffers (now (flash .entry)) (now (wear .entry)) (now (pspace .entry)) (now (bspace .entry)))) (write (n .0) (now (page .entry))) ⌝ }
+        ensures { λ r. ⌜ (
+            let u = buffers (now (flash .entry)) (now (wear .entry)) (now (pspace .entry)) (now (bspace .entry)) in
+            let u′ = buffers (now (flash .exit)) (now (wear .exit)) (now (pspace .exit)) (now (bspace .exit)) in
+            writeResult r u′ (now (page .entry)) ≡ call leastRecent (storeOf self u) (write (n .0) (now (page .entry)))) ⌝ }
     {
         let z = self.sizes;
         let d = self.directory;
@@ -74,7 +77,12 @@ fn attempt(
     page: &[u8],
 ) -> Write
     requires { ⌜ Shape (numbers (now slots) (now frames) (now valid) (now recency)) ⌝ }
-    ensures { λ r. ⌜ resultWith (writeOf r) z (numbers (now (slots .exit)) (now (frames .exit)) (now (valid .exit)) (now (recency .exit))) (buffers (now (flash .exit)) (now (wear .exit)) (now (pspace .exit)) (now (bspace .exit))) (now (page .entry)) ≡ call leastRecent (storeWith z (numbers (now (slots .entry)) (now (frames .entry)) (now (valid .entry)) (now (recency .entry))) (buffers (now (flash .entry)) (now (wear .entry)) (now (pspace .entry)) (now (bspace .entry)))) (write (n .0) (now (page .entry))) ⌝ }
+    ensures { λ r. ⌜ (
+        let d = numbers (now (slots .entry)) (now (frames .entry)) (now (valid .entry)) (now (recency .entry)) in
+        let u = buffers (now (flash .entry)) (now (wear .entry)) (now (pspace .entry)) (now (bspace .entry)) in
+        let d′ = numbers (now (slots .exit)) (now (frames .exit)) (now (valid .exit)) (now (recency .exit)) in
+        let u′ = buffers (now (flash .exit)) (now (wear .exit)) (now (pspace .exit)) (now (bspace .exit)) in
+        resultWith (writeOf r) z d′ u′ (now (page .entry)) ≡ call leastRecent (storeWith z d u) (write (n .0) (now (page .entry)))) ⌝ }
 {
     if !lists_sound(z, slots, frames, valid, recency) {
         return Write::Refused(Refusal::Record);

@@ -47,13 +47,16 @@ module _ (script : List ℕ) (w : Walk) (out : List ℕ) where
       record { line = a; room = omega arith }
 
   pub more-false : test ≡ false → More script w out → ⊥
-  more-false t m = clash (and-i (lt-ltb (w .at) (length script) (m .line)) (le-leb 45063 (length out - w .printed) (let r = m .room in omega arith))) t
+  more-false t m = clash (and-i (lt-ltb (w .at) (length script) (m .line))
+      (le-leb 45063 (length out - w .printed) (let r = m .room in omega arith))) t
 
 -- ---- several lines
 
 -- the memory keeps its lengths
-pub memory-kept : {m : Buffers} {page : List ℕ} → Memory m page → {flash wear pspace bspace page′ : List ℕ} → length flash ≡ length (m .flash) → length wear ≡ length (m .wear)
-    → length pspace ≡ length (m .pspace) → length bspace ≡ length (m .bspace) → length page′ ≡ length page → Memory (buffers flash wear pspace bspace) page′
+pub memory-kept : {m : Buffers} {page : List ℕ} → Memory m page → {flash wear pspace bspace page′ : List ℕ}
+    → length flash ≡ length (m .flash) → length wear ≡ length (m .wear)
+    → length pspace ≡ length (m .pspace) → length bspace ≡ length (m .bspace) → length page′ ≡ length page
+    → Memory (buffers flash wear pspace bspace) page′
 memory-kept h f w p b g = record {
   flash-length = f ∙ h .flash-length;
   wear-length = w ∙ h .wear-length;
@@ -65,7 +68,8 @@ memory-kept h f w p b g = record {
 pub onward-none : (script : List ℕ) (w : Walk) (m : Buffers) (out : List ℕ) → Ready script w out → Onward script w m out w m out
 onward-none script w m out h = record { output = refl; ready = h; from = omega arith }
 
-pub onward-then : {script : List ℕ} {w v r : Walk} {m n q : Buffers} {out mid new : List ℕ} → Onward script w m out v n mid → Onward script v n mid r q new → Onward script w m out r q new
+pub onward-then : {script : List ℕ} {w v r : Walk} {m n q : Buffers} {out mid new : List ℕ} → Onward script w m out v n mid
+    → Onward script v n mid r q new → Onward script w m out r q new
 onward-then h k = record { output = k .output ∙ h .output; ready = k .ready; from = omega arith }
 
 -- ---- the start
@@ -76,18 +80,21 @@ module _ (script : List ℕ) (c : Cache) (blank : cacheOf c ≡ blankCache) (out
 
   pub started-short : length script ≤ 32768 → Started script (record { cache = c; at = 0; number = 1; printed = 0 }) out
   started-short h = record {
-    output = λ m. ap (λ (s : Store). rest script s 0 1) (blank-front c blank (m .flash) (m .wear) (m .pspace) (m .bspace)) ∙ rest-output script h;
+    output = λ m. ap (λ (s : Store). rest script s 0 1) (blank-front c blank (m .flash) (m .wear) (m .pspace) (m .bspace))
+        ∙ rest-output script h;
     ready = record { held = held-start; short = λ l. h; number-le = omega arith; printed-le = omega arith };
     within = omega arith;
   }
 
-  pub started-over : 32768 < length script → (old : List ℕ) (k : ℕ) → length old ≡ length out → lineRoom ≤ length out → Printed lineRoom (badLine 0) old 0 out k
+  pub started-over : 32768 < length script → (old : List ℕ) (k : ℕ) → length old ≡ length out → lineRoom ≤ length out
+      → Printed lineRoom (badLine 0) old 0 out k
       → Started script (record { cache = c; at = length script; number = 1; printed = k }) out
   started-over h old k long room p =
       let e : take k out ≡ badLine 0 = printed-front {at = 0} (omega arith) p in
       let w = p .within in
       record {
-        output = λ m. ap (λ (l : List ℕ). take k out ++ l) (rest-none script _ (length script) 1 (omega arith)) ∙ append-nil (take k out) ∙ e ∙ sym (over-output script h);
+        output = λ m. ap (λ (l : List ℕ). take k out ++ l) (rest-none script _ (length script) 1 (omega arith)) ∙ append-nil (take k out)
+            ∙ e ∙ sym (over-output script h);
         ready = record { held = held-start; short = λ l. absurd (omega arith); number-le = omega arith; printed-le = omega arith };
         within = omega arith;
       }
@@ -95,7 +102,8 @@ module _ (script : List ℕ) (c : Cache) (blank : cacheOf c ≡ blankCache) (out
 -- ---- a line
 
 -- a part printed after what is printed
-printed-on : (a k e : ℕ) (out part : List ℕ) → a ≤ length out → k ≤ length part → take (a + k) (putMid a e out part) ≡ take a out ++ take k part
+printed-on : (a k e : ℕ) (out part : List ℕ) → a ≤ length out → k ≤ length part
+    → take (a + k) (putMid a e out part) ≡ take a out ++ take k part
 printed-on a k e out part h l =
     ap (λ (n : ℕ). take (n + k) (putMid a e out part)) (sym (length-take-le a out h))
     ∙ take-append-add (take a out) (part ++ postOf a e out) k
@@ -110,10 +118,12 @@ left-room a k out h =
 
 module _ (script : List ℕ) (w : Walk) (m : Buffers) (out : List ℕ) (ready : Ready script w out) (more : More script w out) where
   -- the line at the walk's place is carried out, and printed into the part of out that is left
-  pub onward-line : (f : Form) (n next : ℕ) → itemAt script (w .at) (w .number) ≡ line f n next → (r : Lined) (flash wear pspace bspace part : List ℕ)
+  pub onward-line : (f : Form) (n next : ℕ) → itemAt script (w .at) (w .number) ≡ line f n next
+      → (r : Lined) (flash wear pspace bspace part : List ℕ)
       → CarriedOut (carried (inUse w m) f n) r flash wear pspace bspace part
       → (e : ℕ) → length part ≡ length (midOf (w .printed) e out) → r .printed ≤ length part
-      → Onward script w m out (record { cache = r .cache; at = next; number = n + 1; printed = w .printed + r .printed }) (buffers flash wear pspace bspace) (putMid (w .printed) e out part) × (w .at < next)
+      → Onward script w m out (record { cache = r .cache; at = next; number = n + 1; printed = w .printed + r .printed })
+      (buffers flash wear pspace bspace) (putMid (w .printed) e out part) × (w .at < next)
   onward-line f n next item r flash wear pspace bspace part h e long k =
       let s = subst (Stands script (w .at) (w .number)) item (item-stands script (w .at) (w .number)) in
       let p0 = ready .printed-le in
@@ -126,10 +136,13 @@ module _ (script : List ℕ) (w : Walk) (m : Buffers) (out : List ℕ) (ready : 
       let long′ = same-len-mid (w .printed) e out part long in (
         record {
           output =
-              ap (λ (x : List ℕ). x ++ rest script (effectStore r flash wear pspace bspace) next (n + 1)) (printed-on (w .printed) (r .printed) e out part p0 k)
-              ∙ append-assoc (take (w .printed) out) (take (r .printed) part) (rest script (effectStore r flash wear pspace bspace) next (n + 1))
+              ap (λ (x : List ℕ). x ++ rest script (effectStore r flash wear pspace bspace) next (n + 1))
+              (printed-on (w .printed) (r .printed) e out part p0 k)
+              ∙ append-assoc (take (w .printed) out) (take (r .printed) part)
+              (rest script (effectStore r flash wear pspace bspace) next (n + 1))
               ∙ ap (λ (x : Effect). take (w .printed) out ++ (x .printed ++ rest script (x .store) next (n + 1))) (h .carries .effect)
-              ∙ ap (λ (x : List ℕ). take (w .printed) out ++ x) (sym (rest-item script (w .at) (w .number) (inUse w m) ∙ ap (onward script (inUse w m)) item));
+              ∙ ap (λ (x : List ℕ). take (w .printed) out ++ x) (sym (rest-item script (w .at) (w .number) (inUse w m)
+              ∙ ap (onward script (inUse w m)) item));
           ready = record { held = h .held; short = λ l. ready .short m0; number-le = omega arith; printed-le = omega arith };
           from = omega arith;
         },
@@ -137,20 +150,25 @@ module _ (script : List ℕ) (w : Walk) (m : Buffers) (out : List ℕ) (ready : 
       )
     where
       effectStore : Lined → List ℕ → List ℕ → List ℕ → List ℕ → Store
-      effectStore r flash wear pspace bspace = inUse (record { cache = r .cache; at = 0; number = 0; printed = 0 }) (buffers flash wear pspace bspace)
+      effectStore r flash wear pspace bspace = inUse (record { cache = r .cache; at = 0; number = 0; printed = 0 })
+          (buffers flash wear pspace bspace)
 
 -- ---- the output
 
 -- a walk from the start that has no more, or no room: what is printed is the output's first bytes, and all of it where there is room
-pub output-printed : {script : List ℕ} {w r : Walk} {m n : Buffers} {old out : List ℕ} → Started script w old → Onward script w m old r n out → (More script r out → ⊥) → Output (outputOf script) out (r .printed)
+pub output-printed : {script : List ℕ} {w r : Walk} {m n : Buffers} {old out : List ℕ} → Started script w old
+    → Onward script w m old r n out → (More script r out → ⊥) → Output (outputOf script) out (r .printed)
 output-printed {script} {w} {r} {m} {n} {old} {out} start on none =
     let e : printing script r n out ≡ outputOf script = on .output ∙ start .output m in
     let h = on .ready .printed-le in
     let long = length-take-le (r .printed) out h in
     record {
       within = h;
-      first = sym (ap (take (r .printed)) (sym e) ∙ take-at (take (r .printed) out) (rest script (inUse r n) (r .at) (r .number)) (r .printed) long);
+      first = sym (ap (take (r .printed)) (sym e) ∙ take-at (take (r .printed) out) (rest script (inUse r n) (r .at) (r .number))
+          (r .printed) long);
       whole = λ room. by-test (ltb (r .at) (length script))
           (λ t. absurd (none (record { line = ltb-true (r .at) (length script) t; room = room })))
-          (λ t. sym (ap length (sym e ∙ ap (λ (l : List ℕ). take (r .printed) out ++ l) (rest-none script (inUse r n) (r .at) (r .number) (ltb-false (r .at) (length script) t)) ∙ append-nil (take (r .printed) out)) ∙ long));
+          (λ t. sym (ap length (sym e ∙ ap (λ (l : List ℕ). take (r .printed) out ++ l)
+          (rest-none script (inUse r n) (r .at) (r .number) (ltb-false (r .at) (length script) t))
+          ∙ append-nil (take (r .printed) out)) ∙ long));
     }

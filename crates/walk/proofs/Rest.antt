@@ -16,7 +16,8 @@ use Rattle.model.specs.Calls.{Store}
 use Rattle.model.proofs.Soundness.{limits-of, limits-test}
 use Rattle.print.specs.Text.{bytes}
 use Rattle.print.specs.Print.{badLine}
-use Rattle.script.specs.Forms.{Form, writes, reads, steps, flushes, wears, bad, same, isNumber, five, buffersFit, opening, sizesFrom, formWith, formOfWords, valueOf, wordsOf, bracketed, inside, formOf}
+use Rattle.script.specs.Forms.{Form, writes, reads, steps, flushes, wears, bad, same, isNumber, five, buffersFit, opening, sizesFrom}
+use Rattle.script.specs.Forms.{formWith, formOfWords, valueOf, wordsOf, bracketed, inside, formOf}
 use Rattle.script.specs.Parts.{upTo}
 use Rattle.script.specs.Walk.{Item, line, end, itemAt}
 use Rattle.script.proofs.Words.{lines-from, lines-none, end-le}
@@ -31,12 +32,22 @@ use Rattle.interpret.specs.View.{Held, Sized, front}
 
 pub held-blank : Held (blankCache .sizes)
 unfolding blankCache
-held-blank = record { S-high = omega arith; K-high = omega arith; N-high = omega arith; B-high = omega arith; flash-high = omega arith; pspace-high = omega arith; bspace-high = omega arith }
+held-blank = record {
+  S-high = omega arith;
+  K-high = omega arith;
+  N-high = omega arith;
+  B-high = omega arith;
+  flash-high = omega arith;
+  pspace-high = omega arith;
+  bspace-high = omega arith;
+}
 
 -- the blank record has no buffers in the memory
-pub blank-front : (c : Cache) → cacheOf c ≡ blankCache → (flash wear pspace bspace : List ℕ) → storeOf c (front (sizesOf (c .sizes)) flash wear pspace bspace) ≡ blankStore
+pub blank-front : (c : Cache) → cacheOf c ≡ blankCache → (flash wear pspace bspace : List ℕ)
+    → storeOf c (front (sizesOf (c .sizes)) flash wear pspace bspace) ≡ blankStore
 unfolding blankCache
-blank-front c e flash wear pspace bspace = ap (λ (m : directory.Cache). record { cache = m; lent = front (m .sizes) flash wear pspace bspace }) e
+blank-front c e flash wear pspace bspace = ap (λ (m : directory.Cache).
+    record { cache = m; lent = front (m .sizes) flash wear pspace bspace }) e
 
 -- ---- the form of every line is one whose buffers fit
 
@@ -85,12 +96,14 @@ module _ (w ns : List ℕ) where
   sized-read : Sized from-read
   sized-read = sized-cond (same w (bytes "read") && eqb (length ns) 1) (reads (getD ns 0 0)) from-step tt
       (sized-cond (same w (bytes "step") && eqb (length ns) 0) steps from-flush tt
-      (sized-cond (same w (bytes "flush") && eqb (length ns) 0) flushes from-wear tt (sized-cond (same w (bytes "wear") && eqb (length ns) 0) wears bad tt tt)))
+      (sized-cond (same w (bytes "flush") && eqb (length ns) 0) flushes from-wear tt
+      (sized-cond (same w (bytes "wear") && eqb (length ns) 0) wears bad tt tt)))
 
   sized-with : Sized (formWith w ns)
   unfolding formWith
   sized-with = sized-cond (same w (bytes "open") && eqb (length ns) 6) (opening (sizesFrom ns)) from-write (sized-opening (sizesFrom ns))
-      (sized-cond (same w (bytes "write") && (eqb (length ns) 2 && leb (getD ns 1 0) 255)) (writes (getD ns 0 0) (getD ns 1 0)) from-read tt sized-read)
+      (sized-cond (same w (bytes "write") && (eqb (length ns) 2 && leb (getD ns 1 0) 255)) (writes (getD ns 0 0) (getD ns 1 0)) from-read
+      tt sized-read)
 
 sized-words : (ws : List (List ℕ)) → Sized (formOfWords ws)
 unfolding formOfWords
@@ -117,13 +130,18 @@ module _ (script : List ℕ) (at i : ℕ) where
   pub rest-item : (s : Store) → rest script s at i ≡ onward script s (itemAt script at i)
   unfolding printedBy
   rest-item s = by-test (ltb at (length script))
-      (λ t. let h = ltb-true at (length script) t in ap (printedBy s i) (lines-from script at h) ∙ ap (onward script s) (sym (item-line script at i h)))
-      (λ t. let h = ltb-false at (length script) t in ap (printedBy s i) (lines-none script at h) ∙ ap (onward script s) (sym (item-end script at i h)))
+      (λ t. let h = ltb-true at (length script) t in ap (printedBy s i) (lines-from script at h)
+      ∙ ap (onward script s) (sym (item-line script at i h)))
+      (λ t. let h = ltb-false at (length script) t in ap (printedBy s i) (lines-none script at h)
+      ∙ ap (onward script s) (sym (item-end script at i h)))
 
   pub item-stands : Stands script at i (itemAt script at i)
   item-stands = by-test (ltb at (length script))
       (λ t. let h = ltb-true at (length script) t in let k = end-le 10 script at (omega arith) in
-      subst (Stands script at i) (sym (item-line script at i h)) (sized-form (upTo 10 (drop at script)), (refl, (omega arith, omega arith))))
+      subst (Stands script at i) (sym (item-line script at i h)) (
+        sized-form (upTo 10 (drop at script)),
+        (refl, (omega arith, omega arith)),
+      ))
       (λ t. let h = ltb-false at (length script) t in subst (Stands script at i) (sym (item-end script at i h)) h)
 
 pub rest-output : (script : List ℕ) → length script ≤ 32768 → rest script blankStore 0 1 ≡ outputOf script

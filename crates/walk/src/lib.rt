@@ -56,7 +56,10 @@ pub fn run(
 ) -> Walk
     requires { ⌜ Memory (buffers (now flash) (now wear) (now pspace) (now bspace)) (now page) ⌝ }
     requires { ⌜ Ready (now script) w (now out) ⌝ }
-    ensures { λ r. ⌜ Onward (now (script .entry)) w (buffers (now (flash .entry)) (now (wear .entry)) (now (pspace .entry)) (now (bspace .entry))) (now (out .entry)) r (buffers (now (flash .exit)) (now (wear .exit)) (now (pspace .exit)) (now (bspace .exit))) (now (out .exit)) ⌝ }
+    ensures { λ r. ⌜ (
+        let u = buffers (now (flash .entry)) (now (wear .entry)) (now (pspace .entry)) (now (bspace .entry)) in
+        let u′ = buffers (now (flash .exit)) (now (wear .exit)) (now (pspace .exit)) (now (bspace .exit)) in
+        Onward (now (script .entry)) w u (now (out .entry)) r u′ (now (out .exit))) ⌝ }
     ensures { λ r. ⌜ (More (now (script .entry)) w (now (out .entry)) → w .at < r .at) ⌝ }
     ensures { λ r. ⌜ (More (now (script .entry)) r (now (out .exit)) → ⊥) ⌝ }
 {
@@ -81,7 +84,10 @@ fn advance(
     requires { ⌜ Memory (buffers (now flash) (now wear) (now pspace) (now bspace)) (now page) ⌝ }
     requires { ⌜ Ready (now script) w (now out) ⌝ }
     requires { ⌜ More (now script) w (now out) ⌝ }
-    ensures { λ r. ⌜ Onward (now (script .entry)) w (buffers (now (flash .entry)) (now (wear .entry)) (now (pspace .entry)) (now (bspace .entry))) (now (out .entry)) r (buffers (now (flash .exit)) (now (wear .exit)) (now (pspace .exit)) (now (bspace .exit))) (now (out .exit)) ⌝ }
+    ensures { λ r. ⌜ (
+        let u = buffers (now (flash .entry)) (now (wear .entry)) (now (pspace .entry)) (now (bspace .entry)) in
+        let u′ = buffers (now (flash .exit)) (now (wear .exit)) (now (pspace .exit)) (now (bspace .exit)) in
+        Onward (now (script .entry)) w u (now (out .entry)) r u′ (now (out .exit))) ⌝ }
     ensures { λ r. ⌜ w .at < r .at ⌝ }
 {
     let at = w.at;

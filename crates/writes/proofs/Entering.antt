@@ -21,7 +21,8 @@ use Rattle.moves.proofs.Recency.{touched-is}
 use Rattle.writes.specs.Writes.{OverSlot}
 use Rattle.writes.specs.Enter.{Joining, Changing, Enters, Entered}
 
-module _ (sz : Sizes) (d : Directory) (f : ℕ) (pspace page : List ℕ) (q : Enters sz d f pspace page) (i : ℕ) (first-vacant : i ≡ slotOf sz (numbers (d .slots) [] [] []) vacant) where
+module _ (sz : Sizes) (d : Directory) (f : ℕ) (pspace page : List ℕ) (q : Enters sz d f pspace page) (i : ℕ)
+    (first-vacant : i ≡ slotOf sz (numbers (d .slots) [] [] []) vacant) where
   slot-is : i ≡ slotOf sz d vacant
   unfolding slotOf
   slot-is = first-vacant
@@ -35,29 +36,36 @@ module _ (sz : Sizes) (d : Directory) (f : ℕ) (pspace page : List ℕ) (q : En
   pub over : OverSlot sz i pspace page
   over = record { limits = q .sound .limits; slot-lt = slot-lt; pspace-length = q .pspace-length; page-length = q .page-length }
 
-  pub enter-is : (n : ℕ) (order pspace′ : List ℕ) → order ≡ recencyAfter sz (numbers [] [] [] (d .recency)) f → slotPages sz pspace′ ≡ set (slotPages sz pspace) i page
+  pub enter-is : (n : ℕ) (order pspace′ : List ℕ) → order ≡ recencyAfter sz (numbers [] [] [] (d .recency)) f
+      → slotPages sz pspace′ ≡ set (slotPages sz pspace) i page
       → Entered sz d f pspace n page (numbers (set (d .slots) i n) (d .frames) (d .valid) order) pspace′
   unfolding entered touched slotOf putSlot
   enter-is n order pspace′ eo ep = record {
-    directory-is = ap (λ (x : Directory). putSlot x i n) (touched-is sz d f order eo) ∙ ap (λ (x : ℕ). putSlot (touched sz d f) x n) slot-is;
+    directory-is = ap (λ (x : Directory). putSlot x i n) (touched-is sz d f order eo)
+        ∙ ap (λ (x : ℕ). putSlot (touched sz d f) x n) slot-is;
     pages-are = ep ∙ ap (λ (x : ℕ). set (slotPages sz pspace) x page) slot-is;
   }
 
 -- the page has entered after a join, and after an exchange
-pub record JoinEntered (sz : Sizes) (d : Directory) (v f : ℕ) (pspace bspace : List ℕ) (n : ℕ) (page : Page) (d′ : Directory) (pspace′ bspace′ : List ℕ) : Type 0 where
+pub record JoinEntered (sz : Sizes) (d : Directory) (v f : ℕ) (pspace bspace : List ℕ) (n : ℕ) (page : Page) (d′ : Directory)
+    (pspace′ bspace′ : List ℕ) : Type 0 where
   pub directory-is : d′ ≡ entered sz (touched sz (joined sz d v f) f) n
-  pub pages-are : spaces sz pspace′ bspace′ ≡ putSlotPage (joinedPages (zeroPage sz) sz d (spaces sz pspace bspace) v f) (slotOf sz (joined sz d v f) vacant) page
+  pub pages-are : spaces sz pspace′ bspace′ ≡ putSlotPage (joinedPages (zeroPage sz) sz d (spaces sz pspace bspace) v f)
+      (slotOf sz (joined sz d v f) vacant) page
 
-pub record ExchangeEntered (sz : Sizes) (d : Directory) (v f : ℕ) (pspace bspace : List ℕ) (n : ℕ) (page : Page) (d′ : Directory) (pspace′ bspace′ : List ℕ) : Type 0 where
+pub record ExchangeEntered (sz : Sizes) (d : Directory) (v f : ℕ) (pspace bspace : List ℕ) (n : ℕ) (page : Page) (d′ : Directory)
+    (pspace′ bspace′ : List ℕ) : Type 0 where
   pub directory-is : d′ ≡ entered sz (touched sz (exchanged sz d v f) f) n
-  pub pages-are : spaces sz pspace′ bspace′ ≡ putSlotPage (exchangedPages (zeroPage sz) sz d (spaces sz pspace bspace) v f) (slotOf sz (exchanged sz d v f) vacant) page
+  pub pages-are : spaces sz pspace′ bspace′ ≡ putSlotPage (exchangedPages (zeroPage sz) sz d (spaces sz pspace bspace) v f)
+      (slotOf sz (exchanged sz d v f) vacant) page
 
 module _ (sz : Sizes) (d : Directory) (v f : ℕ) (pspace bspace page : List ℕ) (s : Sound sz d) where
   pub joins : v < sz .N → f < sz .B → length pspace ≡ sz .P * sz .S → length bspace ≡ sz .B * sz .K * sz .S → Joins sz d v f pspace bspace
   joins vl fl lp lb = record { sound = s; block-lt = vl; frame-lt = fl; pspace-long = lp; bspace-long = lb }
 
   -- after a join
-  pub join-enters : Joining sz d v f → length pspace ≡ sz .P * sz .S → length page ≡ sz .S → (j : Directory) → j ≡ joined sz d v f → Enters sz j f pspace page
+  pub join-enters : Joining sz d v f → length pspace ≡ sz .P * sz .S → length page ≡ sz .S → (j : Directory) → j ≡ joined sz d v f
+      → Enters sz j f pspace page
   join-enters g lp lx j e = rw e (record {
     sound = joined-sound sz d s v f (g .frame-lt) (g .victim-lt) (g .sole) (some-bit sz d s v f (g .victim-pos));
     frame-lt = g .frame-lt;
@@ -66,7 +74,8 @@ module _ (sz : Sizes) (d : Directory) (v f : ℕ) (pspace bspace page : List ℕ
     page-length = lx;
   })
 
-  pub join-entered : (n : ℕ) (j d′ : Directory) (pspace′ bspace′ : List ℕ) → Joined sz d v f pspace bspace j bspace′ → Entered sz j f pspace n page d′ pspace′
+  pub join-entered : (n : ℕ) (j d′ : Directory) (pspace′ bspace′ : List ℕ) → Joined sz d v f pspace bspace j bspace′
+      → Entered sz j f pspace n page d′ pspace′
       → JoinEntered sz d v f pspace bspace n page d′ pspace′ bspace′
   unfolding spaces putSlotPage joinedPages
   join-entered n j d′ pspace′ bspace′ a b = record {
@@ -79,22 +88,30 @@ module _ (sz : Sizes) (d : Directory) (v f : ℕ) (pspace bspace page : List ℕ
   }
 
   -- after an exchange
-  pub exchange-enters : Changing sz d v f → validCount sz d f < slotCount sz d v → length page ≡ sz .S → (j : Directory) (pspace₁ : List ℕ) → j ≡ exchanged sz d v f → length pspace₁ ≡ sz .P * sz .S
+  pub exchange-enters : Changing sz d v f → validCount sz d f < slotCount sz d v → length page ≡ sz .S → (j : Directory) (pspace₁ : List ℕ)
+      → j ≡ exchanged sz d v f → length pspace₁ ≡ sz .P * sz .S
       → Enters sz j f pspace₁ page
   unfolding inSlots
   exchange-enters g fewer lx j pspace₁ e l = rw e (record {
     sound = exchanged-sound sz d s v f (g .frame-lt) (g .victim-lt) fewer (g .block-lt) (g .victim-out);
     frame-lt = g .frame-lt;
-    room = lt-ltb _ (sz .P) (exchanged-vacant sz (s .limits) d (s .shape) (s .entries) v f (g .frame-lt) (g .victim-lt) fewer (g .block-lt) (g .victim-out));
+    room = lt-ltb _ (sz .P) (exchanged-vacant sz (s .limits) d (s .shape) (s .entries) v f (g .frame-lt) (g .victim-lt) fewer (g .block-lt)
+        (g .victim-out));
     pspace-length = l;
     page-length = lx;
   })
 
-  pub exchange-entered : (n : ℕ) (j d′ : Directory) (pspace₁ pspace′ bspace′ : List ℕ) → Exchanged sz d v f pspace bspace j pspace₁ bspace′ → Entered sz j f pspace₁ n page d′ pspace′
+  pub exchange-entered : (n : ℕ) (j d′ : Directory) (pspace₁ pspace′ bspace′ : List ℕ) → Exchanged sz d v f pspace bspace j pspace₁ bspace′
+      → Entered sz j f pspace₁ n page d′ pspace′
       → ExchangeEntered sz d v f pspace bspace n page d′ pspace′ bspace′
   unfolding spaces putSlotPage
   exchange-entered n j d′ pspace₁ pspace′ bspace′ a b = record {
     directory-is = b .directory-is ∙ ap (λ (x : Directory). entered sz (touched sz x f) n) (a .directory);
-    pages-are = (λ i. record { flash = []; pspace = (b .pages-are ∙ ap (λ (x : Directory). set (slotPages sz pspace₁) (slotOf sz x vacant) page) (a .directory)) i; bspace = framePages sz bspace′ })
+    pages-are = (λ i. record {
+      flash = [];
+      pspace = (b .pages-are
+          ∙ ap (λ (x : Directory). set (slotPages sz pspace₁) (slotOf sz x vacant) page) (a .directory)) i;
+      bspace = framePages sz bspace′;
+    })
         ∙ ap (λ (m : Memory Page). putSlotPage m (slotOf sz (exchanged sz d v f) vacant) page) (a .pages);
   }

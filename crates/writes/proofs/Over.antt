@@ -30,7 +30,8 @@ module _ (sz : Sizes) (i : ℕ) (pspace page : List ℕ) (q : OverSlot sz i pspa
   pub slot-buffer : HasPage (sz .S) page 0
   slot-buffer = has-buffer (sz .S) page (q .page-length)
 
-  pub slot-is : (pspace′ : List ℕ) → pspace′ ≡ putPage (sz .S) pspace i (pageAt (sz .S) page 0) → slotPages sz pspace′ ≡ set (slotPages sz pspace) i page
+  pub slot-is : (pspace′ : List ℕ) → pspace′ ≡ putPage (sz .S) pspace i (pageAt (sz .S) page 0)
+      → slotPages sz pspace′ ≡ set (slotPages sz pspace) i page
   slot-is pspace′ e = ap (slotPages sz) (e ∙ ap (putPage (sz .S) pspace i) (page-whole (sz .S) page (q .page-length)))
       ∙ pages-put (sz .S) (sz .P) pspace i page (q .slot-lt) (q .pspace-length) (q .page-length)
 
@@ -41,7 +42,10 @@ module _ (sz : Sizes) (f : ℕ) (bspace page : List ℕ) (q : OverFrame sz f bsp
   pub frame-buffer : HasPage (sz .S) page 0
   frame-buffer = has-buffer (sz .S) page (q .page-length)
 
-  pub frame-page-is : (n o : ℕ) (bspace′ : List ℕ) → o ≡ n % sz .K → bspace′ ≡ putPage (sz .S) bspace (f * sz .K + o) (pageAt (sz .S) page 0)
+  pub frame-page-is : (n o : ℕ) (bspace′ : List ℕ) → o ≡ n % sz .K
+      → bspace′ ≡ putPage (sz .S) bspace (f * sz .K + o) (pageAt (sz .S) page 0)
       → framePages sz bspace′ ≡ set (framePages sz bspace) (f * sz .K + n % sz .K) page
-  frame-page-is n o bspace′ eo e = ap (framePages sz) (e ∙ ap (putPage (sz .S) bspace (f * sz .K + o)) (page-whole (sz .S) page (q .page-length)) ∙ ap (λ (x : ℕ). putPage (sz .S) bspace (f * sz .K + x) page) eo)
-      ∙ pages-put (sz .S) (sz .B * sz .K) bspace (f * sz .K + n % sz .K) page (digits-lt (q .frame-lt) (offset-lt sz (q .limits) n)) (q .bspace-length) (q .page-length)
+  frame-page-is n o bspace′ eo e = ap (framePages sz) (e ∙ ap (putPage (sz .S) bspace (f * sz .K + o))
+      (page-whole (sz .S) page (q .page-length)) ∙ ap (λ (x : ℕ). putPage (sz .S) bspace (f * sz .K + x) page) eo)
+      ∙ pages-put (sz .S) (sz .B * sz .K) bspace (f * sz .K + n % sz .K) page (digits-lt (q .frame-lt) (offset-lt sz (q .limits) n))
+      (q .bspace-length) (q .page-length)

@@ -10,13 +10,17 @@ use Rattle.prelude.proofs.Tests.{by-test}
 use Rattle.model.specs.Sizes.{Sizes, vacant}
 use Rattle.model.specs.Directory.{Directory, frameAt}
 use Rattle.model.specs.Soundness.{Sound}
-use Rattle.model.specs.Policy.{Choice, slotOf, frameOf, isWorn, Plan, slotHit, frameHit, freeSlot, join, fill, exchange, evict, plan, victim, leastRecent, due}
-use Rattle.model.specs.Moves.{Memory, wornBy, touched, putSlot, entered, stepped, written, steppedPages, writtenPages, putSlotPage, putFramePage, joined, joinedPages, filled, exchangedPages}
-use Rattle.model.specs.Calls.{Answer, writeDone, refused, writeOutcome, Page, Buffers, zeroPage, flashPages, slotPages, framePages, memoryOf}
+use Rattle.model.specs.Policy.{Choice, slotOf, frameOf, isWorn, Plan, slotHit, frameHit, freeSlot, join, fill, exchange, evict, plan}
+use Rattle.model.specs.Policy.{victim, leastRecent, due}
+use Rattle.model.specs.Moves.{Memory, wornBy, touched, putSlot, entered, stepped, written, steppedPages, writtenPages, putSlotPage}
+use Rattle.model.specs.Moves.{putFramePage, joined, joinedPages, filled, exchangedPages}
+use Rattle.model.specs.Calls.{Answer, writeDone, refused, writeOutcome, Page, Buffers, zeroPage, flashPages, slotPages, framePages}
+use Rattle.model.specs.Calls.{memoryOf}
 use Rattle.model.specs.Lists.{Picks}
 use Rattle.model.proofs.Lookup.{block-vacant, found-slot, frame-is, no-frame}
 use Rattle.model.proofs.Steps as steps
-use Rattle.model.proofs.Plan.{leastRecent-picks, victim-lt, victim-pos, sole-own, occupied-all, fewest-pick, evict-pick, plan-elim, eviction-elim}
+use Rattle.model.proofs.Plan.{leastRecent-picks, victim-lt, victim-pos, sole-own, occupied-all, fewest-pick, evict-pick, plan-elim}
+use Rattle.model.proofs.Plan.{eviction-elim}
 use Rattle.moves.specs.Spaces.{spaces}
 use Rattle.policy.specs.declared.decision.Plan as code
 use Rattle.policy.specs.declared.decision.Room as room
@@ -36,45 +40,84 @@ module _ (sz : Sizes) (d : Directory) (flash wear pspace bspace : List ℕ) (n :
   pub way-1 : (i : ℕ) (pspace′ : List ℕ) → slotPages sz pspace′ ≡ set (slotPages sz pspace) i page
       → Wrote sz d lent n page (slotHit i) (writeDone 1 vacant 0) d (buffers flash wear pspace′ bspace)
   unfolding writeOutcome isWorn written wornBy writtenPages putSlotPage memoryOf
-  way-1 i pspace′ h = record { answer-is = refl; directory-is = refl; wear-is = refl; pages-are = λ j. record { flash = flashPages sz flash; pspace = h j; bspace = framePages sz bspace } }
+  way-1 i pspace′ h = record {
+    answer-is = refl;
+    directory-is = refl;
+    wear-is = refl;
+    pages-are = λ j. record { flash = flashPages sz flash; pspace = h j; bspace = framePages sz bspace };
+  }
 
-  pub way-2 : (f : ℕ) (d′ : Directory) (bspace′ : List ℕ) → d′ ≡ touched sz d f → framePages sz bspace′ ≡ set (framePages sz bspace) (f * sz .K + n % sz .K) page
+  pub way-2 : (f : ℕ) (d′ : Directory) (bspace′ : List ℕ) → d′ ≡ touched sz d f
+      → framePages sz bspace′ ≡ set (framePages sz bspace) (f * sz .K + n % sz .K) page
       → Wrote sz d lent n page (frameHit f) (writeDone 2 vacant 0) d′ (buffers flash wear pspace bspace′)
   unfolding writeOutcome isWorn written wornBy writtenPages putFramePage memoryOf
-  way-2 f d′ bspace′ e h = record { answer-is = refl; directory-is = e; wear-is = refl; pages-are = λ j. record { flash = flashPages sz flash; pspace = slotPages sz pspace; bspace = h j } }
+  way-2 f d′ bspace′ e h = record {
+    answer-is = refl;
+    directory-is = e;
+    wear-is = refl;
+    pages-are = λ j. record { flash = flashPages sz flash; pspace = slotPages sz pspace; bspace = h j };
+  }
 
   pub way-3 : (i : ℕ) (d′ : Directory) (pspace′ : List ℕ) → d′ ≡ putSlot d i n → slotPages sz pspace′ ≡ set (slotPages sz pspace) i page
       → Wrote sz d lent n page (freeSlot i) (writeDone 3 vacant 0) d′ (buffers flash wear pspace′ bspace)
   unfolding writeOutcome isWorn written wornBy writtenPages putSlotPage memoryOf
-  way-3 i d′ pspace′ e h = record { answer-is = refl; directory-is = e; wear-is = refl; pages-are = λ j. record { flash = flashPages sz flash; pspace = h j; bspace = framePages sz bspace } }
+  way-3 i d′ pspace′ e h = record {
+    answer-is = refl;
+    directory-is = e;
+    wear-is = refl;
+    pages-are = λ j. record { flash = flashPages sz flash; pspace = h j; bspace = framePages sz bspace };
+  }
 
   -- the two spaces beside the flash
-  beside : (m : Memory Page) (pspace′ bspace′ : List ℕ) → spaces sz pspace′ bspace′ ≡ m → memoryOf sz (buffers flash wear pspace′ bspace′) ≡ record { flash = flashPages sz flash; pspace = m .pspace; bspace = m .bspace }
+  beside : (m : Memory Page) (pspace′ bspace′ : List ℕ) → spaces sz pspace′ bspace′ ≡ m
+      → memoryOf sz (buffers flash wear pspace′ bspace′) ≡ record { flash = flashPages sz flash; pspace = m .pspace; bspace = m .bspace }
   unfolding spaces memoryOf
   beside m pspace′ bspace′ h = ap (λ (x : Memory Page). record { flash = flashPages sz flash; pspace = x .pspace; bspace = x .bspace }) h
 
   module _ (v f : ℕ) (d′ : Directory) (pspace′ bspace′ : List ℕ) where
-    pub way-4 : JoinEntered sz d v f pspace bspace n page d′ pspace′ bspace′ → Wrote sz d lent n page (join v f) (writeDone 4 vacant 0) d′ (buffers flash wear pspace′ bspace′)
+    pub way-4 : JoinEntered sz d v f pspace bspace n page d′ pspace′ bspace′
+        → Wrote sz d lent n page (join v f) (writeDone 4 vacant 0) d′ (buffers flash wear pspace′ bspace′)
     unfolding writeOutcome isWorn written wornBy writtenPages putSlotPage joinedPages filled memoryOf spaces
-    way-4 h = record { answer-is = refl; directory-is = h .directory-is; wear-is = refl; pages-are = beside _ pspace′ bspace′ (h .pages-are) }
+    way-4 h = record {
+      answer-is = refl;
+      directory-is = h .directory-is;
+      wear-is = refl;
+      pages-are = beside _ pspace′ bspace′ (h .pages-are);
+    }
 
-    pub way-5 : JoinEntered sz d v f pspace bspace n page d′ pspace′ bspace′ → Wrote sz d lent n page (fill v f) (writeDone 5 vacant 0) d′ (buffers flash wear pspace′ bspace′)
+    pub way-5 : JoinEntered sz d v f pspace bspace n page d′ pspace′ bspace′
+        → Wrote sz d lent n page (fill v f) (writeDone 5 vacant 0) d′ (buffers flash wear pspace′ bspace′)
     unfolding writeOutcome isWorn written wornBy writtenPages putSlotPage joinedPages filled memoryOf spaces
-    way-5 h = record { answer-is = refl; directory-is = h .directory-is; wear-is = refl; pages-are = beside _ pspace′ bspace′ (h .pages-are) }
+    way-5 h = record {
+      answer-is = refl;
+      directory-is = h .directory-is;
+      wear-is = refl;
+      pages-are = beside _ pspace′ bspace′ (h .pages-are);
+    }
 
-    pub way-6 : ExchangeEntered sz d v f pspace bspace n page d′ pspace′ bspace′ → Wrote sz d lent n page (exchange v f) (writeDone 6 vacant 0) d′ (buffers flash wear pspace′ bspace′)
+    pub way-6 : ExchangeEntered sz d v f pspace bspace n page d′ pspace′ bspace′
+        → Wrote sz d lent n page (exchange v f) (writeDone 6 vacant 0) d′ (buffers flash wear pspace′ bspace′)
     unfolding writeOutcome isWorn written wornBy writtenPages putSlotPage exchangedPages filled memoryOf spaces
-    way-6 h = record { answer-is = refl; directory-is = h .directory-is; wear-is = refl; pages-are = beside _ pspace′ bspace′ (h .pages-are) }
+    way-6 h = record {
+      answer-is = refl;
+      directory-is = h .directory-is;
+      wear-is = refl;
+      pages-are = beside _ pspace′ bspace′ (h .pages-are);
+    }
 
 -- ---- way 7
 
 -- a join and an entering beside any flash
-joined-beside : (sz : Sizes) (e d′ : Directory) (flash wear pspace bspace pspace′ bspace′ : List ℕ) (v f n : ℕ) (page : Page) → JoinEntered sz e v f pspace bspace n page d′ pspace′ bspace′
-    → memoryOf sz (buffers flash wear pspace′ bspace′) ≡ putSlotPage (joinedPages (zeroPage sz) sz e (memoryOf sz (buffers flash wear pspace bspace)) v f) (slotOf sz (joined sz e v f) vacant) page
+joined-beside : (sz : Sizes) (e d′ : Directory) (flash wear pspace bspace pspace′ bspace′ : List ℕ) (v f n : ℕ) (page : Page)
+    → JoinEntered sz e v f pspace bspace n page d′ pspace′ bspace′
+    → memoryOf sz (buffers flash wear pspace′ bspace′) ≡ putSlotPage
+    (joinedPages (zeroPage sz) sz e (memoryOf sz (buffers flash wear pspace bspace)) v f) (slotOf sz (joined sz e v f) vacant) page
 unfolding putSlotPage joinedPages filled spaces memoryOf
-joined-beside sz e d′ flash wear pspace bspace pspace′ bspace′ v f n page j = beside sz e flash wear pspace bspace n page _ pspace′ bspace′ (j .pages-are)
+joined-beside sz e d′ flash wear pspace bspace pspace′ bspace′ v f n page j = beside sz e flash wear pspace bspace n page _ pspace′ bspace′
+    (j .pages-are)
 
-module _ (sz : Sizes) (d : Directory) (flash wear pspace bspace : List ℕ) (v f : ℕ) (page : Page) (q : MakesRoom sz d (buffers flash wear pspace bspace) (evict v f) page) where
+module _ (sz : Sizes) (d : Directory) (flash wear pspace bspace : List ℕ) (v f : ℕ) (page : Page)
+    (q : MakesRoom sz d (buffers flash wear pspace bspace) (evict v f) page) where
   abbrev evicting : Buffers
   evicting = buffers flash wear pspace bspace
 
@@ -83,7 +126,8 @@ module _ (sz : Sizes) (d : Directory) (flash wear pspace bspace : List ℕ) (v f
 
   pub worn-way : (n : ℕ) → sz .W ≤ getD wear (frameAt d f) 0 → Wrote sz d evicting n page (evict v f) (refused 6 (frameAt d f)) d evicting
   unfolding writeOutcome isWorn
-  worn-way n l = let t : isWorn sz wear (frameAt d f) ≡ true = rw (lt-ltb (frameAt d f) vacant block-below) (le-leb (sz .W) (getD wear (frameAt d f) 0) l) in
+  worn-way n l = let t : isWorn sz wear (frameAt d f) ≡ true = rw (lt-ltb (frameAt d f) vacant block-below)
+      (le-leb (sz .W) (getD wear (frameAt d f) 0) l) in
       rw (t, writeOutcome) (record { answer-is = refl; directory-is = refl; wear-is = refl; pages-are = refl })
 
   -- the frame's block may be cleaned as by a flush step
@@ -106,24 +150,31 @@ module _ (sz : Sizes) (d : Directory) (flash wear pspace bspace : List ℕ) (v f
   )
 
   pub way-7 : (n reads : ℕ) (e d′ : Directory) (flash′ wear′ pspace′ bspace₁ bspace′ : List ℕ) → getD wear (frameAt d f) 0 < sz .W
-      → BlockCleaned sz d evicting (frameAt d f) f e reads (buffers flash′ wear′ pspace bspace₁) → JoinEntered sz e v f pspace bspace₁ n page d′ pspace′ bspace′
+      → BlockCleaned sz d evicting (frameAt d f) f e reads (buffers flash′ wear′ pspace bspace₁)
+      → JoinEntered sz e v f pspace bspace₁ n page d′ pspace′ bspace′
       → Wrote sz d evicting n page (evict v f) (writeDone 7 (frameAt d f) reads) d′ (buffers flash′ wear′ pspace′ bspace′)
   unfolding writeOutcome isWorn written writtenPages
   way-7 n reads e d′ flash′ wear′ pspace′ bspace₁ bspace′ l w j =
-      let t : isWorn sz wear (frameAt d f) ≡ false = by-test (ltb (frameAt d f) vacant) (λ a. rw (a, lt-leb (sz .W) (getD wear (frameAt d f) 0) l)) (λ a. rw a) in
+      let t : isWorn sz wear (frameAt d f) ≡ false = by-test (ltb (frameAt d f) vacant)
+      (λ a. rw (a, lt-leb (sz .W) (getD wear (frameAt d f) 0) l)) (λ a. rw a) in
       rw (t, writeOutcome) (record {
         answer-is = ap (writeDone 7 (frameAt d f)) (w .reads-are);
         directory-is = j .directory-is ∙ ap (λ (x : Directory). entered sz (touched sz (joined sz x v f) f) n) (w .directory-is);
         wear-is = w .wear-is;
         pages-are = joined-beside sz e d′ flash′ wear′ pspace bspace₁ pspace′ bspace′ v f n page j
-            ∙ ap (λ (x : Memory Page). putSlotPage (joinedPages (zeroPage sz) sz e x v f) (slotOf sz (joined sz e v f) vacant) page) (w .pages-are)
-            ∙ ap (λ (x : Directory). putSlotPage (joinedPages (zeroPage sz) sz x (steppedPages (zeroPage sz) sz d (memoryOf sz evicting) (due (frameAt d f) f)) v f) (slotOf sz (joined sz x v f) vacant) page) (w .directory-is);
+            ∙ ap (λ (x : Memory Page). putSlotPage (joinedPages (zeroPage sz) sz e x v f) (slotOf sz (joined sz e v f) vacant) page)
+            (w .pages-are)
+            ∙ ap (λ (x : Directory). putSlotPage (joinedPages (zeroPage sz) sz x
+            (steppedPages (zeroPage sz) sz d (memoryOf sz evicting) (due (frameAt d f) f)) v f) (slotOf sz (joined sz x v f) vacant)
+            page) (w .directory-is);
       })
 
 -- ---- what holds of the plan
 
-pub plan-holds : (pick : Choice) → Picks pick → (sz : Sizes) (d : Directory) → Sound sz d → (w : List ℕ) (n : ℕ) → PlanHolds sz d (plan pick sz d w n)
-plan-holds pick picks sz d s w n = let Q = PlanHolds sz d in let v : ℕ = victim sz d in let vl = victim-lt sz d s in plan-elim pick sz d w Q n
+pub plan-holds : (pick : Choice) → Picks pick → (sz : Sizes) (d : Directory) → Sound sz d → (w : List ℕ) (n : ℕ)
+    → PlanHolds sz d (plan pick sz d w n)
+plan-holds pick picks sz d s w n = let Q = PlanHolds sz d in let v : ℕ = victim sz d in let vl = victim-lt sz d s in
+    plan-elim pick sz d w Q n
     (λ h. found-slot sz d n h .0)
     (λ h l. l)
     (λ h k h2. found-slot sz d vacant h2 .0)
@@ -139,20 +190,26 @@ plan-holds pick picks sz d s w n = let Q = PlanHolds sz d in let v : ℕ = victi
 
 -- Wrote, of the wear and the pages that the buffers hold at the end
 abbrev To : Sizes → Directory → Buffers → ℕ → Page → Plan → Answer → Directory → List ℕ → Memory Page → Type 0
-To sz d u n page p a d′ w′ m′ = Carried (writeOutcome sz (state d u) n p) (memoryOf sz u) (writtenPages (zeroPage sz) sz d (memoryOf sz u) n page p) a d′ w′ m′
+To sz d u n page p a d′ w′ m′ = Carried (writeOutcome sz (state d u) n p) (memoryOf sz u)
+    (writtenPages (zeroPage sz) sz d (memoryOf sz u) n page p) a d′ w′ m′
 
-module _ (sz : Sizes) (d : Directory) (u : Buffers) (n : ℕ) (page : Page) (q : Writable sz d u n page) (found shown : code.Plan) (is-plan : planOf found ≡ plan leastRecent sz d (u .wear) n) (is-shown : found ≡ shown) where
+module _ (sz : Sizes) (d : Directory) (u : Buffers) (n : ℕ) (page : Page) (q : Writable sz d u n page) (found shown : code.Plan)
+    (is-plan : planOf found ≡ plan leastRecent sz d (u .wear) n) (is-shown : found ≡ shown) where
   pub holds : PlanHolds sz d (planOf shown)
-  holds = subst (PlanHolds sz d) (sym is-plan ∙ ap planOf is-shown) (plan-holds leastRecent leastRecent-picks sz d (q .ready .sound) (u .wear) n)
+  holds = subst (PlanHolds sz d) (sym is-plan ∙ ap planOf is-shown)
+      (plan-holds leastRecent leastRecent-picks sz d (q .ready .sound) (u .wear) n)
 
-  pub by-plan : {a : Answer} {d′ : Directory} {w′ : List ℕ} {m′ : Memory Page} → To sz d u n page (planOf shown) a d′ w′ m′ → To sz d u n page (plan leastRecent sz d (u .wear) n) a d′ w′ m′
+  pub by-plan : {a : Answer} {d′ : Directory} {w′ : List ℕ} {m′ : Memory Page} → To sz d u n page (planOf shown) a d′ w′ m′
+      → To sz d u n page (plan leastRecent sz d (u .wear) n) a d′ w′ m′
   by-plan {a} {d′} {w′} {m′} w = subst (λ (p : Plan). To sz d u n page p a d′ w′ m′) (sym (ap planOf is-shown) ∙ is-plan) w
 
 -- ---- and of ways 4 to 7
 
-module _ (sz : Sizes) (d : Directory) (u : Buffers) (n : ℕ) (page : Page) (found shown : room.Room) (q : MakesRoom sz d u (roomOf found) page) (is-shown : found ≡ shown) where
+module _ (sz : Sizes) (d : Directory) (u : Buffers) (n : ℕ) (page : Page) (found shown : room.Room)
+    (q : MakesRoom sz d u (roomOf found) page) (is-shown : found ≡ shown) where
   pub room-holds : PlanHolds sz d (roomOf shown)
   room-holds = subst (λ (r : room.Room). PlanHolds sz d (roomOf r)) is-shown (q .holds)
 
-  pub by-room : {a : Answer} {d′ : Directory} {w′ : List ℕ} {m′ : Memory Page} → To sz d u n page (roomOf shown) a d′ w′ m′ → To sz d u n page (roomOf found) a d′ w′ m′
+  pub by-room : {a : Answer} {d′ : Directory} {w′ : List ℕ} {m′ : Memory Page} → To sz d u n page (roomOf shown) a d′ w′ m′
+      → To sz d u n page (roomOf found) a d′ w′ m′
   by-room {a} {d′} {w′} {m′} w = subst (λ (r : room.Room). To sz d u n page (roomOf r) a d′ w′ m′) (sym is-shown) w

@@ -36,6 +36,7 @@ pub record Enters (sz : Sizes) (d : Directory) (f : ℕ) (pspace : List ℕ) (pa
   pub pspace-length : length pspace ≡ sz .P * sz .S
   pub page-length : length page ≡ sz .S
 
-pub record Entered (sz : Sizes) (d : Directory) (f : ℕ) (pspace : List ℕ) (n : ℕ) (page : Page) (d′ : Directory) (pspace′ : List ℕ) : Type 0 where
+pub record Entered (sz : Sizes) (d : Directory) (f : ℕ) (pspace : List ℕ) (n : ℕ) (page : Page) (d′ : Directory) (pspace′ : List ℕ) : Type
+    0 where
   pub directory-is : d′ ≡ entered sz (touched sz d f) n
   pub pages-are : slotPages sz pspace′ ≡ set (slotPages sz pspace) (slotOf sz d vacant) page

@@ -23,7 +23,8 @@ state d u = record { directory = d; wear = u .wear }
 -- the write of page n by plan p was carried out
 abbrev pub Wrote : Sizes → Directory → Buffers → ℕ → Page → Plan → Answer → Directory → Buffers → Type 0
 Wrote sz d u n page p answer d′ u′ =
-    Carried (writeOutcome sz (state d u) n p) (memoryOf sz u) (writtenPages (zeroPage sz) sz d (memoryOf sz u) n page p) answer d′ (u′ .wear) (memoryOf sz u′)
+    Carried (writeOutcome sz (state d u) n p) (memoryOf sz u) (writtenPages (zeroPage sz) sz d (memoryOf sz u) n page p) answer d′
+    (u′ .wear) (memoryOf sz u′)
 
 -- ---- one page put
 

@@ -27,8 +27,16 @@ pub fn evict(
     n: PageNo,
     page: &[u8],
 ) -> Write
-    requires { ⌜ MakesRoom (sizesOf z) (numbers (now slots) (now frames) (now valid) (now recency)) (buffers (now flash) (now wear) (now pspace) (now bspace)) (evict (v .0) f) (now page) ⌝ }
-    ensures { λ r. ⌜ Wrote (sizesOf z) (numbers (now (slots .entry)) (now (frames .entry)) (now (valid .entry)) (now (recency .entry))) (buffers (now (flash .entry)) (now (wear .entry)) (now (pspace .entry)) (now (bspace .entry))) (n .0) (now (page .entry)) (evict (v .0) f) (writeOf r) (numbers (now (slots .exit)) (now (frames .exit)) (now (valid .exit)) (now (recency .exit))) (buffers (now (flash .exit)) (now (wear .exit)) (now (pspace .exit)) (now (bspace .exit))) ⌝ }
+    requires { ⌜ (
+        let d = numbers (now slots) (now frames) (now valid) (now recency) in
+        let u = buffers (now flash) (now wear) (now pspace) (now bspace) in
+        MakesRoom (sizesOf z) d u (evict (v .0) f) (now page)) ⌝ }
+    ensures { λ r. ⌜ (
+        let d = numbers (now (slots .entry)) (now (frames .entry)) (now (valid .entry)) (now (recency .entry)) in
+        let u = buffers (now (flash .entry)) (now (wear .entry)) (now (pspace .entry)) (now (bspace .entry)) in
+        let d′ = numbers (now (slots .exit)) (now (frames .exit)) (now (valid .exit)) (now (recency .exit)) in
+        let u′ = buffers (now (flash .exit)) (now (wear .exit)) (now (pspace .exit)) (now (bspace .exit)) in
+        Wrote (sizesOf z) d u (n .0) (now (page .entry)) (evict (v .0) f) (writeOf r) d′ u′) ⌝ }
 {
     let b = BlockNo(frames[f]);
     let i = b.0 as usize;

@@ -14,7 +14,8 @@ ghost use Rattle.writes.specs.Enter.{Enters, Entered};
 
 pub fn over_slot(z: Sizes, pspace: &mut [u8], i: usize, page: &[u8])
     requires { ⌜ OverSlot (sizesOf z) i (now pspace) (now page) ⌝ }
-    ensures { λ _. ⌜ slotPages (sizesOf z) (now (pspace .exit)) ≡ set (slotPages (sizesOf z) (now (pspace .entry))) i (now (page .entry)) ⌝ }
+    ensures { λ _. ⌜ (
+        slotPages (sizesOf z) (now (pspace .exit)) ≡ set (slotPages (sizesOf z) (now (pspace .entry))) i (now (page .entry))) ⌝ }
 {
     let s = z.page_size as usize;
     page::copy_page(pspace, i, page, 0, s);
@@ -22,7 +23,9 @@ pub fn over_slot(z: Sizes, pspace: &mut [u8], i: usize, page: &[u8])
 
 pub fn over_frame_page(z: Sizes, bspace: &mut [u8], f: usize, n: PageNo, page: &[u8])
     requires { ⌜ OverFrame (sizesOf z) f (now bspace) (now page) ⌝ }
-    ensures { λ _. ⌜ framePages (sizesOf z) (now (bspace .exit)) ≡ set (framePages (sizesOf z) (now (bspace .entry))) (f * z .«pages_per_block» + n .0 % z .«pages_per_block») (now (page .entry)) ⌝ }
+    ensures { λ _. ⌜ (
+        framePages (sizesOf z) (now (bspace .exit)) ≡ set (framePages (sizesOf z) (now (bspace .entry)))
+        (f * z .«pages_per_block» + n .0 % z .«pages_per_block») (now (page .entry))) ⌝ }
 {
     let s = z.page_size as usize;
     let k = z.pages_per_block as usize;
@@ -43,7 +46,10 @@ pub fn enter(
     page: &[u8],
 )
     requires { ⌜ Enters (sizesOf z) (numbers (now slots) (now frames) (now valid) (now recency)) f (now pspace) (now page) ⌝ }
-    ensures { λ _. ⌜ Entered (sizesOf z) (numbers (now (slots .entry)) (now (frames .entry)) (now (valid .entry)) (now (recency .entry))) f (now (pspace .entry)) (n .0) (now (page .entry)) (numbers (now (slots .exit)) (now (frames .entry)) (now (valid .entry)) (now (recency .exit))) (now (pspace .exit)) ⌝ }
+    ensures { λ _. ⌜ (
+        let d = numbers (now (slots .entry)) (now (frames .entry)) (now (valid .entry)) (now (recency .entry)) in
+        let d′ = numbers (now (slots .exit)) (now (frames .entry)) (now (valid .entry)) (now (recency .exit)) in
+        Entered (sizesOf z) d f (now (pspace .entry)) (n .0) (now (page .entry)) d′ (now (pspace .exit))) ⌝ }
 {
     numbers::touch(z, recency, f);
     let i = lookup::slot_of(z, slots, PageNo(VACANT));

@@ -10,7 +10,9 @@ shl-result : tie.Need-shl-result
 shl-result c = search needs
 
 sub-result : tie.Need-sub-result
-sub-result c = rw (shl-one (c .before .args .k) (omega arith)) (pow-pos (c .before .args .k))
+sub-result c =
+    let start : tie.Start = search in
+    rw (shl-one (start .args .k) (omega arith)) (pow-pos (start .args .k))
 
 returns : tie.Need-returns
 unfolding firstBits
@@ -18,7 +20,9 @@ returns c = rw (c .if1 .taken)
 
 returns-2 : tie.Need-returns-2
 unfolding firstBits
-returns-2 c = rw (shl-one (c .before .args .k) (omega arith))
+returns-2 c =
+    let start : tie.Start = search in
+    rw (shl-one (start .args .k) (omega arith))
 
 pub first-spec : {M : Type 1} → statement M
 first-spec = tie.close (tie.spec shl-result sub-result returns returns-2)

@@ -28,8 +28,16 @@ has-requires-2 : tie.Need-has-requires-2 Inv-loop μ-loop
 has-requires-2 c κs = search needs
 
 returns : tie.Need-returns Inv-loop μ-loop
-returns c = let a = c .before .before .before .before .before .args in let l = c .before .before .before .before .loop in
-    sym (l .inv .1 ∙ from-hit (a .k) (bitWithout (a .v) (a .w)) (l .o) (c .before .before .before .loop-test .taken) (read _ _ _ _ _ _ (c .before .before .has .ensures) (c .before .has2 .ensures) (c .if1 .taken)))
+returns c =
+    let after-has2 : tie.After-has2 Inv-loop μ-loop = search in
+    let after-has : tie.After-has Inv-loop μ-loop = search in
+    let in-loop : tie.In-loop Inv-loop μ-loop = search in
+    let at-loop : tie.At-loop Inv-loop μ-loop = search in
+    let start : tie.Start Inv-loop μ-loop = search in
+    let a = start .args in
+    let l = at-loop .loop in
+    sym (l .inv .1 ∙ from-hit (a .k) (bitWithout (a .v) (a .w)) (l .o) (in-loop .loop-test .taken)
+    (read _ _ _ _ _ _ (after-has .has .ensures) (after-has2 .has2 .ensures) (c .if1 .taken)))
 
 add-o : tie.Need-add-o Inv-loop μ-loop
 add-o c = search needs
@@ -38,11 +46,26 @@ loop-less : tie.Need-loop-less Inv-loop μ-loop
 loop-less c = search needs
 
 loop-again : tie.Need-loop-again Inv-loop μ-loop
-loop-again c = let a = c .before .before .before .before .before .args in let l = c .before .before .before .before .loop in
-    (omega arith, l .inv .1 ∙ from-miss (a .k) (bitWithout (a .v) (a .w)) (l .o) (c .before .before .before .loop-test .taken) (read _ _ _ _ _ _ (c .before .before .has .ensures) (c .before .has2 .ensures) (c .if1 .left)))
+loop-again c =
+    let after-has2 : tie.After-has2 Inv-loop μ-loop = search in
+    let after-has : tie.After-has Inv-loop μ-loop = search in
+    let in-loop : tie.In-loop Inv-loop μ-loop = search in
+    let at-loop : tie.At-loop Inv-loop μ-loop = search in
+    let start : tie.Start Inv-loop μ-loop = search in
+    let a = start .args in
+    let l = at-loop .loop in (
+      omega arith,
+      l .inv .1 ∙ from-miss (a .k) (bitWithout (a .v) (a .w)) (l .o) (in-loop .loop-test .taken)
+          (read _ _ _ _ _ _ (after-has .has .ensures) (after-has2 .has2 .ensures) (c .if1 .left)),
+    )
 
 returns-2 : tie.Need-returns-2 Inv-loop μ-loop
-returns-2 c = let a = c .before .before .args in let l = c .before .loop in sym (l .inv .1 ∙ from-end (a .k) (bitWithout (a .v) (a .w)) (l .o) (c .loop-test .left))
+returns-2 c =
+    let at-loop : tie.At-loop Inv-loop μ-loop = search in
+    let start : tie.Start Inv-loop μ-loop = search in
+    let a = start .args in
+    let l = at-loop .loop in
+    sym (l .inv .1 ∙ from-end (a .k) (bitWithout (a .v) (a .w)) (l .o) (c .loop-test .left))
 
 pub next-spec : {M : Type 1} → statement M
 next-spec =

@@ -12,7 +12,7 @@ cast-result-2 c = search needs
 
 mul-result : tie.Need-mul-result
 mul-result c =
-    let start = c .before .before in
+    let start : tie.Start = search in
     let m = mul-le-mul (start .pre .K-high) (start .pre .S-high) in
     omega arith
 

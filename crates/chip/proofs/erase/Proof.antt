@@ -13,8 +13,8 @@ cast-at c = search needs
 
 fill-page-requires : tie.Need-fill-page-requires
 fill-page-requires c κs =
-    let sized = c .before .before in
-    let start = sized .before .before .before in
+    let sized : tie.After-block-size = search in
+    let start : tie.Start = search in
     rw (sized .block-size .ensures) (block-fits _ _ _ (start .args .flash .now) (start .pre .flash-length) _ (start .pre .b-lt))
 
 mul-wear : tie.Need-mul-wear
@@ -41,8 +41,9 @@ same-length-2 c = search needs
 returns : tie.Need-returns
 unfolding worn
 returns c =
-    let filled = c .before .before .before in
-    record { flash-is = rw (filled .before .before .before .block-size .ensures) at (filled .fill-page .ensures); wear-is = rw add-one }
+    let filled : tie.After-fill-page = search in
+    let after-block-size : tie.After-block-size = search in
+    record { flash-is = rw (after-block-size .block-size .ensures) at (filled .fill-page .ensures); wear-is = rw add-one }
 
 pub erase-spec : {M : Type 1} → statement M
 erase-spec =

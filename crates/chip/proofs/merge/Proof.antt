@@ -18,61 +18,103 @@ abbrev μ-loop : tie.MeasureT-loop
 μ-loop z flash b stretch₀ v s o₀ stretch o = z .«pages_per_block» - o
 
 -- the next valid offset, or K
-low : (c : tie.After-next Inv-loop μ-loop) → c .before .before .before .loop .o ≤ c .next .result
-low c = next-low _ _ _ _ (c .before .if1 .taken) (c .next .ensures)
+low : (c : tie.After-next Inv-loop μ-loop) →
+    let at-loop : tie.At-loop Inv-loop μ-loop = search in
+    at-loop .loop .o ≤ c .next .result
+low c =
+    let then1 : tie.Then1 Inv-loop μ-loop = search in
+    next-low _ _ _ _ (then1 .if1 .taken) (c .next .ensures)
 
-high : (c : tie.After-next Inv-loop μ-loop) → c .next .result ≤ c .before .before .before .before .before .before .before .args .z .«pages_per_block»
-high c = next-high _ _ _ _ (c .before .if1 .taken) (c .next .ensures)
+high : (c : tie.After-next Inv-loop μ-loop) →
+    let start : tie.Start Inv-loop μ-loop = search in
+    c .next .result ≤ start .args .z .«pages_per_block»
+high c =
+    let then1 : tie.Then1 Inv-loop μ-loop = search in
+    next-high _ _ _ _ (then1 .if1 .taken) (c .next .ensures)
 
 cast-s : tie.Need-cast-s Inv-loop μ-loop
 cast-s c = search needs
 
 loop-holds : tie.Need-loop-holds Inv-loop μ-loop
 loop-holds c =
-    let start = c .before .before .before in
+    let start : tie.Start Inv-loop μ-loop = search in
     let a = start .args in
     (start .pre, done-none _ _ _ _ (pages-length (a .z .«page_size») (a .z .«pages_per_block») (a .stretch .now)))
 
 next-requires : tie.Need-next-requires Inv-loop μ-loop
-next-requires c κs = let k = c .before .before .loop .inv .0 .limits .K-high in (omega arith, omega arith)
+next-requires c κs =
+    let at-loop : tie.At-loop Inv-loop μ-loop = search in
+    let k = at-loop .loop .inv .0 .limits .K-high in
+    (omega arith, omega arith)
 
 page-of-requires : tie.Need-page-of-requires Inv-loop μ-loop
-page-of-requires c κs = number-fits _ _ _ _ (c .before .before .before .loop .inv .0) _ (c .before .if1 .taken)
+page-of-requires c κs =
+    let then1 : tie.Then1 Inv-loop μ-loop = search in
+    let at-loop : tie.At-loop Inv-loop μ-loop = search in
+    number-fits _ _ _ _ (at-loop .loop .inv .0) _ (then1 .if1 .taken)
 
 cast-at : tie.Need-cast-at Inv-loop μ-loop
 cast-at c = search needs
 
 sub-run : tie.Need-sub-run Inv-loop μ-loop
-sub-run c = low (c .before)
+sub-run c =
+    let after-next : tie.After-next Inv-loop μ-loop = search in
+    low after-next
 
 cast-run : tie.Need-cast-run Inv-loop μ-loop
 cast-run c = search needs
 
 read-pages-requires : tie.Need-read-pages-requires Inv-loop μ-loop
 read-pages-requires c κs =
-    let inv = c .before .before .before .before .before .loop .inv in
-    let l = high (c .before .before) in
-    let m = low (c .before .before) in
-    (rw (c .before .page-of .ensures) (run-in-flash _ _ _ _ (inv .0) _ _ (omega arith)), run-in-stretch _ _ _ _ (inv .0) _ _ (omega arith))
+    let after-page-of : tie.After-page-of Inv-loop μ-loop = search in
+    let after-next : tie.After-next Inv-loop μ-loop = search in
+    let at-loop : tie.At-loop Inv-loop μ-loop = search in
+    let inv = at-loop .loop .inv in
+    let l = high after-next in
+    let m = low after-next in (
+      rw (after-page-of .page-of .ensures) (run-in-flash _ _ _ _ (inv .0) _ _ (omega arith)),
+      run-in-stretch _ _ _ _ (inv .0) _ _ (omega arith),
+    )
 
 add-o : tie.Need-add-o Inv-loop μ-loop
-add-o c = let next = c .before .before .before .before .before in let l = high next in let k = next .before .before .before .loop .inv .0 .limits .K-high in omega arith
+add-o c =
+    let next : tie.After-next Inv-loop μ-loop = search in
+    let at-loop : tie.At-loop Inv-loop μ-loop = search in
+    let l = high next in
+    let k = at-loop .loop .inv .0 .limits .K-high in
+    omega arith
 
 loop-less : tie.Need-loop-less Inv-loop μ-loop
-loop-less c = let next = c .before .before .before .before .before in let l = low next in let t = next .before .if1 .taken in omega arith
+loop-less c =
+    let next : tie.After-next Inv-loop μ-loop = search in
+    let then1 : tie.Then1 Inv-loop μ-loop = search in
+    let l = low next in
+    let t = then1 .if1 .taken in
+    omega arith
 
 loop-again : tie.Need-loop-again Inv-loop μ-loop
 loop-again c =
-    let next = c .before .before .before .before .before in
-    let inv = next .before .before .before .loop .inv in
-    let e = rw (c .before .before .before .before .page-of .ensures) at (c .before .before .read-pages .ensures) in
-    (facing-on _ _ _ _ (inv .0) _ _ refl (c .before .before .read-pages .kept .1 .1 .0), rw e (merged-turn _ _ _ _ _ _ _ _ (next .before .if1 .taken) (next .next .ensures) (inv .0) (inv .1)))
+    let after-read-pages : tie.After-read-pages Inv-loop μ-loop = search in
+    let after-page-of : tie.After-page-of Inv-loop μ-loop = search in
+    let next : tie.After-next Inv-loop μ-loop = search in
+    let then1 : tie.Then1 Inv-loop μ-loop = search in
+    let at-loop : tie.At-loop Inv-loop μ-loop = search in
+    let inv = at-loop .loop .inv in
+    let e = rw (after-page-of .page-of .ensures) at (after-read-pages .read-pages .ensures) in (
+      facing-on _ _ _ _ (inv .0) _ _ refl (omega (arith, after-read-pages .read-pages .kept)),
+      rw e (merged-turn _ _ _ _ _ _ _ _ (then1 .if1 .taken) (next .next .ensures) (inv .0) (inv .1)),
+    )
 
 same-length : tie.Need-same-length Inv-loop μ-loop
-same-length c = c .before .before .loop .inv .0 .stretch-length ∙ sym (c .before .before .before .before .before .before .pre .stretch-length)
+same-length c =
+    let at-loop : tie.At-loop Inv-loop μ-loop = search in
+    let start : tie.Start Inv-loop μ-loop = search in
+    at-loop .loop .inv .0 .stretch-length ∙ sym (start .pre .stretch-length)
 
 returns : tie.Need-returns Inv-loop μ-loop
-returns c = done-all _ _ _ _ _ _ (c .before .before .loop .inv .1) (c .if1 .left)
+returns c =
+    let at-loop : tie.At-loop Inv-loop μ-loop = search in
+    done-all _ _ _ _ _ _ (at-loop .loop .inv .1) (c .if1 .left)
 
 pub merge-spec : {M : Type 1} → statement M
 merge-spec =

@@ -13,19 +13,26 @@ use Rattle.chip.proofs.rewrite.Statement.{statement}
 use Rattle.chip.proofs.rewrite.Tie as tie
 
 abbrev start : tie.After-count → tie.Start
-start c = c .before .before .before .before
+start c = search
 
 counted : (c : tie.After-count) → c .count .result ≡ count (start c .args .z .«pages_per_block») (bit (start c .args .v))
-counted c = c .count .ensures ∙ count-within (start c .args .z .«pages_per_block») 64 _ (start c .pre .valid-lt) (start c .pre .limits .K-high)
+counted c = c .count .ensures ∙ count-within (start c .args .z .«pages_per_block») 64 _ (start c .pre .valid-lt)
+    (start c .pre .limits .K-high)
 
-fits : (c : tie.After-block-size) → HasPage (c .block-size .result) (start (c .before .before) .args .bspace .now) (start (c .before .before) .args .f)
-fits c = rw (c .block-size .ensures) (in-bspace (start (c .before .before) .pre))
+fits : (c : tie.After-block-size) →
+    let after-count : tie.After-count = search in
+    HasPage (c .block-size .result) (start after-count .args .bspace .now) (start after-count .args .f)
+fits c =
+    let after-count : tie.After-count = search in
+    rw (c .block-size .ensures) (in-bspace (start after-count .pre))
 
 count-requires : tie.Need-count-requires
 count-requires c κs = search needs
 
 sub-merged : tie.Need-sub-merged
-sub-merged c = rw (counted (c .before)) (count-le _ _)
+sub-merged c =
+    let after-count : tie.After-count = search in
+    rw (counted after-count) (count-le _ _)
 
 block-size-requires : tie.Need-block-size-requires
 block-size-requires c κs = search needs
@@ -43,7 +50,9 @@ part-merge-start : tie.Need-part-merge-start
 part-merge-start c = search needs
 
 part-merge-end : tie.Need-part-merge-end
-part-merge-end c = omega (arith, fits (c .before))
+part-merge-end c =
+    let after-block-size : tie.After-block-size = search in
+    omega (arith, fits after-block-size)
 
 merge-requires : tie.Need-merge-requires
 merge-requires c κs = search needs
@@ -59,11 +68,16 @@ part-program-block-start c = search needs
 
 part-program-block-end : tie.Need-part-program-block-end
 part-program-block-end c =
-    let sized = c .before .before .before .before .before .before .before .before .before .before .before .before .before .before in
+    let sized : tie.After-block-size = search in
     omega (arith, fits sized)
 
 program-block-requires : tie.Need-program-block-requires
-program-block-requires c κs = record { limits = search needs; b-lt = search needs; flash-length = search needs; stretch-length = search needs }
+program-block-requires c κs = record {
+  limits = search needs;
+  b-lt = search needs;
+  flash-length = search needs;
+  stretch-length = search needs;
+}
 
 same-length : tie.Need-same-length
 same-length c = search needs
@@ -77,14 +91,15 @@ same-length-3 c = search needs
 returns : tie.Need-returns
 unfolding validCount
 returns c =
-    let programs = c .before .before in
-    let erased = programs .before .before .before .before .before .before .before .before in
-    let reads = programs .before .before .before .before .before .before .before .before .before .before .before .before .before in
-    let sized = programs .before .before .before .before .before .before .before .before .before .before .before .before .before .before .before .before in
-    let at = sized .before .before in
+    let programs : tie.After-program-block = search in
+    let erased : tie.After-erase = search in
+    let reads : tie.After-merge = search in
+    let sized : tie.After-block-size = search in
+    let at : tie.After-count = search in
     record {
       reads-are = λ d e. rw e (ap (λ (x : ℕ). start at .args .z .«pages_per_block» - x) (counted at));
-      pages-are = λ d e. rewritten-is _ _ _ _ _ _ _ (start at .pre) d e _ (sized .block-size .ensures) _ (reads .merge .kept .1 .1 .1 .0) (reads .merge .ensures) _ _ _ (erased .erase .ensures) (programs .program-block .ensures);
+      pages-are = λ d e. rewritten-is _ _ _ _ _ _ _ (start at .pre) d e _ (sized .block-size .ensures) _
+          (omega (arith, reads .merge .kept)) (reads .merge .ensures) _ _ _ (erased .erase .ensures) (programs .program-block .ensures);
       wear-is = erased .erase .ensures .wear-is;
     }
 

@@ -22,7 +22,9 @@ same-length-3 : tie.Need-same-length-3
 same-length-3 c = search needs
 
 returns : tie.Need-returns
-returns c = rw (c .flush-answer .ensures) (c .before .before .before .before .before .before .before .before .flush .ensures)
+returns c =
+    let after-flush : tie.After-flush = search in
+    rw (c .flush-answer .ensures) (after-flush .flush .ensures)
 
 pub clash-flush-spec : {M : Type 1} → statement M
 clash-flush-spec =

@@ -13,7 +13,9 @@ open-answer-requires : tie.Need-open-answer-requires
 open-answer-requires c κs = search needs
 
 returns : tie.Need-returns
-returns c = rw (c .open-answer .ensures) (c .before .before .«open» .ensures)
+returns c =
+    let after-open : tie.After-open = search in
+    rw (c .open-answer .ensures) (after-open .«open» .ensures)
 
 pub clash-open-spec : {M : Type 1} → statement M
 clash-open-spec = tie.close (tie.spec open-requires open-answer-requires returns)

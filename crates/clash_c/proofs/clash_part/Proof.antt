@@ -28,7 +28,9 @@ same-length-5 : tie.Need-same-length-5
 same-length-5 c = search needs
 
 returns : tie.Need-returns
-returns c = rw (c .write-answer .ensures) (c .before .before .before .before .before .before .before .before .before .before .before .before .write-part .ensures)
+returns c =
+    let after-write-part : tie.After-write-part = search in
+    rw (c .write-answer .ensures) (after-write-part .write-part .ensures)
 
 pub clash-part-spec : {M : Type 1} → statement M
 clash-part-spec =

@@ -16,7 +16,9 @@ same-length : tie.Need-same-length
 same-length c = search needs
 
 returns : tie.Need-returns
-returns c = rw (c .read-answer .ensures) (c .before .before .before .before .read .ensures)
+returns c =
+    let after-read : tie.After-read = search in
+    rw (c .read-answer .ensures) (after-read .read .ensures)
 
 pub clash-read-spec : {M : Type 1} → statement M
 clash-read-spec = tie.close (tie.spec read-requires read-answer-requires same-length returns)

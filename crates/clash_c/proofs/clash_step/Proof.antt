@@ -22,7 +22,10 @@ same-length-3 : tie.Need-same-length-3
 same-length-3 c = search needs
 
 returns : tie.Need-returns
-returns c = rw (c .before .step-answer .ensures) (c .before .before .before .before .before .before .before .before .flush-step .ensures)
+returns c =
+    let after-step-answer : tie.After-step-answer = search in
+    let after-flush-step : tie.After-flush-step = search in
+    rw (after-step-answer .step-answer .ensures) (after-flush-step .flush-step .ensures)
 
 pub clash-step-spec : {M : Type 1} → statement M
 clash-step-spec =

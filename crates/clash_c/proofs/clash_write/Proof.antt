@@ -25,7 +25,9 @@ same-length-4 : tie.Need-same-length-4
 same-length-4 c = search needs
 
 returns : tie.Need-returns
-returns c = rw (c .write-answer .ensures) (c .before .before .before .before .before .before .before .before .before .before .write .ensures)
+returns c =
+    let after-write : tie.After-write = search in
+    rw (c .write-answer .ensures) (after-write .write .ensures)
 
 pub clash-write-spec : {M : Type 1} → statement M
 clash-write-spec =

@@ -21,10 +21,14 @@ refused-requires : tie.Need-refused-requires
 refused-requires c κs = search needs
 
 returns : tie.Need-returns
-returns c = rw (c .done .ensures) (rw (c .before .enum-told .given .1) refl)
+returns c =
+    let after-enum-told : tie.After-enum-told = search in
+    rw (c .done .ensures) (rw (after-enum-told .enum-told .given .1) refl)
 
 returns-2 : tie.Need-returns-2
-returns-2 c = rw (c .refused .ensures .1) (c .refused .ensures .0 ∙ sym (ap openingOf (c .before .before .a .given .1)))
+returns-2 c =
+    let after-a : tie.After-a = search in
+    rw (c .refused .ensures .1) (c .refused .ensures .0 ∙ sym (ap openingOf (after-a .a .given .1)))
 
 pub open-answer-spec : {M : Type 1} → statement M
 open-answer-spec =

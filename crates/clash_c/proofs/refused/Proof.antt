@@ -43,22 +43,34 @@ turned-down-requires-6 : tie.Need-turned-down-requires-6
 turned-down-requires-6 c κs = search needs
 
 returns : tie.Need-returns
-returns c = rw (c .turned-down .ensures) (rw (c .before .enum-told .given .1) (refl, refl))
+returns c =
+    let after-enum-told : tie.After-enum-told = search in
+    rw (c .turned-down .ensures) (rw (after-enum-told .enum-told .given .1) (refl, refl))
 
 returns-2 : tie.Need-returns-2
-returns-2 c = rw (c .turned-down2 .ensures) (rw (c .before .enum-told2 .given .1) (refl, refl))
+returns-2 c =
+    let after-enum-told2 : tie.After-enum-told2 = search in
+    rw (c .turned-down2 .ensures) (rw (after-enum-told2 .enum-told2 .given .1) (refl, refl))
 
 returns-3 : tie.Need-returns-3
-returns-3 c = rw (c .turned-down3 .ensures) (rw (c .before .enum-told3 .given .1) (refl, refl))
+returns-3 c =
+    let after-enum-told3 : tie.After-enum-told3 = search in
+    rw (c .turned-down3 .ensures) (rw (after-enum-told3 .enum-told3 .given .1) (refl, refl))
 
 returns-4 : tie.Need-returns-4
-returns-4 c = rw (c .turned-down4 .ensures) (rw (c .before .enum-told4 .given .1) (refl, refl))
+returns-4 c =
+    let after-enum-told4 : tie.After-enum-told4 = search in
+    rw (c .turned-down4 .ensures) (rw (after-enum-told4 .enum-told4 .given .1) (refl, refl))
 
 returns-5 : tie.Need-returns-5
-returns-5 c = rw (c .turned-down5 .ensures) (rw (c .before .enum-told5 .given .1) (refl, refl))
+returns-5 c =
+    let after-enum-told5 : tie.After-enum-told5 = search in
+    rw (c .turned-down5 .ensures) (rw (after-enum-told5 .enum-told5 .given .1) (refl, refl))
 
 returns-6 : tie.Need-returns-6
-returns-6 c = rw (c .turned-down6 .ensures) (rw (c .before .before .why .given .1) (refl, refl))
+returns-6 c =
+    let after-why : tie.After-why = search in
+    rw (c .turned-down6 .ensures) (rw (after-why .why .given .1) (refl, refl))
 
 pub refused-spec : {M : Type 1} → statement M
 refused-spec =

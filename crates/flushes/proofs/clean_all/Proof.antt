@@ -12,25 +12,36 @@ use Rattle.flushes.proofs.clean_all.Statement.{statement}
 use Rattle.flushes.proofs.clean_all.Tie as tie
 
 abbrev Inv-loop : tie.InvT-loop
-Inv-loop z slots₀ frames₀ valid₀ recency flash₀ wear₀ pspace bspace₀ rewrites₀ merged₀ slots frames valid flash wear bspace rewrites merged =
-    Underway (sizesOf z) (numbers slots₀ frames₀ valid₀ recency) (buffers flash₀ wear₀ pspace bspace₀) (numbers slots frames valid recency) (buffers flash wear pspace bspace) rewrites merged
+Inv-loop z slots₀ frames₀ valid₀ recency flash₀ wear₀ pspace bspace₀ rewrites₀ merged₀ slots frames valid flash wear bspace rewrites
+    merged =
+    Underway (sizesOf z) (numbers slots₀ frames₀ valid₀ recency) (buffers flash₀ wear₀ pspace bspace₀) (numbers slots frames valid recency)
+    (buffers flash wear pspace bspace) rewrites merged
 
 abbrev μ-loop : tie.MeasureT-loop
-μ-loop z slots₀ frames₀ valid₀ recency flash₀ wear₀ pspace bspace₀ rewrites₀ merged₀ slots frames valid flash wear bspace rewrites merged = z .blocks - rewrites
+μ-loop z slots₀ frames₀ valid₀ recency flash₀ wear₀ pspace bspace₀ rewrites₀ merged₀ slots frames valid flash wear bspace rewrites
+    merged = z .blocks - rewrites
 
 abbrev head : tie.After-due2 Inv-loop μ-loop → tie.At-loop Inv-loop μ-loop
-head c = c .before .before .before .before .before
+head c = search
 
 -- the block and the frame that are due
-found : (c : tie.After-due2 Inv-loop μ-loop) → let a = head c .before .before .before .before .before .args in due (c .due2 .given .0 .0 .0) (c .due2 .given .0 .1 .0)
+found : (c : tie.After-due2 Inv-loop μ-loop) →
+    let start : tie.Start Inv-loop μ-loop = search in
+    let a = start .args in due (c .due2 .given .0 .0 .0) (c .due2 .given .0 .1 .0)
     ≡ dueOf leastRecent (sizesOf (a .z)) (numbers (head c .loop .slots) (head c .loop .frames) (head c .loop .valid) (a .recency .now))
-found c = sym (ap dueView (c .due2 .given .1)) ∙ c .before .before .due .ensures ∙ due-same _ _ _ _ _
+found c =
+    let after-due : tie.After-due Inv-loop μ-loop = search in
+    sym (ap dueView (c .due2 .given .1)) ∙ after-due .due .ensures ∙ due-same _ _ _ _ _
 
 loop-holds : tie.Need-loop-holds Inv-loop μ-loop
-loop-holds c = begins (c .before .before .before .before .pre)
+loop-holds c =
+    let start : tie.Start Inv-loop μ-loop = search in
+    begins (start .pre)
 
 due-requires : tie.Need-due-requires Inv-loop μ-loop
-due-requires c κs = record { valid = _; sound = c .before .before .loop .inv .ready .sound }
+due-requires c κs =
+    let at-loop : tie.At-loop Inv-loop μ-loop = search in
+    record { valid = _; sound = at-loop .loop .inv .ready .sound }
 
 enum-known-due : tie.Need-enum-known-due Inv-loop μ-loop
 enum-known-due c = search needs
@@ -48,25 +59,44 @@ same-length-3 : tie.Need-same-length-3 Inv-loop μ-loop
 same-length-3 c = search needs
 
 returns : tie.Need-returns Inv-loop μ-loop
-returns c = flush-done (c .before .before .before .before .before .loop .inv) (c .before .before .before .before .before .before .before .before .before .before .pre) (sym (ap dueView (c .enum-told .given .1)) ∙ c .before .before .due .ensures ∙ due-same _ _ _ _ _)
+returns c =
+    let after-due : tie.After-due Inv-loop μ-loop = search in
+    let at-loop : tie.At-loop Inv-loop μ-loop = search in
+    let start : tie.Start Inv-loop μ-loop = search in
+    flush-done (at-loop .loop .inv) (start .pre) (sym (ap dueView (c .enum-told .given .1)) ∙ after-due .due .ensures ∙ due-same _ _ _ _ _)
 
 clean-block-requires : tie.Need-clean-block-requires Inv-loop μ-loop
-clean-block-requires c κs = let at = c .before .before .before .before .before .before .before in cleanable (head at .loop .inv) _ _ (found at)
+clean-block-requires c κs =
+    let at : tie.After-due2 Inv-loop μ-loop = search in
+    cleanable (head at .loop .inv) _ _ (found at)
 
 add-rewrites : tie.Need-add-rewrites Inv-loop μ-loop
-add-rewrites c = let at = c .before .before .before .before .before .before .before .before .before .before .before .before .before .before in let l = left (head at .loop .inv) _ _ (found at) in let n = head at .loop .inv .ready .sound .limits .N-high in omega arith
+add-rewrites c =
+    let at : tie.After-due2 Inv-loop μ-loop = search in
+    let l = left (head at .loop .inv) _ _ (found at) in
+    let n = head at .loop .inv .ready .sound .limits .N-high in
+    omega arith
 
 add-merged : tie.Need-add-merged Inv-loop μ-loop
-add-merged c = let at = c .before .before .before .before .before .before .before .before .before .before .before .before .before .before in let h = merges-small (head at .loop .inv) _ _ (found at) (c .before .before .before .before .before .before .clean-block .ensures) in omega arith
+add-merged c =
+    let after-clean-block : tie.After-clean-block Inv-loop μ-loop = search in
+    let at : tie.After-due2 Inv-loop μ-loop = search in
+    let h = merges-small (head at .loop .inv) _ _ (found at) (after-clean-block .clean-block .ensures) in
+    omega arith
 
 loop-less : tie.Need-loop-less Inv-loop μ-loop
-loop-less c = let at = c .before .before .before .before .before .before .before .before .before .before .before .before .before .before in let l = left (head at .loop .inv) _ _ (found at) in omega arith
+loop-less c =
+    let at : tie.After-due2 Inv-loop μ-loop = search in
+    let l = left (head at .loop .inv) _ _ (found at) in
+    omega arith
 
 loop-again : tie.Need-loop-again Inv-loop μ-loop
 loop-again c =
-    let at = c .before .before .before .before .before .before .before .before .before .before .before .before .before .before in
-    let cleaned = c .before .before .before .before .before .before .clean-block in
-    turns (head at .loop .inv) _ _ (found at) (cleaned .ensures) (fits-kept _ _ _ (head at .loop .inv .ready .fits) (cleaned .kept .1 .1 .1 .1 .1 .0) (cleaned .kept .1 .1 .1 .1 .1 .1 .0) (cleaned .kept .1 .1 .1 .1 .1 .1 .1 .1 .0)) _ _ (omega arith) (omega arith)
+    let after-clean-block : tie.After-clean-block Inv-loop μ-loop = search in
+    let at : tie.After-due2 Inv-loop μ-loop = search in
+    let cleaned = after-clean-block .clean-block in
+    turns (head at .loop .inv) _ _ (found at) (cleaned .ensures) (fits-kept _ _ _ (head at .loop .inv .ready .fits)
+    (omega (arith, cleaned .kept)) (omega (arith, cleaned .kept)) (omega (arith, cleaned .kept))) _ _ (omega arith) (omega arith)
 
 pub clean-all-spec : {M : Type 1} → statement M
 clean-all-spec =

@@ -6,18 +6,24 @@ use Rattle.flushes.proofs.flush.Statement.{statement}
 use Rattle.flushes.proofs.flush.Tie as tie
 
 lowest-worn-requires : tie.Need-lowest-worn-requires
-lowest-worn-requires c κs = let q = c .before .before .before .before .before .before .before .pre in record { valid = _; recency = _; with-wear = record { sound = q .sound; wear-length = q .fits .wear-length } }
+lowest-worn-requires c κs =
+    let start : tie.Start = search in
+    let q = start .pre in
+    record { valid = _; recency = _; with-wear = record { sound = q .sound; wear-length = q .fits .wear-length } }
 
 same-length : tie.Need-same-length
 same-length c = search needs
 
 returns : tie.Need-returns
-returns c = flush-worn _ _ _ _ (c .before .before .lowest-worn .ensures ∙ worn-same _ _ _ _ _ _) (c .if1 .taken)
+returns c =
+    let after-lowest-worn : tie.After-lowest-worn = search in
+    flush-worn _ _ _ _ (after-lowest-worn .lowest-worn .ensures ∙ worn-same _ _ _ _ _ _) (c .if1 .taken)
 
 clean-all-requires : tie.Need-clean-all-requires
 clean-all-requires c κs =
-    let start = c .before .before .before .before .before .before .before .before .before .before .before .before .before .before .before .before in
-    let e = c .before .before .before .before .before .before .before .before .lowest-worn .ensures ∙ worn-same _ _ _ (start .args .valid .now) (start .args .recency .now) _ in
+    let after-lowest-worn : tie.After-lowest-worn = search in
+    let start : tie.Start = search in
+    let e = after-lowest-worn .lowest-worn .ensures ∙ worn-same _ _ _ (start .args .valid .now) (start .args .recency .now) _ in
     record { ready = start .pre; none-worn = omega arith }
 
 same-length-2 : tie.Need-same-length-2

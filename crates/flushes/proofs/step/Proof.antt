@@ -8,15 +8,20 @@ use Rattle.flushes.proofs.step.Statement.{statement}
 use Rattle.flushes.proofs.step.Tie as tie
 
 abbrev start : tie.After-due2 → tie.Start
-start c = c .before .before .before .before .before .before .before .before .before
+start c = search
 
 -- the block and the frame that are due
 found : (c : tie.After-due2) → due (c .due2 .given .0 .0 .0) (c .due2 .given .0 .1 .0)
-    ≡ dueOf leastRecent (sizesOf (start c .args .z)) (numbers (start c .args .slots .now) (start c .args .frames .now) (start c .args .valid .now) (start c .args .recency .now))
-found c = sym (ap dueView (c .due2 .given .1)) ∙ c .before .before .due .ensures ∙ due-same _ _ _ _ _
+    ≡ dueOf leastRecent (sizesOf (start c .args .z)) (numbers (start c .args .slots .now) (start c .args .frames .now)
+    (start c .args .valid .now) (start c .args .recency .now))
+found c =
+    let after-due : tie.After-due = search in
+    sym (ap dueView (c .due2 .given .1)) ∙ after-due .due .ensures ∙ due-same _ _ _ _ _
 
 due-requires : tie.Need-due-requires
-due-requires c κs = record { valid = _; sound = c .before .before .before .before .before .before .pre .sound }
+due-requires c κs =
+    let entry : tie.Start = search in
+    record { valid = _; sound = entry .pre .sound }
 
 enum-known-due : tie.Need-enum-known-due
 enum-known-due c = search needs
@@ -25,19 +30,31 @@ enum-told : tie.Need-enum-told
 enum-told c = search needs
 
 returns : tie.Need-returns
-returns c = step-clean (c .before .before .before .before .before .before .before .before .before .pre) (sym (ap dueView (c .enum-told .given .1)) ∙ c .before .before .due .ensures ∙ due-same _ _ _ _ _)
+returns c =
+    let after-due : tie.After-due = search in
+    let entry : tie.Start = search in
+    step-clean (entry .pre) (sym (ap dueView (c .enum-told .given .1)) ∙ after-due .due .ensures ∙ due-same _ _ _ _ _)
 
 is-worn-requires : tie.Need-is-worn-requires
-is-worn-requires c κs = let at = c .before .before in has-wear (start at .pre) _ _ (found at)
+is-worn-requires c κs =
+    let at : tie.After-due2 = search in
+    has-wear (start at .pre) _ _ (found at)
 
 same-length : tie.Need-same-length
 same-length c = search needs
 
 returns-2 : tie.Need-returns-2
-returns-2 c = let at = c .before .before .before .before in step-worn (start at .pre) _ _ (found at) (sym (c .before .is-worn .ensures) ∙ c .if1 .taken)
+returns-2 c =
+    let after-is-worn : tie.After-is-worn = search in
+    let at : tie.After-due2 = search in
+    step-worn (start at .pre) _ _ (found at) (sym (after-is-worn .is-worn .ensures) ∙ c .if1 .taken)
 
 clean-block-requires : tie.Need-clean-block-requires
-clean-block-requires c κs = let at = c .before .before .before .before .before .before .before .before .before .before in cleanable (start at .pre) _ _ (found at) (sym (c .before .before .before .before .before .before .before .is-worn .ensures) ∙ c .before .before .before .before .before .before .if1 .left)
+clean-block-requires c κs =
+    let else1 : tie.Else1 = search in
+    let after-is-worn : tie.After-is-worn = search in
+    let at : tie.After-due2 = search in
+    cleanable (start at .pre) _ _ (found at) (sym (after-is-worn .is-worn .ensures) ∙ else1 .if1 .left)
 
 same-length-2 : tie.Need-same-length-2
 same-length-2 c = search needs
@@ -49,7 +66,13 @@ same-length-4 : tie.Need-same-length-4
 same-length-4 c = search needs
 
 returns-3 : tie.Need-returns-3
-returns-3 c = let at = c .before .before .before .before .before .before .before .before .before .before .before .before .before .before .before .before .before in step-done (start at .pre) _ _ (found at) (sym (c .before .before .before .before .before .before .before .before .before .before .before .before .before .before .is-worn .ensures) ∙ c .before .before .before .before .before .before .before .before .before .before .before .before .before .if1 .left) (c .before .before .before .before .before .before .clean-block .ensures)
+returns-3 c =
+    let after-clean-block : tie.After-clean-block = search in
+    let else1 : tie.Else1 = search in
+    let after-is-worn : tie.After-is-worn = search in
+    let at : tie.After-due2 = search in
+    step-done (start at .pre) _ _ (found at) (sym (after-is-worn .is-worn .ensures) ∙ else1 .if1 .left)
+    (after-clean-block .clean-block .ensures)
 
 pub step-spec : {M : Type 1} → statement M
 step-spec =

@@ -47,7 +47,9 @@ array-share-prefix-got : tie.Need-array-share-prefix-got
 array-share-prefix-got c = search needs
 
 slice-aggregate-compared-2 : tie.Need-slice-aggregate-compared-2
-slice-aggregate-compared-2 c = sym (length-take-le _ _ (c .before .before .before .output .ensures .within))
+slice-aggregate-compared-2 c =
+    let after-output : tie.After-output = search in
+    sym (length-take-le _ _ (after-output .output .ensures .within))
 
 compared-requires : tie.Need-compared-requires
 compared-requires c κs = search needs

@@ -12,19 +12,28 @@ enum-known-form : tie.Need-enum-known-form
 enum-known-form c = search needs
 
 opened-requires : tie.Need-opened-requires
-opened-requires c κs = lent-open _ _ _ _ (c .before .before .before .before .before .before .before .before .before .before .before .before .before .before .args .form) (c .before .before .before .before .before .before .before .before .before .before .before .before .before .before .pre) _ (c .before .before .before .before .before .before .form .given .1)
+opened-requires c κs =
+    let after-form : tie.After-form = search in
+    let start : tie.Start = search in
+    lent-open _ _ _ _ (start .args .form) (start .pre) _ (after-form .form .given .1)
 
 enum-known-form-2 : tie.Need-enum-known-form-2
 enum-known-form-2 c = search needs
 
 written-requires : tie.Need-written-requires
-written-requires c κs = lent-page _ _ _ _ (c .before .before .before .before .before .before .before .before .before .before .before .before .before .before .before .args .form) (c .before .before .before .before .before .before .before .before .before .before .before .before .before .before .before .pre) _ (c .before .before .before .before .before .before .before .form2 .given .1) refl
+written-requires c κs =
+    let after-form2 : tie.After-form2 = search in
+    let start : tie.Start = search in
+    lent-page _ _ _ _ (start .args .form) (start .pre) _ (after-form2 .form2 .given .1) refl
 
 enum-known-form-3 : tie.Need-enum-known-form-3
 enum-known-form-3 c = search needs
 
 was-read-requires : tie.Need-was-read-requires
-was-read-requires c κs = lent-page _ _ _ _ (c .before .before .before .before .before .before .before .before .before .before .before .before .before .before .before .args .form) (c .before .before .before .before .before .before .before .before .before .before .before .before .before .before .before .pre) _ (c .before .before .before .before .before .before .before .form3 .given .1) refl
+was-read-requires c κs =
+    let after-form3 : tie.After-form3 = search in
+    let start : tie.Start = search in
+    lent-page _ _ _ _ (start .args .form) (start .pre) _ (after-form3 .form3 .given .1) refl
 
 enum-told : tie.Need-enum-told
 enum-told c = search needs
@@ -72,7 +81,10 @@ same-length-5 : tie.Need-same-length-5
 same-length-5 c = search needs
 
 returns : tie.Need-returns
-returns c = rw (c .before .before .before .before .before .before .before .before .before .before .before .before .before .before .before .before .before .form .given .1) (c .before .before .before .before .before .before .before .before .before .before .opened .ensures)
+returns c =
+    let after-opened : tie.After-opened = search in
+    let after-form : tie.After-form = search in
+    rw (after-form .form .given .1) (after-opened .opened .ensures)
 
 same-length-6 : tie.Need-same-length-6
 same-length-6 c = search needs
@@ -93,7 +105,10 @@ same-length-11 : tie.Need-same-length-11
 same-length-11 c = search needs
 
 returns-2 : tie.Need-returns-2
-returns-2 c = rw (c .before .before .before .before .before .before .before .before .before .before .before .before .before .before .before .before .before .before .before .before .form2 .given .1) (c .before .before .before .before .before .before .before .before .before .before .before .before .written .ensures)
+returns-2 c =
+    let after-written : tie.After-written = search in
+    let after-form2 : tie.After-form2 = search in
+    rw (after-form2 .form2 .given .1) (after-written .written .ensures)
 
 same-length-12 : tie.Need-same-length-12
 same-length-12 c = search needs
@@ -114,7 +129,10 @@ same-length-17 : tie.Need-same-length-17
 same-length-17 c = search needs
 
 returns-3 : tie.Need-returns-3
-returns-3 c = rw (c .before .before .before .before .before .before .before .before .before .before .before .before .form3 .given .1) (c .before .before .before .before .was-read .ensures)
+returns-3 c =
+    let after-was-read : tie.After-was-read = search in
+    let after-form3 : tie.After-form3 = search in
+    rw (after-form3 .form3 .given .1) (after-was-read .was-read .ensures)
 
 same-length-18 : tie.Need-same-length-18
 same-length-18 c = search needs
@@ -132,7 +150,10 @@ same-length-22 : tie.Need-same-length-22
 same-length-22 c = search needs
 
 returns-4 : tie.Need-returns-4
-returns-4 c = rw (c .before .before .before .before .before .before .before .before .before .before .before .before .before .before .enum-told .given .1) (c .before .before .before .before .before .before .before .before .stepped .ensures)
+returns-4 c =
+    let after-stepped : tie.After-stepped = search in
+    let after-enum-told : tie.After-enum-told = search in
+    rw (after-enum-told .enum-told .given .1) (after-stepped .stepped .ensures)
 
 same-length-23 : tie.Need-same-length-23
 same-length-23 c = search needs
@@ -150,7 +171,10 @@ same-length-27 : tie.Need-same-length-27
 same-length-27 c = search needs
 
 returns-5 : tie.Need-returns-5
-returns-5 c = rw (c .before .before .before .before .before .before .before .before .before .before .before .before .before .before .enum-told2 .given .1) (c .before .before .before .before .before .before .before .before .flushed .ensures)
+returns-5 c =
+    let after-flushed : tie.After-flushed = search in
+    let after-enum-told2 : tie.After-enum-told2 = search in
+    rw (after-enum-told2 .enum-told2 .given .1) (after-flushed .flushed .ensures)
 
 same-length-28 : tie.Need-same-length-28
 same-length-28 c = search needs
@@ -159,13 +183,23 @@ same-length-29 : tie.Need-same-length-29
 same-length-29 c = search needs
 
 returns-6 : tie.Need-returns-6
-returns-6 c = rw (c .before .before .before .before .before .before .enum-told3 .given .1, c .printed .ensures) (carries {room = wearRoom (length (c .before .before .before .before .before .before .before .before .before .before .before .before .before .before .args .wear .now))} (let h = c .before .before .before .before .before .before .before .before .before .before .before .before .before .before .pre .wear-room in omega arith) refl (c .before .before .before .put-wear .ensures))
+returns-6 c =
+    let after-put-wear : tie.After-put-wear = search in
+    let after-enum-told3 : tie.After-enum-told3 = search in
+    let start : tie.Start = search in
+    rw (after-enum-told3 .enum-told3 .given .1, c .printed .ensures)
+    (carries {room = wearRoom (length (start .args .wear .now))} (let h = start .pre .wear-room in omega arith) refl
+    (after-put-wear .put-wear .ensures))
 
 same-length-30 : tie.Need-same-length-30
 same-length-30 c = search needs
 
 returns-7 : tie.Need-returns-7
-returns-7 c = rw (c .before .before .before .before .before .enum-told4 .given .1, c .printed2 .ensures) (carries {room = lineRoom} (omega arith) refl (c .before .before .before .put-bad .ensures))
+returns-7 c =
+    let after-put-bad : tie.After-put-bad = search in
+    let after-enum-told4 : tie.After-enum-told4 = search in
+    rw (after-enum-told4 .enum-told4 .given .1, c .printed2 .ensures)
+    (carries {room = lineRoom} (omega arith) refl (after-put-bad .put-bad .ensures))
 
 pub carry-spec : {M : Type 1} → statement M
 carry-spec =

@@ -22,7 +22,10 @@ same-length-4 : tie.Need-same-length-4
 same-length-4 c = search needs
 
 returns : tie.Need-returns
-returns c = flush-carries _ _ _ _ _ (c .before .before .before .before .before .before .before .before .before .before .before .flush .result) (c .before .before .before .before .before .before .before .before .before .before .before .flush .ensures) (c .before .before .flush2 .ensures)
+returns c =
+    let after-flush2 : tie.After-flush2 = search in
+    let after-flush : tie.After-flush = search in
+    flush-carries _ _ _ _ _ (after-flush .flush .result) (after-flush .flush .ensures) (after-flush2 .flush2 .ensures)
 
 pub flushed-spec : {M : Type 1} → statement M
 flushed-spec =

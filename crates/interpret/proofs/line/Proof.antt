@@ -1,3 +1,4 @@
+use native.Mathlib.Omega.{arith}
 use borrow.Author.Needs.{needs}
 use mathlib.Core.Path.{sym, _∙_}
 use Rattle.script.specs.View.{meant}
@@ -9,43 +10,111 @@ sizes-after-requires : tie.Need-sizes-after-requires
 sizes-after-requires c κs = search needs
 
 lengths-requires : tie.Need-lengths-requires
-lengths-requires c κs = held-as _ _ (meant (c .before .before .before .before .before .before .before .args .form)) (c .sizes-after .ensures) (c .before .before .before .before .before .before .before .pre .held) (c .before .before .before .before .before .before .before .pre .sized)
+lengths-requires c κs =
+    let start : tie.Start = search in
+    held-as _ _ (meant (start .args .form)) (c .sizes-after .ensures) (start .pre .held) (start .pre .sized)
 
 slice-relend-prefix-carry : tie.Need-slice-relend-prefix-carry
-slice-relend-prefix-carry c = front-le _ _ (c .before .before .before .before .before .before .before .before .args .flash .now) (c .before .before .before .before .before .before .before .before .pre .memory .flash-length) ((parts-within _ _ (c .lengths .ensures) (held-as _ _ (meant (c .before .before .before .before .before .before .before .before .args .form)) (c .before .sizes-after .ensures) (c .before .before .before .before .before .before .before .before .pre .held) (c .before .before .before .before .before .before .before .before .pre .sized))) .flash-within)
+slice-relend-prefix-carry c =
+    let after-sizes-after : tie.After-sizes-after = search in
+    let start : tie.Start = search in
+    front-le _ _ (start .args .flash .now) (start .pre .memory .flash-length)
+    ((parts-within _ _ (c .lengths .ensures) (held-as _ _ (meant (start .args .form)) (after-sizes-after .sizes-after .ensures)
+    (start .pre .held) (start .pre .sized))) .flash-within)
 
 slice-aggregate-carry : tie.Need-slice-aggregate-carry
-slice-aggregate-carry c = front-long _ _ (c .before .before .before .before .before .before .before .before .before .args .flash .now) (c .before .before .before .before .before .before .before .before .before .pre .memory .flash-length) ((parts-within _ _ (c .before .lengths .ensures) (held-as _ _ (meant (c .before .before .before .before .before .before .before .before .before .args .form)) (c .before .before .sizes-after .ensures) (c .before .before .before .before .before .before .before .before .before .pre .held) (c .before .before .before .before .before .before .before .before .before .pre .sized))) .flash-within)
+slice-aggregate-carry c =
+    let after-lengths : tie.After-lengths = search in
+    let after-sizes-after : tie.After-sizes-after = search in
+    let start : tie.Start = search in
+    front-long _ _ (start .args .flash .now) (start .pre .memory .flash-length)
+    ((parts-within _ _ (after-lengths .lengths .ensures) (held-as _ _ (meant (start .args .form))
+    (after-sizes-after .sizes-after .ensures) (start .pre .held) (start .pre .sized))) .flash-within)
 
 slice-relend-prefix-carry-2 : tie.Need-slice-relend-prefix-carry-2
-slice-relend-prefix-carry-2 c = front-le _ _ (c .before .before .before .before .before .before .before .before .before .args .wear .now) (c .before .before .before .before .before .before .before .before .before .pre .memory .wear-length) ((parts-within _ _ (c .before .lengths .ensures) (held-as _ _ (meant (c .before .before .before .before .before .before .before .before .before .args .form)) (c .before .before .sizes-after .ensures) (c .before .before .before .before .before .before .before .before .before .pre .held) (c .before .before .before .before .before .before .before .before .before .pre .sized))) .wear-within)
+slice-relend-prefix-carry-2 c =
+    let after-lengths : tie.After-lengths = search in
+    let after-sizes-after : tie.After-sizes-after = search in
+    let start : tie.Start = search in
+    front-le _ _ (start .args .wear .now) (start .pre .memory .wear-length)
+    ((parts-within _ _ (after-lengths .lengths .ensures) (held-as _ _ (meant (start .args .form))
+    (after-sizes-after .sizes-after .ensures) (start .pre .held) (start .pre .sized))) .wear-within)
 
 slice-aggregate-carry-2 : tie.Need-slice-aggregate-carry-2
-slice-aggregate-carry-2 c = front-long _ _ (c .before .before .before .before .before .before .before .before .before .before .args .wear .now) (c .before .before .before .before .before .before .before .before .before .before .pre .memory .wear-length) ((parts-within _ _ (c .before .before .lengths .ensures) (held-as _ _ (meant (c .before .before .before .before .before .before .before .before .before .before .args .form)) (c .before .before .before .sizes-after .ensures) (c .before .before .before .before .before .before .before .before .before .before .pre .held) (c .before .before .before .before .before .before .before .before .before .before .pre .sized))) .wear-within)
+slice-aggregate-carry-2 c =
+    let after-lengths : tie.After-lengths = search in
+    let after-sizes-after : tie.After-sizes-after = search in
+    let start : tie.Start = search in
+    front-long _ _ (start .args .wear .now) (start .pre .memory .wear-length)
+    ((parts-within _ _ (after-lengths .lengths .ensures) (held-as _ _ (meant (start .args .form))
+    (after-sizes-after .sizes-after .ensures) (start .pre .held) (start .pre .sized))) .wear-within)
 
 slice-relend-prefix-carry-3 : tie.Need-slice-relend-prefix-carry-3
-slice-relend-prefix-carry-3 c = front-le _ _ (c .before .before .before .before .before .before .before .before .before .before .args .pspace .now) (c .before .before .before .before .before .before .before .before .before .before .pre .memory .pspace-length) ((parts-within _ _ (c .before .before .lengths .ensures) (held-as _ _ (meant (c .before .before .before .before .before .before .before .before .before .before .args .form)) (c .before .before .before .sizes-after .ensures) (c .before .before .before .before .before .before .before .before .before .before .pre .held) (c .before .before .before .before .before .before .before .before .before .before .pre .sized))) .pspace-within)
+slice-relend-prefix-carry-3 c =
+    let after-lengths : tie.After-lengths = search in
+    let after-sizes-after : tie.After-sizes-after = search in
+    let start : tie.Start = search in
+    front-le _ _ (start .args .pspace .now) (start .pre .memory .pspace-length)
+    ((parts-within _ _ (after-lengths .lengths .ensures) (held-as _ _ (meant (start .args .form))
+    (after-sizes-after .sizes-after .ensures) (start .pre .held) (start .pre .sized))) .pspace-within)
 
 slice-aggregate-carry-3 : tie.Need-slice-aggregate-carry-3
-slice-aggregate-carry-3 c = front-long _ _ (c .before .before .before .before .before .before .before .before .before .before .before .args .pspace .now) (c .before .before .before .before .before .before .before .before .before .before .before .pre .memory .pspace-length) ((parts-within _ _ (c .before .before .before .lengths .ensures) (held-as _ _ (meant (c .before .before .before .before .before .before .before .before .before .before .before .args .form)) (c .before .before .before .before .sizes-after .ensures) (c .before .before .before .before .before .before .before .before .before .before .before .pre .held) (c .before .before .before .before .before .before .before .before .before .before .before .pre .sized))) .pspace-within)
+slice-aggregate-carry-3 c =
+    let after-lengths : tie.After-lengths = search in
+    let after-sizes-after : tie.After-sizes-after = search in
+    let start : tie.Start = search in
+    front-long _ _ (start .args .pspace .now) (start .pre .memory .pspace-length)
+    ((parts-within _ _ (after-lengths .lengths .ensures) (held-as _ _ (meant (start .args .form))
+    (after-sizes-after .sizes-after .ensures) (start .pre .held) (start .pre .sized))) .pspace-within)
 
 slice-relend-prefix-carry-4 : tie.Need-slice-relend-prefix-carry-4
-slice-relend-prefix-carry-4 c = front-le _ _ (c .before .before .before .before .before .before .before .before .before .before .before .args .bspace .now) (c .before .before .before .before .before .before .before .before .before .before .before .pre .memory .bspace-length) ((parts-within _ _ (c .before .before .before .lengths .ensures) (held-as _ _ (meant (c .before .before .before .before .before .before .before .before .before .before .before .args .form)) (c .before .before .before .before .sizes-after .ensures) (c .before .before .before .before .before .before .before .before .before .before .before .pre .held) (c .before .before .before .before .before .before .before .before .before .before .before .pre .sized))) .bspace-within)
+slice-relend-prefix-carry-4 c =
+    let after-lengths : tie.After-lengths = search in
+    let after-sizes-after : tie.After-sizes-after = search in
+    let start : tie.Start = search in
+    front-le _ _ (start .args .bspace .now) (start .pre .memory .bspace-length)
+    ((parts-within _ _ (after-lengths .lengths .ensures) (held-as _ _ (meant (start .args .form))
+    (after-sizes-after .sizes-after .ensures) (start .pre .held) (start .pre .sized))) .bspace-within)
 
 slice-aggregate-carry-4 : tie.Need-slice-aggregate-carry-4
-slice-aggregate-carry-4 c = front-long _ _ (c .before .before .before .before .before .before .before .before .before .before .before .before .args .bspace .now) (c .before .before .before .before .before .before .before .before .before .before .before .before .pre .memory .bspace-length) ((parts-within _ _ (c .before .before .before .before .lengths .ensures) (held-as _ _ (meant (c .before .before .before .before .before .before .before .before .before .before .before .before .args .form)) (c .before .before .before .before .before .sizes-after .ensures) (c .before .before .before .before .before .before .before .before .before .before .before .before .pre .held) (c .before .before .before .before .before .before .before .before .before .before .before .before .pre .sized))) .bspace-within)
+slice-aggregate-carry-4 c =
+    let after-lengths : tie.After-lengths = search in
+    let after-sizes-after : tie.After-sizes-after = search in
+    let start : tie.Start = search in
+    front-long _ _ (start .args .bspace .now) (start .pre .memory .bspace-length)
+    ((parts-within _ _ (after-lengths .lengths .ensures) (held-as _ _ (meant (start .args .form))
+    (after-sizes-after .sizes-after .ensures) (start .pre .held) (start .pre .sized))) .bspace-within)
 
 slice-relend-prefix-carry-5 : tie.Need-slice-relend-prefix-carry-5
-slice-relend-prefix-carry-5 c = front-le _ _ (c .before .before .before .before .before .before .before .before .before .before .before .before .args .page .now) (c .before .before .before .before .before .before .before .before .before .before .before .before .pre .memory .page-length) ((parts-within _ _ (c .before .before .before .before .lengths .ensures) (held-as _ _ (meant (c .before .before .before .before .before .before .before .before .before .before .before .before .args .form)) (c .before .before .before .before .before .sizes-after .ensures) (c .before .before .before .before .before .before .before .before .before .before .before .before .pre .held) (c .before .before .before .before .before .before .before .before .before .before .before .before .pre .sized))) .page-within)
+slice-relend-prefix-carry-5 c =
+    let after-lengths : tie.After-lengths = search in
+    let after-sizes-after : tie.After-sizes-after = search in
+    let start : tie.Start = search in
+    front-le _ _ (start .args .page .now) (start .pre .memory .page-length)
+    ((parts-within _ _ (after-lengths .lengths .ensures) (held-as _ _ (meant (start .args .form))
+    (after-sizes-after .sizes-after .ensures) (start .pre .held) (start .pre .sized))) .page-within)
 
 slice-aggregate-carry-5 : tie.Need-slice-aggregate-carry-5
-slice-aggregate-carry-5 c = front-long _ _ (c .before .before .before .before .before .before .before .before .before .before .before .before .before .args .page .now) (c .before .before .before .before .before .before .before .before .before .before .before .before .before .pre .memory .page-length) ((parts-within _ _ (c .before .before .before .before .before .lengths .ensures) (held-as _ _ (meant (c .before .before .before .before .before .before .before .before .before .before .before .before .before .args .form)) (c .before .before .before .before .before .before .sizes-after .ensures) (c .before .before .before .before .before .before .before .before .before .before .before .before .before .pre .held) (c .before .before .before .before .before .before .before .before .before .before .before .before .before .pre .sized))) .page-within)
+slice-aggregate-carry-5 c =
+    let after-lengths : tie.After-lengths = search in
+    let after-sizes-after : tie.After-sizes-after = search in
+    let start : tie.Start = search in
+    front-long _ _ (start .args .page .now) (start .pre .memory .page-length)
+    ((parts-within _ _ (after-lengths .lengths .ensures) (held-as _ _ (meant (start .args .form))
+    (after-sizes-after .sizes-after .ensures) (start .pre .held) (start .pre .sized))) .page-within)
 
 carry-requires : tie.Need-carry-requires
 carry-requires c κs =
-    let q = c .before .before .before .before .before .before .before .before .before .before .before .before .before .before .pre in
-    let a = c .before .before .before .before .before .before .before .before .before .before .before .before .before .before .args in
-    lent-parts _ _ (c .before .before .before .before .before .before .lengths .ensures) (a .flash .now) (a .wear .now) (a .pspace .now) (a .bspace .now) _ (c .before .before .before .before .before .before .before .sizes-after .ensures) (a .page .now) (a .out .now) (parts-within _ _ (c .before .before .before .before .before .before .lengths .ensures) (held-as _ _ (meant (c .before .before .before .before .before .before .before .before .before .before .before .before .before .before .args .form)) (c .before .before .before .before .before .before .before .sizes-after .ensures) (c .before .before .before .before .before .before .before .before .before .before .before .before .before .before .pre .held) (c .before .before .before .before .before .before .before .before .before .before .before .before .before .before .pre .sized))) (q .memory .flash-length) (q .memory .wear-length) (q .memory .pspace-length) (q .memory .bspace-length) (q .memory .page-length) (q .room)
+    let after-lengths : tie.After-lengths = search in
+    let after-sizes-after : tie.After-sizes-after = search in
+    let start : tie.Start = search in
+    let q = start .pre in
+    let a = start .args in
+    lent-parts _ _ (after-lengths .lengths .ensures) (a .flash .now) (a .wear .now) (a .pspace .now) (a .bspace .now) _
+    (after-sizes-after .sizes-after .ensures) (a .page .now) (a .out .now)
+    (parts-within _ _ (after-lengths .lengths .ensures) (held-as _ _ (meant (start .args .form))
+    (after-sizes-after .sizes-after .ensures) (start .pre .held) (start .pre .sized))) (q .memory .flash-length)
+    (q .memory .wear-length) (q .memory .pspace-length) (q .memory .bspace-length) (q .memory .page-length) (q .room)
 
 same-length : tie.Need-same-length
 same-length c = search needs
@@ -67,16 +136,23 @@ same-length-6 c = search needs
 
 returns : tie.Need-returns
 returns c =
-    let q = c .before .before .before .before .before .before .before .before .before .before .before .before .before .before .before .before .before .before .before .before .before .before .before .before .before .before .before .pre in
-    let a = c .before .before .before .before .before .before .before .before .before .before .before .before .before .before .before .before .before .before .before .before .before .before .before .before .before .before .before .args in
-    let k = c .before .before .before .before .before .before .before .before .before .before .before .before .carry .kept in
-    let w = (parts-within _ _ (c .before .before .before .before .before .before .before .before .before .before .before .before .before .before .before .before .before .before .before .lengths .ensures) (held-as _ _ (meant (c .before .before .before .before .before .before .before .before .before .before .before .before .before .before .before .before .before .before .before .before .before .before .before .before .before .before .before .args .form)) (c .before .before .before .before .before .before .before .before .before .before .before .before .before .before .before .before .before .before .before .before .sizes-after .ensures) (c .before .before .before .before .before .before .before .before .before .before .before .before .before .before .before .before .before .before .before .before .before .before .before .before .before .before .before .pre .held) (c .before .before .before .before .before .before .before .before .before .before .before .before .before .before .before .before .before .before .before .before .before .before .before .before .before .before .before .pre .sized))) in
-    line-carried _ _ (c .before .before .before .before .before .before .before .before .before .before .before .before .before .before .before .before .before .before .before .lengths .ensures) (a .flash .now) (a .wear .now) (a .pspace .now) (a .bspace .now) _ _ _ _
-    (k .1 .1 .1 .0 ∙ sym (front-long _ _ (a .flash .now) (q .memory .flash-length) (w .flash-within)))
-    (k .1 .1 .1 .1 .0 ∙ sym (front-long _ _ (a .wear .now) (q .memory .wear-length) (w .wear-within)))
-    (k .1 .1 .1 .1 .1 .0 ∙ sym (front-long _ _ (a .pspace .now) (q .memory .pspace-length) (w .pspace-within)))
-    (k .1 .1 .1 .1 .1 .1 .0 ∙ sym (front-long _ _ (a .bspace .now) (q .memory .bspace-length) (w .bspace-within)))
-    (a .c) (meant (a .form)) _ (c .before .before .before .before .before .before .before .before .before .before .before .before .before .before .before .before .before .before .before .before .sizes-after .ensures) (held-as _ _ (meant (c .before .before .before .before .before .before .before .before .before .before .before .before .before .before .before .before .before .before .before .before .before .before .before .before .before .before .before .args .form)) (c .before .before .before .before .before .before .before .before .before .before .before .before .before .before .before .before .before .before .before .before .sizes-after .ensures) (c .before .before .before .before .before .before .before .before .before .before .before .before .before .before .before .before .before .before .before .before .before .before .before .before .before .before .before .pre .held) (c .before .before .before .before .before .before .before .before .before .before .before .before .before .before .before .before .before .before .before .before .before .before .before .before .before .before .before .pre .sized)) _ _ _ _ _ _ (c .before .before .before .before .before .before .before .before .before .before .before .before .carry .ensures)
+    let after-carry : tie.After-carry = search in
+    let after-lengths : tie.After-lengths = search in
+    let after-sizes-after : tie.After-sizes-after = search in
+    let start : tie.Start = search in
+    let q = start .pre in
+    let a = start .args in
+    let k = after-carry .carry .kept in
+    let w = (parts-within _ _ (after-lengths .lengths .ensures) (held-as _ _ (meant (start .args .form))
+    (after-sizes-after .sizes-after .ensures) (start .pre .held) (start .pre .sized))) in
+    line-carried _ _ (after-lengths .lengths .ensures) (a .flash .now) (a .wear .now) (a .pspace .now) (a .bspace .now) _ _ _ _
+    (omega (arith, k, front-long _ _ (a .flash .now) (q .memory .flash-length) (w .flash-within)))
+    (omega (arith, k, front-long _ _ (a .wear .now) (q .memory .wear-length) (w .wear-within)))
+    (omega (arith, k, front-long _ _ (a .pspace .now) (q .memory .pspace-length) (w .pspace-within)))
+    (omega (arith, k, front-long _ _ (a .bspace .now) (q .memory .bspace-length) (w .bspace-within)))
+    (a .c) (meant (a .form)) _ (after-sizes-after .sizes-after .ensures)
+    (held-as _ _ (meant (start .args .form)) (after-sizes-after .sizes-after .ensures) (start .pre .held) (start .pre .sized)) _ _ _ _
+    _ _ (after-carry .carry .ensures)
 
 pub line-spec : {M : Type 1} → statement M
 line-spec =

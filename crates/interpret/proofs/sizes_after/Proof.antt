@@ -10,7 +10,10 @@ ok-requires : tie.Need-ok-requires
 ok-requires c κs = search needs
 
 returns : tie.Need-returns
-returns c = rw (c .before .before .before .form .given .1) (rw (sym (c .before .ok .ensures) ∙ c .if1 .taken))
+returns c =
+    let after-ok : tie.After-ok = search in
+    let after-form : tie.After-form = search in
+    rw (after-form .form .given .1) (rw (sym (after-ok .ok .ensures) ∙ c .if1 .taken))
 
 enum-told : tie.Need-enum-told
 enum-told c = search needs
@@ -31,7 +34,10 @@ enum-told-6 : tie.Need-enum-told-6
 enum-told-6 c = search needs
 
 returns-2 : tie.Need-returns-2
-returns-2 c = rw (c .before .before .before .form .given .1) (rw (sym (c .before .ok .ensures) ∙ c .if1 .left))
+returns-2 c =
+    let after-ok : tie.After-ok = search in
+    let after-form : tie.After-form = search in
+    rw (after-form .form .given .1) (rw (sym (after-ok .ok .ensures) ∙ c .if1 .left))
 
 returns-3 : tie.Need-returns-3
 returns-3 c = rw (c .enum-told .given .1)

@@ -22,7 +22,10 @@ same-length-4 : tie.Need-same-length-4
 same-length-4 c = search needs
 
 returns : tie.Need-returns
-returns c = step-carries _ _ _ _ _ (c .before .before .before .before .before .before .before .before .before .before .before .flush-step .result) (c .before .before .before .before .before .before .before .before .before .before .before .flush-step .ensures) (c .before .before .step .ensures)
+returns c =
+    let after-step : tie.After-step = search in
+    let after-flush-step : tie.After-flush-step = search in
+    step-carries _ _ _ _ _ (after-flush-step .flush-step .result) (after-flush-step .flush-step .ensures) (after-step .step .ensures)
 
 pub stepped-spec : {M : Type 1} → statement M
 stepped-spec =

@@ -13,7 +13,9 @@ write-requires : tie.Need-write-requires
 write-requires c κs = search needs
 
 write-requires-2 : tie.Need-write-requires-2
-write-requires-2 c κs = c .before .before .before .before .before .before .before .before .before .before .before .before .before .before .before .before .before .before .before .before .before .before .before .before .before .before .pre .1
+write-requires-2 c κs =
+    let start : tie.Start = search in
+    start .pre .1
 
 same-length : tie.Need-same-length
 same-length c = search needs
@@ -34,7 +36,14 @@ same-length-6 : tie.Need-same-length-6
 same-length-6 c = search needs
 
 returns : tie.Need-returns
-returns c = write-carries _ _ _ _ _ (c .before .before .before .before .before .before .before .before .before .before .before .before .before .before .before .before .before .before .before .before .before .before .before .before .before .before .before .before .before .args .n) (c .before .before .before .before .before .before .before .before .before .before .before .before .before .before .before .before .before .before .before .before .before .before .before .before .before .before .before .before .before .args .b) _ (c .before .before .before .before .before .before .before .before .before .before .before .before .before .before .before .before .before .before .before .before .before .fill .ensures ∙ ap (λ (m : ℕ). replicate m (c .before .before .before .before .before .before .before .before .before .before .before .before .before .before .before .before .before .before .before .before .before .before .before .before .before .before .before .before .before .args .b)) (c .before .before .before .before .before .before .before .before .before .before .before .before .before .before .before .before .before .before .before .before .before .before .before .before .before .before .before .before .before .pre .0)) (c .before .before .before .before .before .before .before .before .before .before .before .before .before .write .result) (c .before .before .before .before .before .before .before .before .before .before .before .before .before .write .ensures) (c .before .before .write2 .ensures)
+returns c =
+    let after-write2 : tie.After-write2 = search in
+    let after-write : tie.After-write = search in
+    let after-fill : tie.After-fill = search in
+    let start : tie.Start = search in
+    write-carries _ _ _ _ _ (start .args .n) (start .args .b) _ (after-fill .fill .ensures
+    ∙ ap (λ (m : ℕ). replicate m (start .args .b)) (start .pre .0)) (after-write .write .result) (after-write .write .ensures)
+    (after-write2 .write2 .ensures)
 
 pub written-spec : {M : Type 1} → statement M
 written-spec =

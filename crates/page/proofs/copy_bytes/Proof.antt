@@ -29,20 +29,24 @@ loop-less c = omega arith
 
 loop-again : tie.Need-loop-again Inv-loop μ-loop
 loop-again c =
-    let at = c .before .before in
-    let src = at .before .args .src .now in
-    let dst₀ = at .before .args .dst .now in
+    let at : tie.At-loop Inv-loop μ-loop = search in
+    let start : tie.Start Inv-loop μ-loop = search in
+    let src = start .args .src .now in
+    let dst₀ = start .args .dst .now in
     let h : at .loop .i < length src = omega arith in
     let k : at .loop .i < length dst₀ = omega arith in
     (omega arith, (simp length-set (at .loop .inv .1 .0), rw (at .loop .inv .1 .1) (overlay-step _ src dst₀ h k)))
 
 same-length : tie.Need-same-length Inv-loop μ-loop
-same-length c = c .before .loop .inv .1 .0
+same-length c =
+    let at-loop : tie.At-loop Inv-loop μ-loop = search in
+    at-loop .loop .inv .1 .0
 
 returns : tie.Need-returns Inv-loop μ-loop
 returns c =
-    let at = c .before in
-    at .loop .inv .1 .1 ∙ overlay-all _ _ _ (sym (at .before .pre)) (omega arith)
+    let at : tie.At-loop Inv-loop μ-loop = search in
+    let start : tie.Start Inv-loop μ-loop = search in
+    at .loop .inv .1 .1 ∙ overlay-all _ _ _ (sym (start .pre)) (omega arith)
 
 pub copy-bytes-spec : {M : Type 1} → statement M
 copy-bytes-spec =

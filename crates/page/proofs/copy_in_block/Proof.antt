@@ -23,7 +23,7 @@ part-copy-page-end c = search needs
 
 copy-page-requires : tie.Need-copy-page-requires
 copy-page-requires c κs =
-    let start = c .before .before .before in
+    let start : tie.Start = search in
     let a = start .args in
     let p = start .pre in
     (p .0, in-part (a .s) (a .k) (a .run .now) (a .f) (a .o) (p .1) (p .2), p .3)
@@ -33,8 +33,8 @@ same-length c = search needs
 
 returns : tie.Need-returns
 returns c =
-    let at = c .before .before in
-    let start = at .before .before .before .before in
+    let at : tie.After-copy-page = search in
+    let start : tie.Start = search in
     let a = start .args in
     let p = start .pre in
     put-in (a .s) (a .k) (a .run .now) (a .f) (a .o) (p .1) (p .2) _ _ (at .copy-page .ensures)

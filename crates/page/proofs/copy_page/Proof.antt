@@ -43,8 +43,9 @@ same-length c = search needs
 
 returns : tie.Need-returns
 returns c =
-    let at = c .before .before in
-    let a = at .before .before .before .before .before .args in
+    let at : tie.After-move-bytes = search in
+    let start : tie.Start = search in
+    let a = start .args in
     put _ _ _ _ ∙ ap (putPage (a .s) (a .dst .now) (a .di)) (at .move-bytes .ensures ∙ got _ _ _)
 
 pub copy-page-spec : {M : Type 1} → statement M

@@ -50,10 +50,11 @@ same-length c = search needs
 
 returns : tie.Need-returns
 returns c =
-    let at = c .before .before in
-    let start = at .before .before .before .before .before in
+    let at : tie.After-move-run = search in
+    let start : tie.Start = search in
     let a = start .args in
-    put-run _ _ _ _ (ap length (at .move-run .ensures ∙ got-run (a .s) (a .src .now) (a .si) (a .n)) ∙ length-run (a .s) (a .src .now) (a .si) (a .n) (start .pre .1))
+    put-run _ _ _ _ (ap length (at .move-run .ensures ∙ got-run (a .s) (a .src .now) (a .si) (a .n))
+    ∙ length-run (a .s) (a .src .now) (a .si) (a .n) (start .pre .1))
     ∙ ap (λ (x : List ℕ). laid (a .di * a .s) x (a .dst .now)) (at .move-run .ensures ∙ got-run (a .s) (a .src .now) (a .si) (a .n))
 
 pub copy-pages-spec : {M : Type 1} → statement M

@@ -46,8 +46,9 @@ same-length-2 c = search needs
 
 returns : tie.Need-returns
 returns c =
-    let at = c .before .before .before .before in
-    let a = at .before .before .before .before .before .args in
+    let at : tie.After-exchange-bytes = search in
+    let start : tie.Start = search in
+    let a = start .args in
     record {
       one = put _ _ _ _ ∙ ap (putPage (a .s) (a .x .now) (a .xi)) (at .exchange-bytes .ensures .0 ∙ got _ _ _);
       other = put _ _ _ _ ∙ ap (putPage (a .s) (a .y .now) (a .yi)) (at .exchange-bytes .ensures .1 ∙ got _ _ _);

@@ -36,9 +36,10 @@ loop-less c = omega arith
 
 loop-again : tie.Need-loop-again Inv-loop μ-loop
 loop-again c =
-    let at = c .before .before .before in
-    let x₀ = at .before .args .x .now in
-    let y₀ = at .before .args .y .now in
+    let at : tie.At-loop Inv-loop μ-loop = search in
+    let start : tie.Start Inv-loop μ-loop = search in
+    let x₀ = start .args .x .now in
+    let y₀ = start .args .y .now in
     let h : at .loop .i < length x₀ = omega arith in
     let k : at .loop .i < length y₀ = omega arith in
     let ex = at .loop .inv .1 .1 .1 .0 in
@@ -57,15 +58,20 @@ loop-again c =
     )
 
 same-length : tie.Need-same-length Inv-loop μ-loop
-same-length c = c .before .loop .inv .1 .0
+same-length c =
+    let at-loop : tie.At-loop Inv-loop μ-loop = search in
+    at-loop .loop .inv .1 .0
 
 same-length-2 : tie.Need-same-length-2 Inv-loop μ-loop
-same-length-2 c = c .before .loop .inv .1 .1 .0
+same-length-2 c =
+    let at-loop : tie.At-loop Inv-loop μ-loop = search in
+    at-loop .loop .inv .1 .1 .0
 
 returns : tie.Need-returns Inv-loop μ-loop
 returns c =
-    let at = c .before in
-    let e = at .before .pre in
+    let at : tie.At-loop Inv-loop μ-loop = search in
+    let start : tie.Start Inv-loop μ-loop = search in
+    let e = start .pre in
     (at .loop .inv .1 .1 .1 .0 ∙ overlay-all _ _ _ (sym e) (omega arith), at .loop .inv .1 .1 .1 .1 ∙ overlay-all _ _ _ e (omega arith))
 
 pub exchange-bytes-spec : {M : Type 1} → statement M

@@ -25,7 +25,7 @@ part-exchange-end c = search needs
 
 exchange-requires : tie.Need-exchange-requires
 exchange-requires c κs =
-    let start = c .before .before .before .before in
+    let start : tie.Start = search in
     let a = start .args in
     let p = start .pre in
     (in-part (a .s) (a .k) (a .run .now) (a .f) (a .o) (p .0) (p .1), p .2)
@@ -38,13 +38,14 @@ same-length-2 c = search needs
 
 returns : tie.Need-returns
 returns c =
-    let at = c .before .before .before .before in
-    let start = at .before .before .before .before .before in
+    let at : tie.After-exchange = search in
+    let start : tie.Start = search in
     let a = start .args in
     let p = start .pre in
     record {
       one = put-in (a .s) (a .k) (a .run .now) (a .f) (a .o) (p .0) (p .1) _ _ (at .exchange .ensures .one);
-      other = at .exchange .ensures .other ∙ ap (putPage (a .s) (a .y .now) (a .yi)) (got-in (a .s) (a .k) (a .run .now) (a .f) (a .o) (p .0) (p .1));
+      other = at .exchange .ensures .other ∙ ap (putPage (a .s) (a .y .now) (a .yi))
+          (got-in (a .s) (a .k) (a .run .now) (a .f) (a .o) (p .0) (p .1));
     }
 
 pub exchange-in-block-spec : {M : Type 1} → statement M

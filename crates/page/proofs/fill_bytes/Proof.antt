@@ -26,21 +26,30 @@ loop-less c = omega arith
 
 loop-again : tie.Need-loop-again Inv-loop μ-loop
 loop-again c =
-    let at = c .before in
-    let dst₀ = at .before .args .dst .now in
-    let src = replicate (length dst₀) (at .before .args .b) in
+    let at : tie.At-loop Inv-loop μ-loop = search in
+    let start : tie.Start Inv-loop μ-loop = search in
+    let dst₀ = start .args .dst .now in
+    let src = replicate (length dst₀) (start .args .b) in
     let e : length src ≡ length dst₀ = length-replicate _ _ in
     let k : at .loop .i < length dst₀ = omega arith in
     let h : at .loop .i < length src = omega arith in
-    let r = overlay-step _ src dst₀ h k in
-    (omega arith, (simp length-set (at .loop .inv .1 .0), rw (at .loop .inv .1 .1) (rw (getD-replicate (length dst₀) (at .loop .i) (at .before .args .b) 0 k) at r)))
+    let r = overlay-step _ src dst₀ h k in (
+      omega arith,
+      (
+        simp length-set (at .loop .inv .1 .0),
+        rw (at .loop .inv .1 .1)
+            (rw (getD-replicate (length dst₀) (at .loop .i) (start .args .b) 0 k) at r),
+      ),
+    )
 
 same-length : tie.Need-same-length Inv-loop μ-loop
-same-length c = c .before .loop .inv .1 .0
+same-length c =
+    let at-loop : tie.At-loop Inv-loop μ-loop = search in
+    at-loop .loop .inv .1 .0
 
 returns : tie.Need-returns Inv-loop μ-loop
 returns c =
-    let at = c .before in
+    let at : tie.At-loop Inv-loop μ-loop = search in
     at .loop .inv .1 .1 ∙ overlay-all _ _ _ (simp length-replicate) (omega arith)
 
 pub fill-bytes-spec : {M : Type 1} → statement M

@@ -23,7 +23,7 @@ part-fill-page-end c = search needs
 
 fill-page-requires : tie.Need-fill-page-requires
 fill-page-requires c κs =
-    let start = c .before .before in
+    let start : tie.Start = search in
     let a = start .args in
     in-part (a .s) (a .k) (a .run .now) (a .f) (a .o) (start .pre .0) (start .pre .1)
 
@@ -32,8 +32,8 @@ same-length c = search needs
 
 returns : tie.Need-returns
 returns c =
-    let at = c .before .before in
-    let start = at .before .before .before in
+    let at : tie.After-fill-page = search in
+    let start : tie.Start = search in
     let a = start .args in
     put-in (a .s) (a .k) (a .run .now) (a .f) (a .o) (start .pre .0) (start .pre .1) _ _ (at .fill-page .ensures)
 

@@ -31,10 +31,11 @@ same-length c = search needs
 
 returns : tie.Need-returns
 returns c =
-    let at = c .before .before in
-    let start = at .before .before .before in
+    let at : tie.After-fill-bytes = search in
+    let start : tie.Start = search in
     let a = start .args in
-    put _ _ _ _ ∙ ap (putPage (a .s) (a .dst .now) (a .di)) (at .fill-bytes .ensures ∙ ap (λ (n : ℕ). replicate n (a .b)) (ap length (got _ _ _) ∙ length-pageAt _ _ _ (start .pre)))
+    put _ _ _ _ ∙ ap (putPage (a .s) (a .dst .now) (a .di)) (at .fill-bytes .ensures
+    ∙ ap (λ (n : ℕ). replicate n (a .b)) (ap length (got _ _ _) ∙ length-pageAt _ _ _ (start .pre)))
 
 pub fill-page-spec : {M : Type 1} → statement M
 fill-page-spec =

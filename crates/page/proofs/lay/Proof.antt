@@ -22,7 +22,9 @@ same-length : tie.Need-same-length
 same-length c = search needs
 
 returns : tie.Need-returns
-returns c = rw (c .before .before .move-bytes .ensures) (put-laid _ _ _)
+returns c =
+    let after-move-bytes : tie.After-move-bytes = search in
+    rw (after-move-bytes .move-bytes .ensures) (put-laid _ _ _)
 
 pub lay-spec : {M : Type 1} → statement M
 lay-spec =

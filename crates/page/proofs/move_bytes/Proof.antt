@@ -25,22 +25,33 @@ copy-bytes-requires : tie.Need-copy-bytes-requires
 copy-bytes-requires c κs = simp length-take (omega arith)
 
 array-share-prefix-t : tie.Need-array-share-prefix-t
-array-share-prefix-t c = let e = ap length (c .before .before .copy-bytes .ensures) in simp length-append (omega arith)
+array-share-prefix-t c =
+    let after-copy-bytes : tie.After-copy-bytes = search in
+    let e = ap length (after-copy-bytes .copy-bytes .ensures) in
+    simp length-append (omega arith)
 
 slice-aggregate-copy-bytes-2 : tie.Need-slice-aggregate-copy-bytes-2
-slice-aggregate-copy-bytes-2 c = let e = ap length (c .before .before .before .copy-bytes .ensures) in simp (length-take, length-append) (omega arith)
+slice-aggregate-copy-bytes-2 c =
+    let after-copy-bytes : tie.After-copy-bytes = search in
+    let e = ap length (after-copy-bytes .copy-bytes .ensures) in
+    simp (length-take, length-append) (omega arith)
 
 copy-bytes-requires-2 : tie.Need-copy-bytes-requires-2
-copy-bytes-requires-2 c κs = let e = ap length (c .before .before .before .copy-bytes .ensures) in simp (length-take, length-append) (omega arith)
+copy-bytes-requires-2 c κs =
+    let after-copy-bytes : tie.After-copy-bytes = search in
+    let e = ap length (after-copy-bytes .copy-bytes .ensures) in
+    simp (length-take, length-append) (omega arith)
 
 same-length-2 : tie.Need-same-length-2
 same-length-2 c = search needs
 
 returns-2 : tie.Need-returns-2
 returns-2 c =
-    let one = c .before .before .before .before .before .before in
+    let after-copy-bytes2 : tie.After-copy-bytes2 = search in
+    let one : tie.After-copy-bytes = search in
+    let start : tie.Start = search in
     let e = one .copy-bytes .ensures in
-    c .before .before .copy-bytes2 .ensures ∙ take-at (one .copy-bytes .last .0) _ _ (ap length e ∙ sym (one .before .before .before .before .before .pre .0)) ∙ e
+    after-copy-bytes2 .copy-bytes2 .ensures ∙ take-at (one .copy-bytes .last .0) _ _ (ap length e ∙ sym (start .pre .0)) ∙ e
 
 pub move-bytes-spec : {M : Type 1} → statement M
 move-bytes-spec =

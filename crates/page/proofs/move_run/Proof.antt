@@ -46,13 +46,17 @@ loop-less c = search needs
 
 loop-again : tie.Need-loop-again Inv-loop μ-loop
 loop-again c =
-    let piece = c .before .before .before .before .before in
-    let l = piece .before .before .loop in
-    let start = piece .before .before .before .before .before in
+    let after-move-bytes : tie.After-move-bytes Inv-loop μ-loop = search in
+    let piece : tie.After-piece-end Inv-loop μ-loop = search in
+    let at-loop : tie.At-loop Inv-loop μ-loop = search in
+    let start : tie.Start Inv-loop μ-loop = search in
+    let l = at-loop .loop in
     let a = start .args in
     let k : l .i ≤ length (a .src .now) = omega arith in
     let e = piece .piece-end .result in
-    let moved : putMid (l .i) (e - l .i) (l .dst) (c .before .before .move-bytes .last .0) ≡ overlay e (a .src .now) (a .dst .now) = rw (c .before .before .move-bytes .ensures, l .inv .0) (overlay-piece (l .i) e (a .src .now) (a .dst .now) (omega arith) k) in
+    let moved : putMid (l .i) (e - l .i) (l .dst) (after-move-bytes .move-bytes .last .0)
+    ≡ overlay e (a .src .now) (a .dst .now) = rw (after-move-bytes .move-bytes .ensures, l .inv .0)
+    (overlay-piece (l .i) e (a .src .now) (a .dst .now) (omega arith) k) in
     (moved, ap length moved ∙ overlay-length _ _ _ (sym (start .pre)) (omega arith), omega arith)
 
 same-length : tie.Need-same-length Inv-loop μ-loop
@@ -60,8 +64,9 @@ same-length c = search needs
 
 returns : tie.Need-returns Inv-loop μ-loop
 returns c =
-    let l = c .before .loop in
-    let start = c .before .before .before .before in
+    let at-loop : tie.At-loop Inv-loop μ-loop = search in
+    let start : tie.Start Inv-loop μ-loop = search in
+    let l = at-loop .loop in
     l .inv .0 ∙ overlay-all (l .i) (start .args .src .now) (start .args .dst .now) (sym (start .pre)) (omega arith)
 
 pub move-run-spec : {M : Type 1} → statement M

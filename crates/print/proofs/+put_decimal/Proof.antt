@@ -26,127 +26,77 @@ abbrev put-decimal-below : ℕ → In 1 put-decimal-kinds.ps
 put-decimal-below t =
     and 1 put-decimal-kinds.ps (falls 1 put-decimal-kinds.ps _<_ μ-put-decimal t) put-decimal.Pre
 
-put-decimal-digit-requires : (t : ℕ) → put-decimal-lts.Need-digit-requires (
-  digit-reads.Asked,
-  digit-reads.Learnt,
-  put-decimal-below t,
-  put-decimal.Post,
-) (put-decimal-at t) put-decimal.Post
+abbrev claims : ℕ → put-decimal-lts.Claims
+claims t = (digit-reads.Asked, digit-reads.Learnt, put-decimal-below t, put-decimal.Post)
+
+put-decimal-digit-requires : (t : ℕ) → put-decimal-lts.Need-digit-requires (claims t) (put-decimal-at t) put-decimal.Post
 put-decimal-digit-requires t c κs = search needs
 
-put-decimal-slice-write-out : (t : ℕ) → put-decimal-lts.Need-slice-write-out (
-  digit-reads.Asked,
-  digit-reads.Learnt,
-  put-decimal-below t,
-  put-decimal.Post,
-) (put-decimal-at t) put-decimal.Post
-put-decimal-slice-write-out t c = let d = length-one (c .before .before .before .args .n) (omega arith) in omega arith
+put-decimal-slice-write-out : (t : ℕ) → put-decimal-lts.Need-slice-write-out (claims t) (put-decimal-at t) put-decimal.Post
+put-decimal-slice-write-out t c =
+    let start : put-decimal-lts.Start (claims t) (put-decimal-at t) put-decimal.Post = search in
+    let d = length-one (start .args .n) (omega arith) in
+    omega arith
 
-put-decimal-add-result : (t : ℕ) → put-decimal-lts.Need-add-result (
-  digit-reads.Asked,
-  digit-reads.Learnt,
-  put-decimal-below t,
-  put-decimal.Post,
-) (put-decimal-at t) put-decimal.Post
+put-decimal-add-result : (t : ℕ) → put-decimal-lts.Need-add-result (claims t) (put-decimal-at t) put-decimal.Post
 put-decimal-add-result t c = search needs
 
-put-decimal-same-length : (t : ℕ) → put-decimal-lts.Need-same-length (
-  digit-reads.Asked,
-  digit-reads.Learnt,
-  put-decimal-below t,
-  put-decimal.Post,
-) (put-decimal-at t) put-decimal.Post
+put-decimal-same-length : (t : ℕ) → put-decimal-lts.Need-same-length (claims t) (put-decimal-at t) put-decimal.Post
 put-decimal-same-length t c = search needs
 
-put-decimal-returns : (t : ℕ) → put-decimal-lts.Need-returns (
-  digit-reads.Asked,
-  digit-reads.Learnt,
-  put-decimal-below t,
-  put-decimal.Post,
-) (put-decimal-at t) put-decimal.Post
+put-decimal-returns : (t : ℕ) → put-decimal-lts.Need-returns (claims t) (put-decimal-at t) put-decimal.Post
 put-decimal-returns t c =
-    let s = c .before .before .before in
-    let h : s .args .n < 10 = omega arith in
-    let d = length-one (s .args .n) h in
-    printed-as (omega arith) (ap (λ (x : ℕ). x ∷ []) (c .digit .ensures) ∙ sym (decimal-one (s .args .n) h))
-    (printed-one (s .args .out .now) (s .args .at) (c .digit .result) (omega arith))
+    let start : put-decimal-lts.Start (claims t) (put-decimal-at t) put-decimal.Post = search in
+    let h : start .args .n < 10 = omega arith in
+    let d = length-one (start .args .n) h in
+    printed-as (omega arith) (ap (λ (x : ℕ). x ∷ []) (c .digit .ensures) ∙ sym (decimal-one (start .args .n) h))
+    (printed-one (start .args .out .now) (start .args .at) (c .digit .result) (omega arith))
 
-put-decimal-put-decimal-requires : (t : ℕ) → put-decimal-lts.Need-put-decimal-requires (
-  digit-reads.Asked,
-  digit-reads.Learnt,
-  put-decimal-below t,
-  put-decimal.Post,
-) (put-decimal-at t) put-decimal.Post
+put-decimal-put-decimal-requires : (t : ℕ) → put-decimal-lts.Need-put-decimal-requires (claims t) (put-decimal-at t) put-decimal.Post
 put-decimal-put-decimal-requires t c κs =
-    let s = c .before .before .before in
-    let d = length-more (s .args .n) (omega arith) in
-    let p = s .pre .0 in
+    let start : put-decimal-lts.Start (claims t) (put-decimal-at t) put-decimal.Post = search in
+    let d = length-more (start .args .n) (omega arith) in
+    let p = start .pre .0 in
     omega arith
 
-put-decimal-digit-requires-2 : (t : ℕ) → put-decimal-lts.Need-digit-requires-2 (
-  digit-reads.Asked,
-  digit-reads.Learnt,
-  put-decimal-below t,
-  put-decimal.Post,
-) (put-decimal-at t) put-decimal.Post
+put-decimal-digit-requires-2 : (t : ℕ) → put-decimal-lts.Need-digit-requires-2 (claims t) (put-decimal-at t) put-decimal.Post
 put-decimal-digit-requires-2 t c κs = search needs
 
-put-decimal-slice-write-out-2 : (t : ℕ) → put-decimal-lts.Need-slice-write-out-2 (
-  digit-reads.Asked,
-  digit-reads.Learnt,
-  put-decimal-below t,
-  put-decimal.Post,
-) (put-decimal-at t) put-decimal.Post
+put-decimal-slice-write-out-2 : (t : ℕ) → put-decimal-lts.Need-slice-write-out-2 (claims t) (put-decimal-at t) put-decimal.Post
 put-decimal-slice-write-out-2 t c =
-    let s = c .before .before .before .before .before .before .before in
-    let d = length-more (s .args .n) (omega arith) in
-    let p = c .before .before .before .put-decimal .ensures .place in
-    let k = c .before .before .before .put-decimal .kept .0 in
+    let more : put-decimal-lts.After-put-decimal (claims t) (put-decimal-at t) put-decimal.Post = search in
+    let start : put-decimal-lts.Start (claims t) (put-decimal-at t) put-decimal.Post = search in
+    let d = length-more (start .args .n) (omega arith) in
+    let p = more .put-decimal .ensures .place in
+    let k = more .put-decimal .kept .0 in
     omega arith
 
-put-decimal-add-result-2 : (t : ℕ) → put-decimal-lts.Need-add-result-2 (
-  digit-reads.Asked,
-  digit-reads.Learnt,
-  put-decimal-below t,
-  put-decimal.Post,
-) (put-decimal-at t) put-decimal.Post
+put-decimal-add-result-2 : (t : ℕ) → put-decimal-lts.Need-add-result-2 (claims t) (put-decimal-at t) put-decimal.Post
 put-decimal-add-result-2 t c =
-    let s = c .before .before .before .before .before .before .before in
-    let d = length-more (s .args .n) (omega arith) in
-    let p = c .before .before .before .put-decimal .ensures .place in
+    let more : put-decimal-lts.After-put-decimal (claims t) (put-decimal-at t) put-decimal.Post = search in
+    let start : put-decimal-lts.Start (claims t) (put-decimal-at t) put-decimal.Post = search in
+    let d = length-more (start .args .n) (omega arith) in
+    let p = more .put-decimal .ensures .place in
     omega arith
 
-put-decimal-same-length-2 : (t : ℕ) → put-decimal-lts.Need-same-length-2 (
-  digit-reads.Asked,
-  digit-reads.Learnt,
-  put-decimal-below t,
-  put-decimal.Post,
-) (put-decimal-at t) put-decimal.Post
+put-decimal-same-length-2 : (t : ℕ) → put-decimal-lts.Need-same-length-2 (claims t) (put-decimal-at t) put-decimal.Post
 put-decimal-same-length-2 t c = search needs
 
-put-decimal-returns-2 : (t : ℕ) → put-decimal-lts.Need-returns-2 (
-  digit-reads.Asked,
-  digit-reads.Learnt,
-  put-decimal-below t,
-  put-decimal.Post,
-) (put-decimal-at t) put-decimal.Post
+put-decimal-returns-2 : (t : ℕ) → put-decimal-lts.Need-returns-2 (claims t) (put-decimal-at t) put-decimal.Post
 put-decimal-returns-2 t c =
-    let s = c .before .before .before .before .before .before .before in
-    let h : 10 ≤ s .args .n = omega arith in
-    let d = length-more (s .args .n) h in
-    let p = c .before .before .before .put-decimal .ensures in
+    let more : put-decimal-lts.After-put-decimal (claims t) (put-decimal-at t) put-decimal.Post = search in
+    let start : put-decimal-lts.Start (claims t) (put-decimal-at t) put-decimal.Post = search in
+    let h : 10 ≤ start .args .n = omega arith in
+    let d = length-more (start .args .n) h in
+    let p = more .put-decimal .ensures in
     let q = p .place in
-    let k = c .before .before .before .put-decimal .kept .0 in
-    printed-as (omega arith) (ap (λ (x : ℕ). decimal (s .args .n / 10) ++ (x ∷ [])) (c .digit2 .ensures) ∙ sym (decimal-more (s .args .n) h))
-    (printed-then (omega arith) p (printed-one (c .before .before .before .put-decimal .last .0) (c .before .before .before .put-decimal .result) (c .digit2 .result) (omega arith)))
+    let k = more .put-decimal .kept .0 in
+    printed-as (omega arith) (ap (λ (x : ℕ). decimal (start .args .n / 10) ++ (x ∷ [])) (c .digit2 .ensures)
+    ∙ sym (decimal-more (start .args .n) h))
+    (printed-then (omega arith) p (printed-one (more .put-decimal .last .0) (more .put-decimal .result) (c .digit2 .result) (omega arith)))
 
 pub +put-decimal-spec : {M : Type 1} → statement M
-+put-decimal-spec = close μ-put-decimal λ t. put-decimal-lts.spec (
-  digit-reads.Asked,
-  digit-reads.Learnt,
-  put-decimal-below t,
-  put-decimal.Post,
-)
++put-decimal-spec = close μ-put-decimal λ t. put-decimal-lts.spec (claims t)
     (put-decimal-at t)
     put-decimal.Post
     (put-decimal-digit-requires t)

@@ -34,10 +34,18 @@ loop-less c = omega arith
 
 loop-again : tie.Need-loop-again Inv-loop μ-loop
 loop-again c =
-    let at = c .before .before in
-    let a = at .before .args in
-    let inv = at .loop .inv in
-    (omega arith, (simp length-set (inv .1 .0), put-more (a .out .now) (a .src .now) (at .loop .out) (a .at) (at .loop .i) (at .before .pre) (c .before .loop-test .taken) (inv .1 .0) (inv .1 .1)))
+    let in-loop : tie.In-loop Inv-loop μ-loop = search in
+    let at : tie.At-loop Inv-loop μ-loop = search in
+    let start : tie.Start Inv-loop μ-loop = search in
+    let a = start .args in
+    let inv = at .loop .inv in (
+      omega arith,
+      (
+        simp length-set (inv .1 .0),
+        put-more (a .out .now) (a .src .now) (at .loop .out) (a .at) (at .loop .i) (start .pre)
+            (in-loop .loop-test .taken) (inv .1 .0) (inv .1 .1),
+      ),
+    )
 
 add-result : tie.Need-add-result Inv-loop μ-loop
 add-result c = omega arith
@@ -47,9 +55,14 @@ same-length c = omega arith
 
 returns : tie.Need-returns Inv-loop μ-loop
 returns c =
-    let at = c .before in
-    let a = at .before .args in
-    record { buffer = at .loop .inv .1 .1 ∙ ap (putAt (a .out .now) (a .at)) (take-all _ _ (c .loop-test .left)); place = refl; within = omega arith }
+    let at : tie.At-loop Inv-loop μ-loop = search in
+    let start : tie.Start Inv-loop μ-loop = search in
+    let a = start .args in
+    record {
+      buffer = at .loop .inv .1 .1 ∙ ap (putAt (a .out .now) (a .at)) (take-all _ _ (c .loop-test .left));
+      place = refl;
+      within = omega arith;
+    }
 
 pub put-bytes-spec : {M : Type 1} → statement M
 put-bytes-spec =

@@ -20,7 +20,13 @@ same-length c = search needs
 
 returns : tie.Need-returns
 unfolding form items
-returns c = printed-as (omega arith) (ap (λ (x : Bool). 32 ∷ (40 ∷ (bytes "erased" ++ (32 ∷ (cond x (bytes "none") (decimal (c .before .before .before .before .before .before .before .args .block)) ++ (41 ∷ [])))))) (sym (eq-eqb _ _ (c .before .before .before .before .before .if1 .taken)))) (c .before .before .put-bytes .ensures)
+returns c =
+    let after-put-bytes : tie.After-put-bytes = search in
+    let then1 : tie.Then1 = search in
+    let start : tie.Start = search in
+    printed-as (omega arith)
+    (ap (λ (x : Bool). 32 ∷ (40 ∷ (bytes "erased" ++ (32 ∷ (cond x (bytes "none") (decimal (start .args .block)) ++ (41 ∷ []))))))
+    (sym (eq-eqb _ _ (then1 .if1 .taken)))) (after-put-bytes .put-bytes .ensures)
 
 slice-aggregate-put-field : tie.Need-slice-aggregate-put-field
 slice-aggregate-put-field c = search needs
@@ -33,7 +39,13 @@ same-length-2 c = search needs
 
 returns-2 : tie.Need-returns-2
 unfolding form items
-returns-2 c = printed-as (omega arith) (ap (λ (x : Bool). 32 ∷ (40 ∷ (bytes "erased" ++ (32 ∷ (cond x (bytes "none") (decimal (c .before .before .before .before .before .before .before .args .block)) ++ (41 ∷ [])))))) (sym (ne-eqb _ _ (c .before .before .before .before .before .if1 .left)))) (c .before .before .put-field .ensures)
+returns-2 c =
+    let after-put-field : tie.After-put-field = search in
+    let else1 : tie.Else1 = search in
+    let start : tie.Start = search in
+    printed-as (omega arith)
+    (ap (λ (x : Bool). 32 ∷ (40 ∷ (bytes "erased" ++ (32 ∷ (cond x (bytes "none") (decimal (start .args .block)) ++ (41 ∷ []))))))
+    (sym (ne-eqb _ _ (else1 .if1 .left)))) (after-put-field .put-field .ensures)
 
 pub put-erased-spec : {M : Type 1} → statement M
 put-erased-spec =

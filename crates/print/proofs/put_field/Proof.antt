@@ -23,10 +23,12 @@ same-length c = search needs
 
 returns : tie.Need-returns
 returns c =
-    let s = c .before .before .before .before .before .before in
-    let p = c .before .before .put-number .ensures in
+    let after-put-number : tie.After-put-number = search in
+    let s : tie.Start = search in
+    let p = after-put-number .put-number .ensures in
     let h : s .args .at ≤ length (s .args .out .now) = omega (arith, s .pre) in
-    let k : c .before .before .put-number .result < length (c .before .before .put-number .last .0) = omega (arith, p .within, c .before .before .put-number .kept .0, s .pre) in
+    let k : after-put-number .put-number .result < length (after-put-number .put-number .last .0) =
+    omega (arith, p .within, after-put-number .put-number .kept .0, s .pre) in
     printed-as (omega arith) (append-assoc (s .args .lead .now) (decimal (s .args .n)) _) (printed-then h p (printed-one _ _ 41 k))
 
 pub put-field-spec : {M : Type 1} → statement M

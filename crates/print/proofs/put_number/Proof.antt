@@ -13,7 +13,8 @@ put-bytes-requires c κs = search needs
 
 put-decimal-requires : tie.Need-put-decimal-requires
 put-decimal-requires c κs =
-    let d = decimal-word (c .before .before .before .before .before .before .before .args .n) (c .before .before .before .before .before .before .before .fits .n .fits) in
+    let start : tie.Start = search in
+    let d = decimal-word (start .args .n) (start .fits .n .fits) in
     omega arith
 
 same-length : tie.Need-same-length
@@ -21,10 +22,12 @@ same-length c = search needs
 
 returns : tie.Need-returns
 returns c =
-    let s = c .before .before .before .before .before .before .before .before .before .before in
+    let after-put-decimal : tie.After-put-decimal = search in
+    let after-put-bytes : tie.After-put-bytes = search in
+    let s : tie.Start = search in
     let d = decimal-word (s .args .n) (s .fits .n .fits) in
     let h : s .args .at ≤ length (s .args .out .now) = omega (arith, s .pre) in
-    printed-as (omega arith) refl (printed-then h (c .before .before .before .before .before .before .put-bytes .ensures) (c .before .before .put-decimal .ensures))
+    printed-as (omega arith) refl (printed-then h (after-put-bytes .put-bytes .ensures) (after-put-decimal .put-decimal .ensures))
 
 pub put-number-spec : {M : Type 1} → statement M
 put-number-spec = tie.close (tie.spec put-bytes-requires put-decimal-requires same-length returns)

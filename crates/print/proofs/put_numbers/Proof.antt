@@ -14,7 +14,8 @@ use Rattle.print.proofs.put_numbers.Statement.{statement}
 use Rattle.print.proofs.put_numbers.Tie as tie
 
 abbrev Inv-loop : tie.InvT-loop
-Inv-loop out₀ at numbers next₀ i₀ out next i = (i ≤ length numbers) × ((length out ≡ length out₀) × Printed (11 * i) (spaced (map decimal (take i numbers))) out₀ at out next)
+Inv-loop out₀ at numbers next₀ i₀ out next i = (i ≤ length numbers)
+    × ((length out ≡ length out₀) × Printed (11 * i) (spaced (map decimal (take i numbers))) out₀ at out next)
 
 abbrev μ-loop : tie.MeasureT-loop
 μ-loop out₀ at numbers next₀ i₀ out next i = length numbers - i
@@ -37,8 +38,11 @@ add-put-decimal c = search needs
 
 put-decimal-requires : tie.Need-put-decimal-requires Inv-loop μ-loop
 put-decimal-requires c κs =
-    let n = getD (c .before .before .before .before .before .before .args .numbers .now) (c .before .before .before .loop .i) 0 in
-    let f : n < 2 ^ 32 = omega (arith, c .before .shared-slice-known2 .given (c .before .before .before .loop .i)) in
+    let after-shared-slice-known2 : tie.After-shared-slice-known2 Inv-loop μ-loop = search in
+    let at-loop : tie.At-loop Inv-loop μ-loop = search in
+    let start : tie.Start Inv-loop μ-loop = search in
+    let n = getD (start .args .numbers .now) (at-loop .loop .i) 0 in
+    let f : n < 2 ^ 32 = omega (arith, after-shared-slice-known2 .shared-slice-known2 .given (at-loop .loop .i)) in
     let d = decimal-word n f in
     simp length-set (omega arith)
 
@@ -50,19 +54,29 @@ loop-less c = search needs
 
 loop-again : tie.Need-loop-again Inv-loop μ-loop
 loop-again c =
-    let at = c .before .before .before .before .before .before in
-    let a = c .before .before .before .before .before .before .before .before .before .args in
+    let after-put-decimal : tie.After-put-decimal Inv-loop μ-loop = search in
+    let after-shared-slice-known2 : tie.After-shared-slice-known2 Inv-loop μ-loop = search in
+    let in-loop : tie.In-loop Inv-loop μ-loop = search in
+    let at : tie.At-loop Inv-loop μ-loop = search in
+    let start : tie.Start Inv-loop μ-loop = search in
+    let a = start .args in
     let n = getD (a .numbers .now) (at .loop .i) 0 in
-    let f : n < 2 ^ 32 = omega (arith, c .before .before .before .before .shared-slice-known2 .given (at .loop .i)) in
+    let f : n < 2 ^ 32 = omega (arith, after-shared-slice-known2 .shared-slice-known2 .given (at .loop .i)) in
     let d = decimal-word n f in
     let p = at .loop .inv .1 .1 in
-    let q = c .before .before .put-decimal .ensures in
-    let h : a .at ≤ length (a .out .now) = omega (arith, c .before .before .before .before .before .before .before .before .before .pre) in
-    let k : at .loop .next < length (at .loop .out) = omega (arith, at .loop .inv .1 .0, p .within, c .before .before .before .before .before .before .before .before .before .pre, c .before .before .before .before .before .loop-test .taken) in (
+    let q = after-put-decimal .put-decimal .ensures in
+    let h : a .at ≤ length (a .out .now) = omega (arith, start .pre) in
+    let k : at .loop .next < length (at .loop .out) = omega (
+      arith,
+      at .loop .inv .1 .0,
+      p .within,
+      start .pre,
+      in-loop .loop-test .taken,
+    ) in (
       omega arith,
       (
-        c .before .before .put-decimal .kept .0 ∙ simp length-set (at .loop .inv .1 .0),
-        printed-as (omega arith) (spaced-more (a .numbers .now) (at .loop .i) (c .before .before .before .before .before .loop-test .taken))
+        after-put-decimal .put-decimal .kept .0 ∙ simp length-set (at .loop .inv .1 .0),
+        printed-as (omega arith) (spaced-more (a .numbers .now) (at .loop .i) (in-loop .loop-test .taken))
             (printed-then h p (printed-then (omega arith) (printed-one (at .loop .out) (at .loop .next) 32 k) q)),
       ),
     )
@@ -72,8 +86,9 @@ same-length c = search needs
 
 returns : tie.Need-returns Inv-loop μ-loop
 returns c =
-    let s = c .before .before .before .before in
-    let p = c .before .loop .inv in
+    let at-loop : tie.At-loop Inv-loop μ-loop = search in
+    let s : tie.Start Inv-loop μ-loop = search in
+    let p = at-loop .loop .inv in
     printed-as (omega arith) (ap (λ (l : List ℕ). spaced (map decimal l)) (take-all _ _ (c .loop-test .left))) (p .1 .1)
 
 pub put-numbers-spec : {M : Type 1} → statement M

@@ -18,7 +18,9 @@ same-length c = search needs
 
 returns : tie.Need-returns
 unfolding form items line said
-returns c = printed-as (omega arith) refl (c .before .before .put-bytes .ensures)
+returns c =
+    let after-put-bytes : tie.After-put-bytes = search in
+    printed-as (omega arith) refl (after-put-bytes .put-bytes .ensures)
 
 pub put-open-spec : {M : Type 1} → statement M
 put-open-spec =

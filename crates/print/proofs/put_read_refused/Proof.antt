@@ -23,9 +23,12 @@ same-length c = search needs
 returns : tie.Need-returns
 unfolding said
 returns c =
-    let s = c .before .before .before .before .before .before .before .before .before .before in
+    let after-put-refused : tie.After-put-refused = search in
+    let after-put-number : tie.After-put-number = search in
+    let s : tie.Start = search in
     let h : s .args .at ≤ length (s .args .out .now) = omega (arith, s .pre) in
-    printed-as (omega arith) (refused-number "read" (s .args .n) (s .args .number)) (printed-then h (c .before .before .before .before .before .before .put-number .ensures) (c .before .before .put-refused .ensures))
+    printed-as (omega arith) (refused-number "read" (s .args .n) (s .args .number))
+    (printed-then h (after-put-number .put-number .ensures) (after-put-refused .put-refused .ensures))
 
 pub put-read-refused-spec : {M : Type 1} → statement M
 put-read-refused-spec =

@@ -27,9 +27,14 @@ same-length c = search needs
 
 returns : tie.Need-returns
 returns c =
-    let s = c .before .before .before .before .before .before .before .before .before .before .before .before .before .before .before .before in
+    let after-put-bytes2 : tie.After-put-bytes2 = search in
+    let after-put-numbers : tie.After-put-numbers = search in
+    let after-put-bytes : tie.After-put-bytes = search in
+    let s : tie.Start = search in
     let h : s .args .at ≤ length (s .args .out .now) = omega (arith, s .pre) in
-    printed-as (omega arith) (wear-line (s .args .wear .now)) (printed-then h (printed-then h (c .before .before .before .before .before .before .before .before .before .before .before .put-bytes .ensures) (c .before .before .before .before .before .before .before .put-numbers .ensures)) (c .before .before .put-bytes2 .ensures))
+    printed-as (omega arith) (wear-line (s .args .wear .now)) (printed-then h
+    (printed-then h (after-put-bytes .put-bytes .ensures) (after-put-numbers .put-numbers .ensures))
+    (after-put-bytes2 .put-bytes2 .ensures))
 
 pub put-wear-spec : {M : Type 1} → statement M
 put-wear-spec =

@@ -12,6 +12,50 @@ use Rattle.reads.proofs.Places.{has-slot, has-frame-page, frame-page-lt
 use Rattle.reads.proofs.peek.Statement.{statement}
 use Rattle.reads.proofs.peek.Tie as tie
 
+-- the ways back, from place to place: `search back` goes by them
+abbrev from-after-slot-of : tie.After-slot-of → tie.Start
+from-after-slot-of c = search
+
+abbrev from-then1 : tie.Then1 → tie.After-slot-of
+from-then1 c = search
+
+abbrev from-after-copy-page : tie.After-copy-page → tie.Then1
+from-after-copy-page c = search
+
+abbrev from-else1 : tie.Else1 → tie.After-slot-of
+from-else1 c = search
+
+abbrev from-after-frame-with : tie.After-frame-with → tie.Else1
+from-after-frame-with c = search
+
+abbrev from-then2 : tie.Then2 → tie.After-frame-with
+from-then2 c = search
+
+abbrev from-after-offset-of : tie.After-offset-of → tie.Then2
+from-after-offset-of c = search
+
+abbrev from-after-copy-page2 : tie.After-copy-page2 → tie.After-offset-of
+from-after-copy-page2 c = search
+
+abbrev from-else2 : tie.Else2 → tie.After-frame-with
+from-else2 c = search
+
+abbrev from-after-read-page : tie.After-read-page → tie.Else2
+from-after-read-page c = search
+
+ruleset back = (
+  from-after-slot-of,
+  from-then1,
+  from-after-copy-page,
+  from-else1,
+  from-after-frame-with,
+  from-then2,
+  from-after-offset-of,
+  from-after-copy-page2,
+  from-else2,
+  from-after-read-page,
+)
+
 abbrev sizes : tie.Start → Sizes
 sizes s = sizesOf (s .args .z)
 
@@ -19,11 +63,15 @@ abbrev directory : tie.Start → Directory
 directory s = numbers (s .args .slots .now) (s .args .frames .now) (s .args .valid .now) []
 
 -- what each search finds, in the directory that both look at
-slot-is : (c : tie.After-slot-of) → let s = c .before .before .before .before .before .before .before in c .slot-of .result ≡ slotOf (sizes s) (directory s) (s .args .n .0)
+slot-is : (c : tie.After-slot-of) →
+    let s : tie.Start = search back in
+    c .slot-of .result ≡ slotOf (sizes s) (directory s) (s .args .n .0)
 unfolding slotOf
 slot-is c = c .slot-of .ensures
 
-frame-is : (c : tie.After-frame-with) → let s = c .before .before .before .before .before .before .before .before .before .before in c .frame-with .result ≡ frameWith (sizes s) (directory s) (s .args .n .0)
+frame-is : (c : tie.After-frame-with) →
+    let s : tie.Start = search back in
+    c .frame-with .result ≡ frameWith (sizes s) (directory s) (s .args .n .0)
 unfolding frameWith inFrame
 frame-is c = c .frame-with .ensures
 
@@ -41,16 +89,21 @@ cast-if1 c = search needs
 
 copy-page-requires : tie.Need-copy-page-requires
 copy-page-requires c κs =
-    let q = c .before .before .before .before .before .before .before .before .before .before .pre in
-    (q .limits .S-high, has-buffer _ _ _ _ _ _ q, has-slot _ _ _ _ _ _ q _ (c .before .if1 .taken))
+    let then1 : tie.Then1 = search back in
+    let start : tie.Start = search back in
+    let q = start .pre in
+    (q .limits .S-high, has-buffer _ _ _ _ _ _ q, has-slot _ _ _ _ _ _ q _ (then1 .if1 .taken))
 
 same-length : tie.Need-same-length
 same-length c = search needs
 
 returns : tie.Need-returns
 returns c =
-    let s = c .before .before .before .before .before .before .before .before .before .before .before .before .before in
-    from-slot _ _ _ _ _ _ (s .pre) (directory s) _ _ (slot-is (c .before .before .before .before .before .before)) (c .before .before .before .before .if1 .taken) (c .before .before .copy-page .ensures)
+    let after-copy-page : tie.After-copy-page = search back in
+    let then1 : tie.Then1 = search back in
+    let after-slot-of : tie.After-slot-of = search back in
+    let s : tie.Start = search back in
+    from-slot _ _ _ _ _ _ (s .pre) (directory s) _ _ (slot-is after-slot-of) (then1 .if1 .taken) (after-copy-page .copy-page .ensures)
 
 frame-with-requires : tie.Need-frame-with-requires
 frame-with-requires c κs = search needs
@@ -66,31 +119,54 @@ cast-o c = search needs
 
 mul-at : tie.Need-mul-at
 mul-at c =
-    let s = c .before .before .before .before .before .before .before .before .before .before .before .before .before in
-    let h = frame-page-lt _ _ _ _ _ _ (s .pre) (c .before .before .before .frame-with .result) (c .before .if2 .taken) in let m = frames-small _ (s .pre .limits) in omega arith
+    let then2 : tie.Then2 = search back in
+    let after-frame-with : tie.After-frame-with = search back in
+    let s : tie.Start = search back in
+    let h = frame-page-lt _ _ _ _ _ _ (s .pre) (after-frame-with .frame-with .result) (then2 .if2 .taken) in
+    let m = frames-small _ (s .pre .limits) in
+    omega arith
 
 add-at : tie.Need-add-at
 add-at c =
-    let s = c .before .before .before .before .before .before .before .before .before .before .before .before .before in
-    let h = frame-page-lt _ _ _ _ _ _ (s .pre) (c .before .before .before .frame-with .result) (c .before .if2 .taken) in let m = frames-small _ (s .pre .limits) in
-    let e : c .offset-of .result ≡ s .args .n .0 % s .args .z .«pages_per_block» = c .offset-of .ensures in omega arith
+    let then2 : tie.Then2 = search back in
+    let after-frame-with : tie.After-frame-with = search back in
+    let s : tie.Start = search back in
+    let h = frame-page-lt _ _ _ _ _ _ (s .pre) (after-frame-with .frame-with .result) (then2 .if2 .taken) in
+    let m = frames-small _ (s .pre .limits) in
+    let e : c .offset-of .result ≡ s .args .n .0 % s .args .z .«pages_per_block» = c .offset-of .ensures in
+    omega arith
 
 copy-page-requires-2 : tie.Need-copy-page-requires-2
 copy-page-requires-2 c κs =
-    let q = c .before .before .before .before .before .before .before .before .before .before .before .before .before .before .pre in
-    (q .limits .S-high, has-buffer _ _ _ _ _ _ q, rw (c .before .offset-of .ensures) (has-frame-page _ _ _ _ _ _ q _ (c .before .before .if2 .taken)))
+    let after-offset-of : tie.After-offset-of = search back in
+    let then2 : tie.Then2 = search back in
+    let start : tie.Start = search back in
+    let q = start .pre in (
+      q .limits .S-high,
+      has-buffer _ _ _ _ _ _ q,
+      rw (after-offset-of .offset-of .ensures)
+          (has-frame-page _ _ _ _ _ _ q _ (then2 .if2 .taken)),
+    )
 
 same-length-2 : tie.Need-same-length-2
 same-length-2 c = search needs
 
 returns-2 : tie.Need-returns-2
 returns-2 c =
-    let s = c .before .before .before .before .before .before .before .before .before .before .before .before .before .before .before .before .before in
-    from-frame _ _ _ _ _ _ (s .pre) (directory s) _ _ _ _ (slot-is (c .before .before .before .before .before .before .before .before .before .before)) (c .before .before .before .before .before .before .before .before .if1 .left) (frame-is (c .before .before .before .before .before .before .before)) (c .before .before .before .before .before .if2 .taken) (c .before .before .before .before .offset-of .ensures) (c .before .before .copy-page2 .ensures)
+    let after-copy-page2 : tie.After-copy-page2 = search back in
+    let after-offset-of : tie.After-offset-of = search back in
+    let then2 : tie.Then2 = search back in
+    let after-frame-with : tie.After-frame-with = search back in
+    let else1 : tie.Else1 = search back in
+    let after-slot-of : tie.After-slot-of = search back in
+    let s : tie.Start = search back in
+    from-frame _ _ _ _ _ _ (s .pre) (directory s) _ _ _ _ (slot-is after-slot-of) (else1 .if1 .left) (frame-is after-frame-with)
+    (then2 .if2 .taken) (after-offset-of .offset-of .ensures) (after-copy-page2 .copy-page2 .ensures)
 
 read-page-requires : tie.Need-read-page-requires
 read-page-requires c κs =
-    let q = c .before .before .before .before .before .before .before .before .before .before .before .before .before .pre in
+    let start : tie.Start = search back in
+    let q = start .pre in
     (q .limits .S-high, has-flash _ _ _ _ _ _ q, has-buffer _ _ _ _ _ _ q)
 
 same-length-3 : tie.Need-same-length-3
@@ -98,8 +174,14 @@ same-length-3 c = search needs
 
 returns-3 : tie.Need-returns-3
 returns-3 c =
-    let s = c .before .before .before .before .before .before .before .before .before .before .before .before .before .before .before .before in
-    from-flash _ _ _ _ _ _ (s .pre) (directory s) _ _ _ (slot-is (c .before .before .before .before .before .before .before .before .before)) (c .before .before .before .before .before .before .before .if1 .left) (frame-is (c .before .before .before .before .before .before)) (c .before .before .before .before .if2 .left) (c .before .before .read-page .ensures)
+    let after-read-page : tie.After-read-page = search back in
+    let else2 : tie.Else2 = search back in
+    let after-frame-with : tie.After-frame-with = search back in
+    let else1 : tie.Else1 = search back in
+    let after-slot-of : tie.After-slot-of = search back in
+    let s : tie.Start = search back in
+    from-flash _ _ _ _ _ _ (s .pre) (directory s) _ _ _ (slot-is after-slot-of) (else1 .if1 .left) (frame-is after-frame-with)
+    (else2 .if2 .left) (after-read-page .read-page .ensures)
 
 pub peek-spec : {M : Type 1} → statement M
 peek-spec =

@@ -25,9 +25,11 @@ enum-known-found c = search needs
 
 touch-requires : tie.Need-touch-requires
 touch-requires c κs =
-    let s = c .before .before .before .before .before .before .before .before .before .before .before .before in
-    let k = peeked-any _ (c .before .before .before .before .before .before .peek .ensures) in
-    listed (sizes s) (directory s) _ (s .pre .0) (frame-below _ (directory s) _ _ (sym (c .before .before .found .given .1) ∙ k .found-is))
+    let after-found : tie.After-found = search in
+    let after-peek : tie.After-peek = search in
+    let s : tie.Start = search in
+    let k = peeked-any _ (after-peek .peek .ensures) in
+    listed (sizes s) (directory s) _ (s .pre .0) (frame-below _ (directory s) _ _ (sym (after-found .found .given .1) ∙ k .found-is))
 
 enum-told-2 : tie.Need-enum-told-2
 enum-told-2 c = search needs
@@ -37,25 +39,34 @@ same-length c = search needs
 
 returns : tie.Need-returns
 returns c =
-    let s = c .before .before .before .before .before .before .before .before .before .before in let e = c .enum-told .given .1 in
-    read-out (sizes s) (directory s) _ _ _ _ (peeked-any _ (c .before .before .before .before .peek .ensures)) (sym (ap (after (sizes s) (directory s)) e)) (sym (ap wayOf e))
+    let after-peek : tie.After-peek = search in
+    let s : tie.Start = search in
+    let e = c .enum-told .given .1 in
+    read-out (sizes s) (directory s) _ _ _ _ (peeked-any _ (after-peek .peek .ensures)) (sym (ap (after (sizes s) (directory s)) e))
+    (sym (ap wayOf e))
 
 same-length-2 : tie.Need-same-length-2
 same-length-2 c = search needs
 
 returns-2 : tie.Need-returns-2
 returns-2 c =
-    let s = c .before .before .before .before .before .before .before .before .before .before .before .before .before in
-    let e = c .before .before .before .found .given .1 in
-    read-out (sizes s) (directory s) _ _ _ _ (peeked-any _ (c .before .before .before .before .before .before .before .peek .ensures)) (touched-is (sizes s) (directory s) _ _ (c .touch .ensures) ∙ sym (ap (after (sizes s) (directory s)) e)) (sym (ap wayOf e))
+    let after-found : tie.After-found = search in
+    let after-peek : tie.After-peek = search in
+    let s : tie.Start = search in
+    let e = after-found .found .given .1 in
+    read-out (sizes s) (directory s) _ _ _ _ (peeked-any _ (after-peek .peek .ensures))
+    (touched-is (sizes s) (directory s) _ _ (c .touch .ensures) ∙ sym (ap (after (sizes s) (directory s)) e)) (sym (ap wayOf e))
 
 same-length-3 : tie.Need-same-length-3
 same-length-3 c = search needs
 
 returns-3 : tie.Need-returns-3
 returns-3 c =
-    let s = c .before .before .before .before .before .before .before .before .before .before in let e = c .enum-told2 .given .1 in
-    read-out (sizes s) (directory s) _ _ _ _ (peeked-any _ (c .before .before .before .before .peek .ensures)) (sym (ap (after (sizes s) (directory s)) e)) (sym (ap wayOf e))
+    let after-peek : tie.After-peek = search in
+    let s : tie.Start = search in
+    let e = c .enum-told2 .given .1 in
+    read-out (sizes s) (directory s) _ _ _ _ (peeked-any _ (after-peek .peek .ensures)) (sym (ap (after (sizes s) (directory s)) e))
+    (sym (ap wayOf e))
 
 pub read-spec : {M : Type 1} → statement M
 read-spec =

@@ -8,31 +8,36 @@ use Rattle.script.proofs.buffers_fit.Tie as tie
 
 mul-result : tie.Need-mul-result
 mul-result c =
-    let p = c .before .pre in
+    let start : tie.Start = search in
+    let p = start .pre in
     let m0 = mul-le-mul (p .N-high) (p .K-high) in
     omega arith
 
 mul-result-2 : tie.Need-mul-result-2
 mul-result-2 c =
-    let p = c .before .before .pre in
+    let start : tie.Start = search in
+    let p = start .pre in
     let m0 = mul-le-mul (mul-le-mul (p .N-high) (p .K-high)) (p .S-high) in
     omega arith
 
 mul-result-3 : tie.Need-mul-result-3
 mul-result-3 c =
-    let p = c .before .before .before .pre in
+    let start : tie.Start = search in
+    let p = start .pre in
     let m0 = mul-le-mul (p .P-high) (p .S-high) in
     omega arith
 
 mul-result-4 : tie.Need-mul-result-4
 mul-result-4 c =
-    let p = c .before .before .before .before .pre in
+    let start : tie.Start = search in
+    let p = start .pre in
     let m0 = mul-le-mul (p .B-high) (p .K-high) in
     omega arith
 
 mul-result-5 : tie.Need-mul-result-5
 mul-result-5 c =
-    let p = c .before .before .before .before .before .pre in
+    let start : tie.Start = search in
+    let p = start .pre in
     let m0 = mul-le-mul (mul-le-mul (p .B-high) (p .K-high)) (p .S-high) in
     omega arith
 

@@ -23,9 +23,11 @@ shared-slice-read-if1 c = search needs
 
 returns : tie.Need-returns Inv-loop μ-loop
 returns c =
-    let at = c .before .before .before in
-    let a = at .before .args in
-    sym (at .loop .inv .1 ∙ end-hit (a .b) (a .s .now) (at .loop .i) (c .before .before .loop-test .taken) (eq-eqb _ _ (c .if1 .taken)))
+    let in-loop : tie.In-loop Inv-loop μ-loop = search in
+    let at : tie.At-loop Inv-loop μ-loop = search in
+    let start : tie.Start Inv-loop μ-loop = search in
+    let a = start .args in
+    sym (at .loop .inv .1 ∙ end-hit (a .b) (a .s .now) (at .loop .i) (in-loop .loop-test .taken) (eq-eqb _ _ (c .if1 .taken)))
 
 add-i : tie.Need-add-i Inv-loop μ-loop
 add-i c = search needs
@@ -35,14 +37,17 @@ loop-less c = search needs
 
 loop-again : tie.Need-loop-again Inv-loop μ-loop
 loop-again c =
-    let at = c .before .before .before in
-    let a = at .before .args in
-    (omega arith, at .loop .inv .1 ∙ end-miss (a .b) (a .s .now) (at .loop .i) (c .before .before .loop-test .taken) (ne-eqb _ _ (c .if1 .left)))
+    let in-loop : tie.In-loop Inv-loop μ-loop = search in
+    let at : tie.At-loop Inv-loop μ-loop = search in
+    let start : tie.Start Inv-loop μ-loop = search in
+    let a = start .args in
+    (omega arith, at .loop .inv .1 ∙ end-miss (a .b) (a .s .now) (at .loop .i) (in-loop .loop-test .taken) (ne-eqb _ _ (c .if1 .left)))
 
 returns-2 : tie.Need-returns-2 Inv-loop μ-loop
 returns-2 c =
-    let at = c .before in
-    let a = at .before .args in
+    let at : tie.At-loop Inv-loop μ-loop = search in
+    let start : tie.Start Inv-loop μ-loop = search in
+    let a = start .args in
     sym (at .loop .inv .1 ∙ end-end (a .b) (a .s .now) (at .loop .i) (c .loop-test .left))
 
 pub end-of-spec : {M : Type 1} → statement M

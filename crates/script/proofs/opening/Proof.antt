@@ -10,19 +10,31 @@ ok-requires : tie.Need-ok-requires
 ok-requires c κs = search needs
 
 buffers-fit-requires : tie.Need-buffers-fit-requires
-buffers-fit-requires c κs = limits-of _ (sym (c .before .ok .ensures) ∙ c .if1 .taken)
+buffers-fit-requires c κs =
+    let after-ok : tie.After-ok = search in
+    limits-of _ (sym (after-ok .ok .ensures) ∙ c .if1 .taken)
 
 returns : tie.Need-returns
 unfolding opening
-returns c = rw (sym (c .before .before .before .ok .ensures) ∙ c .before .before .if1 .taken, sym (c .before .buffers-fit .ensures) ∙ not-t (c .if2 .taken))
+returns c =
+    let after-buffers-fit : tie.After-buffers-fit = search in
+    let then1 : tie.Then1 = search in
+    let after-ok : tie.After-ok = search in
+    rw (sym (after-ok .ok .ensures) ∙ then1 .if1 .taken, sym (after-buffers-fit .buffers-fit .ensures) ∙ not-t (c .if2 .taken))
 
 returns-2 : tie.Need-returns-2
 unfolding opening
-returns-2 c = rw (sym (c .before .before .before .ok .ensures) ∙ c .before .before .if1 .taken, sym (c .before .buffers-fit .ensures) ∙ not-f (c .if2 .left))
+returns-2 c =
+    let after-buffers-fit : tie.After-buffers-fit = search in
+    let then1 : tie.Then1 = search in
+    let after-ok : tie.After-ok = search in
+    rw (sym (after-ok .ok .ensures) ∙ then1 .if1 .taken, sym (after-buffers-fit .buffers-fit .ensures) ∙ not-f (c .if2 .left))
 
 returns-3 : tie.Need-returns-3
 unfolding opening
-returns-3 c = rw (sym (c .before .ok .ensures) ∙ c .if1 .left)
+returns-3 c =
+    let after-ok : tie.After-ok = search in
+    rw (sym (after-ok .ok .ensures) ∙ c .if1 .left)
 
 pub opening-spec : {M : Type 1} → statement M
 opening-spec = tie.close (tie.spec ok-requires buffers-fit-requires returns returns-2 returns-3)

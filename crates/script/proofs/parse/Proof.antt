@@ -17,7 +17,9 @@ shared-slice-read-if2-2 : tie.Need-shared-slice-read-if2-2
 shared-slice-read-if2-2 c = search needs
 
 returns-2 : tie.Need-returns-2
-returns-2 c = sym (bare-bad _ (c .before .before .before .if1 .left) (c .if2 .taken))
+returns-2 c =
+    let else1 : tie.Else1 = search in
+    sym (bare-bad _ (else1 .if1 .left) (c .if2 .taken))
 
 sub-form-of : tie.Need-sub-form-of
 sub-form-of c = search needs
@@ -32,7 +34,10 @@ form-of-requires : tie.Need-form-of-requires
 form-of-requires c κs = search needs
 
 returns-3 : tie.Need-returns-3
-returns-3 c = c .form-of .ensures ∙ sym (inside-form _ (c .before .before .before .before .before .if1 .left) (c .before .before .if2 .left))
+returns-3 c =
+    let else2 : tie.Else2 = search in
+    let else1 : tie.Else1 = search in
+    c .form-of .ensures ∙ sym (inside-form _ (else1 .if1 .left) (else2 .if2 .left))
 
 pub parse-spec : {M : Type 1} → statement M
 parse-spec =

@@ -13,7 +13,8 @@ use Rattle.script.proofs.read_numbers.Statement.{statement}
 use Rattle.script.proofs.read_numbers.Tie as tie
 
 abbrev Inv-loop : tie.InvT-loop
-Inv-loop s from values₀ count₀ at₀ values count at = (at ≤ length s) × ((count ≤ 6) × ((length values ≡ 6) × ReadTo (wordsAfter s from) (wordsAfter s at) count values))
+Inv-loop s from values₀ count₀ at₀ values count at = (at ≤ length s)
+    × ((count ≤ 6) × ((length values ≡ 6) × ReadTo (wordsAfter s from) (wordsAfter s at) count values))
 
 abbrev μ-loop : tie.MeasureT-loop
 μ-loop s from values₀ count₀ at₀ values count at = length s - at
@@ -23,9 +24,11 @@ loop-holds c = (search needs, (search needs, (search needs, read-none _ _)))
 
 returns : tie.Need-returns Inv-loop μ-loop
 returns c =
-    let at = c .before .before in
-    let s = c .before .before .before .before .args .s .now in
-    let r = rw (next-word s (at .loop .at) (c .before .loop-test .taken)) at (at .loop .inv .1 .1 .1) in
+    let in-loop : tie.In-loop Inv-loop μ-loop = search in
+    let at : tie.At-loop Inv-loop μ-loop = search in
+    let start : tie.Start Inv-loop μ-loop = search in
+    let s = start .args .s .now in
+    let r = rw (next-word s (at .loop .at) (in-loop .loop-test .taken)) at (at .loop .inv .1 .1 .1) in
     read-past _ (at .loop .inv .1 .1 .0) refl (read-stop r (inr (c .if1 .taken)))
 
 add-a : tie.Need-add-a Inv-loop μ-loop
@@ -41,21 +44,32 @@ part-number-start : tie.Need-part-number-start Inv-loop μ-loop
 part-number-start c = let e = c .end-of .ensures in omega arith
 
 part-number-end : tie.Need-part-number-end Inv-loop μ-loop
-part-number-end c = let k = end-le 32 (c .before .before .before .before .before .args .s .now) (c .before .before .before .loop .at + 1) (omega arith) in let e = c .end-of .ensures in omega arith
+part-number-end c =
+    let at-loop : tie.At-loop Inv-loop μ-loop = search in
+    let start : tie.Start Inv-loop μ-loop = search in
+    let k = end-le 32 (start .args .s .now) (at-loop .loop .at + 1) (omega arith) in
+    let e = c .end-of .ensures in
+    omega arith
 
 number-requires : tie.Need-number-requires Inv-loop μ-loop
 number-requires c κs = search needs
 
 returns-2 : tie.Need-returns-2 Inv-loop μ-loop
 returns-2 c =
-    let at = c .before .before .before .before .before .before in
-    let s = c .before .before .before .before .before .before .before .before .args .s .now in
+    let after-number : tie.After-number Inv-loop μ-loop = search in
+    let after-end-of : tie.After-end-of Inv-loop μ-loop = search in
+    let in-loop : tie.In-loop Inv-loop μ-loop = search in
+    let at : tie.At-loop Inv-loop μ-loop = search in
+    let start : tie.Start Inv-loop μ-loop = search in
+    let s = start .args .s .now in
     let a = at .loop .at + 1 in
-    let e = c .before .before .before .end-of .ensures in
+    let e = after-end-of .end-of .ensures in
     let w = upTo 32 (drop a s) in
-    let v : c .before .number .result ≡ numberOf w = c .before .number .ensures ∙ ap numberOf (ap (λ (k : ℕ). take (k - a) (drop a s)) e ∙ piece-is 32 s a) in
-    let r : ReadTo (wordsAfter s (c .before .before .before .before .before .before .before .before .args .from)) (w ∷ wordsAfter s (c .before .before .before .end-of .result)) (at .loop .count) (at .loop .values) =
-    rw (next-word s (at .loop .at) (c .before .before .before .before .before .loop-test .taken) ∙ ap (λ (k : ℕ). w ∷ wordsAfter s k) (sym e)) at (at .loop .inv .1 .1 .1) in
+    let v : after-number .number .result ≡ numberOf w = after-number .number .ensures
+    ∙ ap numberOf (ap (λ (k : ℕ). take (k - a) (drop a s)) e ∙ piece-is 32 s a) in
+    let r : ReadTo (wordsAfter s (start .args .from)) (w ∷ wordsAfter s (after-end-of .end-of .result)) (at .loop .count)
+    (at .loop .values) =
+    rw (next-word s (at .loop .at) (in-loop .loop-test .taken) ∙ ap (λ (k : ℕ). w ∷ wordsAfter s k) (sym e)) at (at .loop .inv .1 .1 .1) in
     read-past _ (at .loop .inv .1 .1 .0) refl (read-stop r (inl (number-high w (omega arith))))
 
 cast-values : tie.Need-cast-values Inv-loop μ-loop
@@ -71,21 +85,31 @@ add-count : tie.Need-add-count Inv-loop μ-loop
 add-count c = search needs
 
 loop-less : tie.Need-loop-less Inv-loop μ-loop
-loop-less c = let e = c .before .before .before .end-of .ensures in omega arith
+loop-less c =
+    let after-end-of : tie.After-end-of Inv-loop μ-loop = search in
+    let e = after-end-of .end-of .ensures in
+    omega arith
 
 loop-again : tie.Need-loop-again Inv-loop μ-loop
 loop-again c =
-    let at = c .before .before .before .before .before .before in
-    let s = c .before .before .before .before .before .before .before .before .args .s .now in
+    let after-number : tie.After-number Inv-loop μ-loop = search in
+    let after-end-of : tie.After-end-of Inv-loop μ-loop = search in
+    let else1 : tie.Else1 Inv-loop μ-loop = search in
+    let in-loop : tie.In-loop Inv-loop μ-loop = search in
+    let at : tie.At-loop Inv-loop μ-loop = search in
+    let start : tie.Start Inv-loop μ-loop = search in
+    let s = start .args .s .now in
     let a = at .loop .at + 1 in
-    let e = c .before .before .before .end-of .ensures in
+    let e = after-end-of .end-of .ensures in
     let w = upTo 32 (drop a s) in
-    let v : c .before .number .result ≡ numberOf w = c .before .number .ensures ∙ ap numberOf (ap (λ (k : ℕ). take (k - a) (drop a s)) e ∙ piece-is 32 s a) in
-    let r : ReadTo (wordsAfter s (c .before .before .before .before .before .before .before .before .args .from)) (w ∷ wordsAfter s (c .before .before .before .end-of .result)) (at .loop .count) (at .loop .values) =
-    rw (next-word s (at .loop .at) (c .before .before .before .before .before .loop-test .taken) ∙ ap (λ (k : ℕ). w ∷ wordsAfter s k) (sym e)) at (at .loop .inv .1 .1 .1) in
+    let v : after-number .number .result ≡ numberOf w = after-number .number .ensures
+    ∙ ap numberOf (ap (λ (k : ℕ). take (k - a) (drop a s)) e ∙ piece-is 32 s a) in
+    let r : ReadTo (wordsAfter s (start .args .from)) (w ∷ wordsAfter s (after-end-of .end-of .result)) (at .loop .count)
+    (at .loop .values) =
+    rw (next-word s (at .loop .at) (in-loop .loop-test .taken) ∙ ap (λ (k : ℕ). w ∷ wordsAfter s k) (sym e)) at (at .loop .inv .1 .1 .1) in
     let k = end-le 32 s a (omega arith) in
     let n = number-some w (omega arith) in
-    let f : at .loop .count < length (at .loop .values) = omega (arith, at .loop .inv .1 .0, at .loop .inv .1 .1 .0, c .before .before .before .before .if1 .left) in (
+    let f : at .loop .count < length (at .loop .values) = omega (arith, at .loop .inv .1 .0, at .loop .inv .1 .1 .0, else1 .if1 .left) in (
       omega arith,
       (
         omega arith,
@@ -98,8 +122,10 @@ loop-again c =
 
 returns-3 : tie.Need-returns-3 Inv-loop μ-loop
 returns-3 c =
-    let at = c .before in
-    read-all _ (at .loop .inv .1 .1 .0) (rw (after-none (c .before .before .before .args .s .now) (at .loop .at) (c .loop-test .left)) at (at .loop .inv .1 .1 .1)) (at .loop .inv .1 .0)
+    let at : tie.At-loop Inv-loop μ-loop = search in
+    let start : tie.Start Inv-loop μ-loop = search in
+    read-all _ (at .loop .inv .1 .1 .0) (rw (after-none (start .args .s .now) (at .loop .at) (c .loop-test .left))
+    at (at .loop .inv .1 .1 .1)) (at .loop .inv .1 .0)
 
 pub read-numbers-spec : {M : Type 1} → statement M
 read-numbers-spec =

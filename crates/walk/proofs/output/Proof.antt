@@ -27,22 +27,27 @@ slice-aggregate-run-5 : tie.Need-slice-aggregate-run-5
 slice-aggregate-run-5 c = search needs
 
 run-requires : tie.Need-run-requires
-run-requires c κs = (
-  record {
-    flash-length = length-replicate {A = ℕ} 32768 0;
-    wear-length = length-replicate {A = ℕ} 4096 0;
-    pspace-length = length-replicate {A = ℕ} 32768 0;
-    bspace-length = length-replicate {A = ℕ} 32768 0;
-    page-length = length-replicate {A = ℕ} 2048 0;
-  },
-  c .before .before .before .before .before .before .before .before .start .ensures .ready,
-)
+run-requires c κs =
+    let after-start : tie.After-start = search in (
+      record {
+        flash-length = length-replicate {A = ℕ} 32768 0;
+        wear-length = length-replicate {A = ℕ} 4096 0;
+        pspace-length = length-replicate {A = ℕ} 32768 0;
+        bspace-length = length-replicate {A = ℕ} 32768 0;
+        page-length = length-replicate {A = ℕ} 2048 0;
+      },
+      after-start .start .ensures .ready,
+    )
 
 same-length : tie.Need-same-length
 same-length c = search needs
 
 returns-2 : tie.Need-returns-2
-returns-2 c = let h = c .before .before .before .before .before .before .before .run .ensures in output-printed (c .before .before .before .before .before .before .before .before .before .before .before .before .before .before .before .before .start .ensures) (h .0) (h .1 .1)
+returns-2 c =
+    let after-run : tie.After-run = search in
+    let after-start : tie.After-start = search in
+    let h = after-run .run .ensures in
+    output-printed (after-start .start .ensures) (h .0) (h .1 .1)
 
 pub output-spec : {M : Type 1} → statement M
 output-spec =

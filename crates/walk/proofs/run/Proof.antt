@@ -13,34 +13,53 @@ use Rattle.walk.proofs.run.Tie as tie
 
 abbrev Inv-loop : tie.InvT-loop
 Inv-loop script flash₀ wear₀ pspace₀ bspace₀ page₀ out₀ r₀ flash wear pspace bspace page out r =
-    Memory (buffers flash wear pspace bspace) page × ((length out ≡ length out₀) × (Onward script r₀ (buffers flash₀ wear₀ pspace₀ bspace₀) out₀ r (buffers flash wear pspace bspace) out
+    Memory (buffers flash wear pspace bspace) page × ((length out ≡ length out₀)
+    × (Onward script r₀ (buffers flash₀ wear₀ pspace₀ bspace₀) out₀ r (buffers flash wear pspace bspace) out
     × (More script r₀ out₀ → (r₀ .at < r .at) ⊎ More script r out)))
 
 abbrev μ-loop : tie.MeasureT-loop
 μ-loop script flash₀ wear₀ pspace₀ bspace₀ page₀ out₀ r₀ flash wear pspace bspace page out r = length script - r .at
 
 loop-holds : tie.Need-loop-holds Inv-loop μ-loop
-loop-holds c = (c .before .before .before .before .before .before .before .pre .0, (refl, (onward-none _ _ _ _ (c .before .before .before .before .before .before .before .pre .1), λ h. inr h)))
+loop-holds c =
+    let start : tie.Start Inv-loop μ-loop = search in
+    (start .pre .0, (refl, (onward-none _ _ _ _ (start .pre .1), λ h. inr h)))
 
 sub-if1 : tie.Need-sub-if1 Inv-loop μ-loop
-sub-if1 c = let h = c .before .before .loop .inv .1 .1 .0 .ready .printed-le in search needs
+sub-if1 c =
+    let at-loop : tie.At-loop Inv-loop μ-loop = search in
+    let h = at-loop .loop .inv .1 .1 .0 .ready .printed-le in
+    search needs
 
 advance-requires : tie.Need-advance-requires Inv-loop μ-loop
-advance-requires c κs = let i = c .before .before .before .before .before .before .before .before .before .loop .inv in (i .0, (i .1 .1 .0 .ready, more-true _ _ _ (i .1 .1 .0 .ready .printed-le) (c .before .before .before .before .before .before .if1 .taken)))
+advance-requires c κs =
+    let then1 : tie.Then1 Inv-loop μ-loop = search in
+    let at-loop : tie.At-loop Inv-loop μ-loop = search in
+    let i = at-loop .loop .inv in
+    (i .0, (i .1 .1 .0 .ready, more-true _ _ _ (i .1 .1 .0 .ready .printed-le) (then1 .if1 .taken)))
 
 loop-less : tie.Need-loop-less Inv-loop μ-loop
 loop-less c =
-    let m = more-true (c .before .before .before .before .before .before .before .before .before .before .before .before .before .before .before .before .before .before .before .before .before .before .before .before .before .before .before .before .before .before .args .script .now) (c .before .before .before .before .before .before .before .before .before .before .before .before .before .before .before .before .before .before .before .before .before .before .loop .r) (c .before .before .before .before .before .before .before .before .before .before .before .before .before .before .before .before .before .before .before .before .before .before .loop .out) (c .before .before .before .before .before .before .before .before .before .before .before .before .before .before .before .before .before .before .before .before .before .before .loop .inv .1 .1 .0 .ready .printed-le) (c .before .before .before .before .before .before .before .before .before .before .before .before .before .before .before .before .before .before .before .if1 .taken) in
+    let after-advance : tie.After-advance Inv-loop μ-loop = search in
+    let then1 : tie.Then1 Inv-loop μ-loop = search in
+    let at-loop : tie.At-loop Inv-loop μ-loop = search in
+    let start : tie.Start Inv-loop μ-loop = search in
+    let m = more-true (start .args .script .now) (at-loop .loop .r) (at-loop .loop .out) (at-loop .loop .inv .1 .1 .0 .ready .printed-le)
+    (then1 .if1 .taken) in
     let l = m .line in
-    let a = c .before .before .before .before .before .before .before .before .before .before .before .before .advance .ensures .1 in
+    let a = after-advance .advance .ensures .1 in
     omega arith
 
 loop-again : tie.Need-loop-again Inv-loop μ-loop
 loop-again c =
-    let i = c .before .before .before .before .before .before .before .before .before .before .before .before .before .before .before .before .before .before .before .before .before .before .loop .inv in
-    let a = c .before .before .before .before .before .before .before .before .before .before .before .before .advance .ensures in
-    let k = c .before .before .before .before .before .before .before .before .before .before .before .before .advance .kept in
-    (memory-kept (i .0) (k .1 .1 .0) (k .1 .1 .1 .0) (k .1 .1 .1 .1 .0) (k .1 .1 .1 .1 .1 .0) (k .1 .1 .1 .1 .1 .1 .0), (k .1 .1 .1 .1 .1 .1 .1 .0 ∙ i .1 .0, (onward-then (i .1 .1 .0) (a .0), λ h. inl (let f = i .1 .1 .0 .from in let o = a .1 in omega arith))))
+    let after-advance : tie.After-advance Inv-loop μ-loop = search in
+    let at-loop : tie.At-loop Inv-loop μ-loop = search in
+    let i = at-loop .loop .inv in
+    let a = after-advance .advance .ensures in
+    let k = after-advance .advance .kept in (
+      memory-kept (i .0) (omega (arith, k)) (omega (arith, k)) (omega (arith, k)) (omega (arith, k)) (omega (arith, k)),
+      (omega (arith, k, i), (onward-then (i .1 .1 .0) (a .0), λ h. inl (let f = i .1 .1 .0 .from in let o = a .1 in omega arith))),
+    )
 
 same-length : tie.Need-same-length Inv-loop μ-loop
 same-length c = search needs
@@ -62,8 +81,14 @@ same-length-6 c = search needs
 
 returns : tie.Need-returns Inv-loop μ-loop
 returns c =
-    let i = c .before .before .before .loop .inv in
-    (i .1 .1 .0, (λ h. elim (i .1 .1 .1 h) [ inl l ↦ l | inr m ↦ absurd (more-false _ _ _ (c .if1 .left) m) ], more-false _ _ _ (c .if1 .left)))
+    let at-loop : tie.At-loop Inv-loop μ-loop = search in
+    let i = at-loop .loop .inv in (
+      i .1 .1 .0,
+      (
+        λ h. elim (i .1 .1 .1 h) [ inl l ↦ l | inr m ↦ absurd (more-false _ _ _ (c .if1 .left) m) ],
+        more-false _ _ _ (c .if1 .left),
+      ),
+    )
 
 pub run-spec : {M : Type 1} → statement M
 run-spec =

@@ -14,7 +14,12 @@ same-length : tie.Need-same-length
 same-length c = search needs
 
 returns : tie.Need-returns
-returns c = started-over (c .before .before .before .before .before .before .before .before .args .script .now) _ (c .blank .ensures) _ (let h = c .before .before .before .before .before .if1 .taken in omega arith) _ _ (search needs) (search needs) (c .before .before .before .put-bad .ensures)
+returns c =
+    let after-put-bad : tie.After-put-bad = search in
+    let then1 : tie.Then1 = search in
+    let start : tie.Start = search in
+    started-over (start .args .script .now) _ (c .blank .ensures) _ (let h = then1 .if1 .taken in omega arith) _ _ (search needs)
+    (search needs) (after-put-bad .put-bad .ensures)
 
 blank-requires-2 : tie.Need-blank-requires-2
 blank-requires-2 c κs = search needs

@@ -24,21 +24,52 @@ loop-holds : tie.Need-loop-holds Inv-loop μ-loop
 loop-holds c = let h = c .pre .2 in (refl, omega arith)
 
 add-b : tie.Need-add-b Inv-loop μ-loop
-add-b c = let l = c .before .before .loop in let i = l .inv .1 in let n = c .before .before .before .pre .1 in let m = block-le (c .before .before .before .args .k) (l .b) (c .before .before .before .pre .0) in record { fits = omega arith }
+add-b c =
+    let at-loop : tie.At-loop Inv-loop μ-loop = search in
+    let start : tie.Start Inv-loop μ-loop = search in
+    let l = at-loop .loop in
+    let i = l .inv .1 in
+    let n = start .pre .1 in
+    let m = block-le (start .args .k) (l .b) (start .pre .0) in
+    record { fits = omega arith }
 
 add-last-2 : tie.Need-add-last-2 Inv-loop μ-loop
-add-last-2 c = let t = c .if1 .taken in let e = c .before .before .loop .inv .0 in let i = c .before .before .loop .inv .1 in let n = c .before .before .before .pre .1 in record { fits = omega arith }
+add-last-2 c =
+    let at-loop : tie.At-loop Inv-loop μ-loop = search in
+    let start : tie.Start Inv-loop μ-loop = search in
+    let t = c .if1 .taken in
+    let e = at-loop .loop .inv .0 in
+    let i = at-loop .loop .inv .1 in
+    let n = start .pre .1 in
+    record { fits = omega arith }
 
 loop-less : tie.Need-loop-less Inv-loop μ-loop
-loop-less c = let t = c .if1 .taken in let k = c .before .before .before .pre .0 in omega arith
+loop-less c =
+    let start : tie.Start Inv-loop μ-loop = search in
+    let t = c .if1 .taken in
+    let k = start .pre .0 in
+    omega arith
 
 loop-again : tie.Need-loop-again Inv-loop μ-loop
 loop-again c =
-    let l = c .before .before .loop in let e = l .inv .0 in let t = c .if1 .taken in let k = c .before .before .before .pre .0 in let u = one-after (c .before .before .before .args .k) (l .b) in (omega arith, omega arith)
+    let at-loop : tie.At-loop Inv-loop μ-loop = search in
+    let start : tie.Start Inv-loop μ-loop = search in
+    let l = at-loop .loop in
+    let e = l .inv .0 in
+    let t = c .if1 .taken in
+    let k = start .pre .0 in
+    let u = one-after (start .args .k) (l .b) in
+    (omega arith, omega arith)
 
 returns : tie.Need-returns Inv-loop μ-loop
 returns c =
-    let a = c .before .before .before .args in let l = c .before .before .loop in let e = l .inv .0 in let t = c .if1 .left in let k = c .before .before .before .pre .0 in
+    let at-loop : tie.At-loop Inv-loop μ-loop = search in
+    let start : tie.Start Inv-loop μ-loop = search in
+    let a = start .args in
+    let l = at-loop .loop in
+    let e = l .inv .0 in
+    let t = c .if1 .left in
+    let k = start .pre .0 in
     ap (λ (x : ℕ). record { 0 = x }) (sym (in-range (a .k) (l .b) (a .n .0) (l .inv .1) (omega arith)))
 
 pub block-after-spec : {M : Type 1} → statement M

@@ -12,11 +12,21 @@ Inv-loop n k start b₀ first₀ b first = (first ≡ b * k) × (b < 262144) × 
 abbrev μ-loop : tie.MeasureT-loop
 μ-loop n k start b₀ first₀ b first = first - n .0
 
-down : (c : tie.Then1 Inv-loop μ-loop) → (1 ≤ c .before .before .loop .b) × (c .before .before .before .args .k ≤ c .before .before .loop .first) × (c .before .before .loop .first - c .before .before .before .args .k ≡ (c .before .before .loop .b - 1) * c .before .before .before .args .k)
-down c = let l = c .before .before .loop in let a = c .before .before .before .args in rw (l .inv .0) (one-before (a .k) (l .b) (a .n .0) (rw (← (l .inv .0)) (c .if1 .taken)))
+down : (c : tie.Then1 Inv-loop μ-loop) →
+    let at-loop : tie.At-loop Inv-loop μ-loop = search in
+    let start : tie.Start Inv-loop μ-loop = search in
+    (1 ≤ at-loop .loop .b) × (start .args .k ≤ at-loop .loop .first)
+    × (at-loop .loop .first - start .args .k ≡ (at-loop .loop .b - 1) * start .args .k)
+down c =
+    let at-loop : tie.At-loop Inv-loop μ-loop = search in
+    let start : tie.Start Inv-loop μ-loop = search in
+    let l = at-loop .loop in
+    let a = start .args in
+    rw (l .inv .0) (one-before (a .k) (l .b) (a .n .0) (rw (← (l .inv .0)) (c .if1 .taken)))
 
 mul-first : tie.Need-mul-first Inv-loop μ-loop
-mul-first c = let l = c .pre .2 in let low : c .args .start ≤ 262143 = omega arith in let top : c .args .start * c .args .k ≤ 262143 * 64 = mul-le-mul low (c .pre .1) in record { fits = omega arith }
+mul-first c = let l = c .pre .2 in let low : c .args .start ≤ 262143 = omega arith in
+    let top : c .args .start * c .args .k ≤ 262143 * 64 = mul-le-mul low (c .pre .1) in record { fits = omega arith }
 
 loop-holds : tie.Need-loop-holds Inv-loop μ-loop
 loop-holds c = let h = c .pre .3 in (refl, c .pre .2, omega arith)
@@ -28,14 +38,32 @@ sub-first : tie.Need-sub-first Inv-loop μ-loop
 sub-first c = down c .1
 
 loop-less : tie.Need-loop-less Inv-loop μ-loop
-loop-less c = let h = down c .1 in let t = c .if1 .taken in let k = c .before .before .before .pre .0 in omega arith
+loop-less c =
+    let start : tie.Start Inv-loop μ-loop = search in
+    let h = down c .1 in
+    let t = c .if1 .taken in
+    let k = start .pre .0 in
+    omega arith
 
 loop-again : tie.Need-loop-again Inv-loop μ-loop
-loop-again c = let h = down c in let i = c .before .before .loop .inv in let t = c .if1 .taken in let l = i .1 in let s = h .1 in (h .2, omega arith, omega arith)
+loop-again c =
+    let at-loop : tie.At-loop Inv-loop μ-loop = search in
+    let h = down c in
+    let i = at-loop .loop .inv in
+    let t = c .if1 .taken in
+    let l = i .1 in
+    let s = h .1 in
+    (h .2, omega arith, omega arith)
 
 returns : tie.Need-returns Inv-loop μ-loop
 returns c =
-    let a = c .before .before .before .args in let l = c .before .before .loop in let e = l .inv .0 in let h = l .inv .2 in let t = c .if1 .left in
+    let at-loop : tie.At-loop Inv-loop μ-loop = search in
+    let start : tie.Start Inv-loop μ-loop = search in
+    let a = start .args in
+    let l = at-loop .loop in
+    let e = l .inv .0 in
+    let h = l .inv .2 in
+    let t = c .if1 .left in
     ap (λ (x : ℕ). record { 0 = x }) (sym (in-range (a .k) (l .b) (a .n .0) (omega arith) (omega arith)))
 
 pub block-before-spec : {M : Type 1} → statement M

@@ -8,13 +8,25 @@ use Rattle.address.proofs.range.block_by.Statement.{statement}
 use Rattle.address.proofs.range.block_by.Tie as tie
 
 -- the block looked at
-product : (c : tie.After-struct-known) → c .before .args .n .0 * c .before .args .m ≤ 262143 * 4294967295
+product : (c : tie.After-struct-known) →
+    let start : tie.Start = search in
+    start .args .n .0 * start .args .m ≤ 262143 * 4294967295
 product c =
-    let n = c .before .pre .2 in let w = c .before .fits .m .fits in let first : c .before .args .n .0 ≤ 262143 = omega arith in let second : c .before .args .m ≤ 4294967295 = omega arith in
+    let start : tie.Start = search in
+    let n = start .pre .2 in
+    let w = start .fits .m .fits in
+    let first : start .args .n .0 ≤ 262143 = omega arith in
+    let second : start .args .m ≤ 4294967295 = omega arith in
     mul-le-mul first second
 
-first-page : (c : tie.After-struct-known) → c .before .args .n .0 * c .before .args .m / 4294967296 * c .before .args .k ≤ 262143 * 64
-first-page c = let l = product c in let g : c .before .args .n .0 * c .before .args .m / 4294967296 ≤ 262143 = omega arith in mul-le-mul g (c .before .pre .1)
+first-page : (c : tie.After-struct-known) →
+    let start : tie.Start = search in
+    start .args .n .0 * start .args .m / 4294967296 * start .args .k ≤ 262143 * 64
+first-page c =
+    let start : tie.Start = search in
+    let l = product c in
+    let g : start .args .n .0 * start .args .m / 4294967296 ≤ 262143 = omega arith in
+    mul-le-mul g (start .pre .1)
 
 cast-wide : tie.Need-cast-wide
 cast-wide c = search needs
@@ -32,24 +44,43 @@ sub-last : tie.Need-sub-last
 sub-last c = search needs
 
 add-last : tie.Need-add-last
-add-last c = let l = first-page c in let k = c .before .pre .1 in record { fits = omega arith }
+add-last c =
+    let start : tie.Start = search in
+    let l = first-page c in
+    let k = start .pre .1 in
+    record { fits = omega arith }
 
 block-before-requires : tie.Need-block-before-requires
-block-before-requires c κs = let p = c .before .before .before .pre in let l = product (c .before .before) in (p .0, p .1, omega arith, c .if1 .taken)
+block-before-requires c κs =
+    let after-struct-known : tie.After-struct-known = search in
+    let start : tie.Start = search in
+    let p = start .pre in
+    let l = product after-struct-known in
+    (p .0, p .1, omega arith, c .if1 .taken)
 
 returns : tie.Need-returns
 returns c = c .block-before .ensures
 
 block-after-requires : tie.Need-block-after-requires
-block-after-requires c κs = let p = c .before .before .before .before .before .pre in let k = p .0 in let t = c .if2 .taken in (p .0, p .2, omega arith)
+block-after-requires c κs =
+    let start : tie.Start = search in
+    let p = start .pre in
+    let k = p .0 in
+    let t = c .if2 .taken in
+    (p .0, p .2, omega arith)
 
 returns-2 : tie.Need-returns-2
 returns-2 c = c .block-after .ensures
 
 returns-3 : tie.Need-returns-3
 returns-3 c =
-    let a = c .before .before .before .before .before in let k = a .pre .0 in let t = c .if2 .left in
-    ap (λ (x : ℕ). record { 0 = x }) (sym (in-range (a .args .k) (a .args .n .0 * a .args .m / 4294967296) (a .args .n .0) (c .before .before .if1 .left) (omega arith)))
+    let else1 : tie.Else1 = search in
+    let a : tie.Start = search in
+    let k = a .pre .0 in
+    let t = c .if2 .left in
+    ap (λ (x : ℕ). record { 0 = x }) (sym (in-range (a .args .k) (a .args .n .0 * a .args .m / 4294967296) (a .args .n .0)
+    (else1 .if1 .left) (omega arith)))
 
 pub block-by-spec : {M : Type 1} → statement M
-block-by-spec = tie.close (tie.spec cast-wide mul-wide cast-b mul-first sub-last add-last block-before-requires returns block-after-requires returns-2 returns-3)
+block-by-spec = tie.close (tie.spec cast-wide mul-wide cast-b mul-first sub-last add-last block-before-requires returns
+    block-after-requires returns-2 returns-3)

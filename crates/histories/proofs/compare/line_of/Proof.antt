@@ -30,7 +30,11 @@ loop-less : tie.Need-loop-less Inv-loop μ-loop
 loop-less c = search needs
 
 loop-again : tie.Need-loop-again Inv-loop μ-loop
-loop-again c = elim (c .if1 .came) [ inl w ↦ (let e = w .2 in omega arith, omega arith) | inr w ↦ (let e = w .1 in omega arith, omega arith) ]
+loop-again c = elim (c .if1 .came) [
+  | inl w ↦ (let e = w .2 in omega arith, omega arith)
+  | inr w ↦
+      (let e = w .1 in omega arith, omega arith)
+]
 
 returns : tie.Need-returns Inv-loop μ-loop
 returns c = search needs

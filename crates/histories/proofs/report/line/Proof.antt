@@ -13,7 +13,9 @@ part-text-start : tie.Need-part-text-start
 part-text-start c = search needs
 
 part-text-end : tie.Need-part-text-end
-part-text-end c = rw (c .end-of .ensures) (end-le _ _ _ (c .before .before .pre))
+part-text-end c =
+    let start : tie.Start = search in
+    rw (c .end-of .ensures) (end-le _ _ _ (start .pre))
 
 text-requires : tie.Need-text-requires
 text-requires c κs = search needs

@@ -8,7 +8,8 @@ use Rattle.interpret.proofs.parts.clear.Statement.{statement}
 use Rattle.interpret.proofs.parts.clear.Tie as tie
 
 abbrev Inv-loop : tie.InvT-loop
-Inv-loop numbers₀ n i₀ numbers i = (i ≤ length numbers₀) × ((length numbers ≡ length numbers₀) × (numbers ≡ overlay i (replicate (length numbers₀) 0) numbers₀))
+Inv-loop numbers₀ n i₀ numbers i = (i ≤ length numbers₀) × ((length numbers ≡ length numbers₀)
+    × (numbers ≡ overlay i (replicate (length numbers₀) 0) numbers₀))
 
 abbrev μ-loop : tie.MeasureT-loop
 μ-loop numbers₀ n i₀ numbers i = length numbers₀ - i
@@ -30,21 +31,30 @@ loop-less c = omega arith
 
 loop-again : tie.Need-loop-again Inv-loop μ-loop
 loop-again c =
-    let at = c .before in
-    let numbers₀ = at .before .args .numbers .now in
+    let at : tie.At-loop Inv-loop μ-loop = search in
+    let start : tie.Start Inv-loop μ-loop = search in
+    let numbers₀ = start .args .numbers .now in
     let src = replicate {A = ℕ} (length numbers₀) 0 in
     let e : length src ≡ length numbers₀ = length-replicate _ _ in
     let k : at .loop .i < length numbers₀ = omega arith in
     let h : at .loop .i < length src = omega arith in
-    let r = overlay-step _ src numbers₀ h k in
-    (omega arith, (simp length-set (at .loop .inv .1 .0), rw (at .loop .inv .1 .1) (rw (getD-replicate {A = ℕ} (length numbers₀) (at .loop .i) 0 0 k) at r)))
+    let r = overlay-step _ src numbers₀ h k in (
+      omega arith,
+      (
+        simp length-set (at .loop .inv .1 .0),
+        rw (at .loop .inv .1 .1)
+            (rw (getD-replicate {A = ℕ} (length numbers₀) (at .loop .i) 0 0 k) at r),
+      ),
+    )
 
 same-length : tie.Need-same-length Inv-loop μ-loop
-same-length c = c .before .loop .inv .1 .0
+same-length c =
+    let at-loop : tie.At-loop Inv-loop μ-loop = search in
+    at-loop .loop .inv .1 .0
 
 returns : tie.Need-returns Inv-loop μ-loop
 returns c =
-    let at = c .before in
+    let at : tie.At-loop Inv-loop μ-loop = search in
     at .loop .inv .1 .1 ∙ overlay-all _ _ _ (simp length-replicate) (omega arith)
 
 pub clear-spec : {M : Type 1} → statement M

@@ -6,7 +6,9 @@ use Rattle.interpret.proofs.parts.first.Statement.{statement}
 use Rattle.interpret.proofs.parts.first.Tie as tie
 
 returns : tie.Need-returns
-returns c = sym (List·getD-eq-default (c .before .args .bytes .now) 0 (omega arith))
+returns c =
+    let start : tie.Start = search in
+    sym (List·getD-eq-default (start .args .bytes .now) 0 (omega arith))
 
 shared-slice-read-result : tie.Need-shared-slice-read-result
 shared-slice-read-result c = search needs

@@ -21,7 +21,11 @@ cast-b : tie.Need-cast-b
 cast-b c = search needs
 
 mul-t7 : tie.Need-mul-t7
-mul-t7 c = let a = c .before .before .before .before .before .args .z in let h : a .blocks * a .«pages_per_block» ≤ 4096 * 64 = mul-le-mul (c .before .before .before .before .before .pre .N-high) (c .before .before .before .before .before .pre .K-high) in omega arith
+mul-t7 c =
+    let start : tie.Start = search in
+    let a = start .args .z in
+    let h : a .blocks * a .«pages_per_block» ≤ 4096 * 64 = mul-le-mul (start .pre .N-high) (start .pre .K-high) in
+    omega arith
 
 mul-t8 : tie.Need-mul-t8
 mul-t8 c = search needs
@@ -30,7 +34,11 @@ mul-t9 : tie.Need-mul-t9
 mul-t9 c = search needs
 
 mul-t10 : tie.Need-mul-t10
-mul-t10 c = let a = c .before .before .before .before .before .args .z in let h : a .frames * a .«pages_per_block» ≤ 8 * 64 = mul-le-mul (c .before .before .before .before .before .pre .B-high) (c .before .before .before .before .before .pre .K-high) in omega arith
+mul-t10 c =
+    let start : tie.Start = search in
+    let a = start .args .z in
+    let h : a .frames * a .«pages_per_block» ≤ 8 * 64 = mul-le-mul (start .pre .B-high) (start .pre .K-high) in
+    omega arith
 
 mul-t11 : tie.Need-mul-t11
 mul-t11 c = search needs

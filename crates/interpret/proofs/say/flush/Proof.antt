@@ -26,13 +26,22 @@ same-length : tie.Need-same-length
 same-length c = search needs
 
 returns : tie.Need-returns
-returns c = rw (c .before .before .before .before .before .answer .given .1) (c .before .before .put-flush .ensures)
+returns c =
+    let after-put-flush : tie.After-put-flush = search in
+    let after-answer : tie.After-answer = search in
+    rw (after-answer .answer .given .1) (after-put-flush .put-flush .ensures)
 
 same-length-2 : tie.Need-same-length-2
 same-length-2 c = search needs
 
 returns-2 : tie.Need-returns-2
-returns-2 c = rw (c .before .before .before .before .before .before .answer2 .given .1) (printed-as (omega arith) (ap (line "flush") (said-refused (c .before .before .before .before .before .before .answer2 .given .0 .0) _ 0 0 (c .before .before .before .number .ensures))) (c .before .before .put-flush-refused .ensures))
+returns-2 c =
+    let after-put-flush-refused : tie.After-put-flush-refused = search in
+    let after-number : tie.After-number = search in
+    let after-answer2 : tie.After-answer2 = search in
+    rw (after-answer2 .answer2 .given .1) (printed-as (omega arith)
+    (ap (line "flush") (said-refused (after-answer2 .answer2 .given .0 .0) _ 0 0 (after-number .number .ensures)))
+    (after-put-flush-refused .put-flush-refused .ensures))
 
 pub flush-spec : {M : Type 1} → statement M
 flush-spec =

@@ -26,13 +26,22 @@ same-length : tie.Need-same-length
 same-length c = search needs
 
 returns : tie.Need-returns
-returns c = rw (c .before .before .before .before .enum-told .given .1) (c .before .before .put-open .ensures)
+returns c =
+    let after-put-open : tie.After-put-open = search in
+    let after-enum-told : tie.After-enum-told = search in
+    rw (after-enum-told .enum-told .given .1) (after-put-open .put-open .ensures)
 
 same-length-2 : tie.Need-same-length-2
 same-length-2 c = search needs
 
 returns-2 : tie.Need-returns-2
-returns-2 c = rw (c .before .before .before .before .before .before .answer .given .1) (printed-as (omega arith) (ap (line "open") (said-refused (c .before .before .before .before .before .before .answer .given .0 .0) _ 0 0 (c .before .before .before .number .ensures))) (c .before .before .put-open-refused .ensures))
+returns-2 c =
+    let after-put-open-refused : tie.After-put-open-refused = search in
+    let after-number : tie.After-number = search in
+    let after-answer : tie.After-answer = search in
+    rw (after-answer .answer .given .1) (printed-as (omega arith)
+    (ap (line "open") (said-refused (after-answer .answer .given .0 .0) _ 0 0 (after-number .number .ensures)))
+    (after-put-open-refused .put-open-refused .ensures))
 
 pub opening-spec : {M : Type 1} → statement M
 opening-spec =

@@ -29,13 +29,24 @@ same-length : tie.Need-same-length
 same-length c = search needs
 
 returns : tie.Need-returns
-returns c = rw (c .before .before .before .before .before .answer .given .1) (c .before .before .put-read .ensures)
+returns c =
+    let after-put-read : tie.After-put-read = search in
+    let after-answer : tie.After-answer = search in
+    rw (after-answer .answer .given .1) (after-put-read .put-read .ensures)
 
 same-length-2 : tie.Need-same-length-2
 same-length-2 c = search needs
 
 returns-2 : tie.Need-returns-2
-returns-2 c = rw (c .before .before .before .before .before .before .answer2 .given .1) (printed-as (omega arith) (ap (λ (l : List (List ℕ)). line "read" (decimal (c .before .before .before .before .before .before .before .before .before .args .n) ∷ l)) (said-refused (c .before .before .before .before .before .before .answer2 .given .0 .0) _ 0 (c .before .before .before .before .before .before .before .before .before .args .byte) (c .before .before .before .number .ensures))) (c .before .before .put-read-refused .ensures))
+returns-2 c =
+    let after-put-read-refused : tie.After-put-read-refused = search in
+    let after-number : tie.After-number = search in
+    let after-answer2 : tie.After-answer2 = search in
+    let start : tie.Start = search in
+    rw (after-answer2 .answer2 .given .1) (printed-as (omega arith)
+    (ap (λ (l : List (List ℕ)). line "read" (decimal (start .args .n) ∷ l))
+    (said-refused (after-answer2 .answer2 .given .0 .0) _ 0 (start .args .byte) (after-number .number .ensures)))
+    (after-put-read-refused .put-read-refused .ensures))
 
 pub read-spec : {M : Type 1} → statement M
 read-spec =

@@ -32,19 +32,31 @@ same-length : tie.Need-same-length
 same-length c = search needs
 
 returns : tie.Need-returns
-returns c = rw (c .before .before .before .before .before .answer .given .1) (c .before .before .put-step .ensures)
+returns c =
+    let after-put-step : tie.After-put-step = search in
+    let after-answer : tie.After-answer = search in
+    rw (after-answer .answer .given .1) (after-put-step .put-step .ensures)
 
 same-length-2 : tie.Need-same-length-2
 same-length-2 c = search needs
 
 returns-2 : tie.Need-returns-2
-returns-2 c = rw (c .before .before .before .before .enum-told .given .1) (c .before .before .put-clean .ensures)
+returns-2 c =
+    let after-put-clean : tie.After-put-clean = search in
+    let after-enum-told : tie.After-enum-told = search in
+    rw (after-enum-told .enum-told .given .1) (after-put-clean .put-clean .ensures)
 
 same-length-3 : tie.Need-same-length-3
 same-length-3 c = search needs
 
 returns-3 : tie.Need-returns-3
-returns-3 c = rw (c .before .before .before .before .before .before .answer2 .given .1) (printed-as (omega arith) (ap (line "step") (said-refused (c .before .before .before .before .before .before .answer2 .given .0 .0) _ 0 0 (c .before .before .before .number .ensures))) (c .before .before .put-step-refused .ensures))
+returns-3 c =
+    let after-put-step-refused : tie.After-put-step-refused = search in
+    let after-number : tie.After-number = search in
+    let after-answer2 : tie.After-answer2 = search in
+    rw (after-answer2 .answer2 .given .1) (printed-as (omega arith)
+    (ap (line "step") (said-refused (after-answer2 .answer2 .given .0 .0) _ 0 0 (after-number .number .ensures)))
+    (after-put-step-refused .put-step-refused .ensures))
 
 pub step-spec : {M : Type 1} → statement M
 step-spec =

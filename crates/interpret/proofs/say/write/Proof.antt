@@ -35,19 +35,33 @@ same-length : tie.Need-same-length
 same-length c = search needs
 
 returns : tie.Need-returns
-returns c = rw (c .before .before .before .before .before .answer .given .1) (c .before .before .put-write .ensures)
+returns c =
+    let after-put-write : tie.After-put-write = search in
+    let after-answer : tie.After-answer = search in
+    rw (after-answer .answer .given .1) (after-put-write .put-write .ensures)
 
 same-length-2 : tie.Need-same-length-2
 same-length-2 c = search needs
 
 returns-2 : tie.Need-returns-2
-returns-2 c = rw (c .before .before .before .before .before .answer2 .given .1) (c .before .before .put-write2 .ensures)
+returns-2 c =
+    let after-put-write2 : tie.After-put-write2 = search in
+    let after-answer2 : tie.After-answer2 = search in
+    rw (after-answer2 .answer2 .given .1) (after-put-write2 .put-write2 .ensures)
 
 same-length-3 : tie.Need-same-length-3
 same-length-3 c = search needs
 
 returns-3 : tie.Need-returns-3
-returns-3 c = rw (c .before .before .before .before .before .before .answer3 .given .1) (printed-as (omega arith) (ap (λ (l : List (List ℕ)). line "write" (decimal (c .before .before .before .before .before .before .before .before .before .args .n) ∷ l)) (said-refused (c .before .before .before .before .before .before .answer3 .given .0 .0) _ 0 0 (c .before .before .before .number .ensures))) (c .before .before .put-write-refused .ensures))
+returns-3 c =
+    let after-put-write-refused : tie.After-put-write-refused = search in
+    let after-number : tie.After-number = search in
+    let after-answer3 : tie.After-answer3 = search in
+    let start : tie.Start = search in
+    rw (after-answer3 .answer3 .given .1) (printed-as (omega arith)
+    (ap (λ (l : List (List ℕ)). line "write" (decimal (start .args .n) ∷ l))
+    (said-refused (after-answer3 .answer3 .given .0 .0) _ 0 0 (after-number .number .ensures)))
+    (after-put-write-refused .put-write-refused .ensures))
 
 pub write-spec : {M : Type 1} → statement M
 write-spec =

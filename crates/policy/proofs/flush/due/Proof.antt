@@ -14,11 +14,15 @@ use Rattle.policy.proofs.flush.due.Tie as tie
 abbrev whole : tie.Start → Directory
 whole c = numbers (c .args .slots .now) (c .args .frames .now) (c .pre .valid) (c .args .recency .now)
 
-oldest : (c : tie.After-oldest-occupied) → c .oldest-occupied .result ≡ oldestOccupied (sizesOf (c .before .args .z)) (whole (c .before))
+oldest : (c : tie.After-oldest-occupied) →
+    let start : tie.Start = search in
+    c .oldest-occupied .result ≡ oldestOccupied (sizesOf (start .args .z)) (whole start)
 unfolding oldestOccupied leastRecent occupied
 oldest c = c .oldest-occupied .ensures
 
-lowest : (c : tie.After-lowest-in-slots) → c .lowest-in-slots .result ≡ lowestInSlots (sizesOf (c .before .before .before .before .args .z)) (whole (c .before .before .before .before))
+lowest : (c : tie.After-lowest-in-slots) →
+    let start : tie.Start = search in
+    c .lowest-in-slots .result ≡ lowestInSlots (sizesOf (start .args .z)) (whole start)
 unfolding lowestInSlots slotCount inBlock
 lowest c = c .lowest-in-slots .ensures
 
@@ -37,23 +41,35 @@ element-copy-out-t12 c = search needs
 returns : tie.Need-returns
 unfolding dueOf leastRecent occupied lowestInSlots slotCount inBlock
 returns c =
-    let start = c .before .before .before .before in let e = oldest (c .before .before .before) in
-    ap (λ (g : ℕ). due (frameAt (whole start) g) g) e ∙ sym (due-frame (sizesOf (start .args .z)) (whole start) (start .pre .sound) (omega arith))
+    let after-oldest-occupied : tie.After-oldest-occupied = search in
+    let start : tie.Start = search in
+    let e = oldest after-oldest-occupied in
+    ap (λ (g : ℕ). due (frameAt (whole start) g) g) e ∙ sym (due-frame (sizesOf (start .args .z)) (whole start) (start .pre .sound)
+    (omega arith))
 
 lowest-in-slots-requires : tie.Need-lowest-in-slots-requires
 lowest-in-slots-requires c κs =
-    let start = c .before .before .before in record { frames = start .args .frames .now; valid = start .pre .valid; recency = start .args .recency .now; sound = start .pre .sound }
+    let start : tie.Start = search in
+    record { frames = start .args .frames .now; valid = start .pre .valid; recency = start .args .recency .now; sound = start .pre .sound }
 
 returns-2 : tie.Need-returns-2
 unfolding dueOf leastRecent occupied lowestInSlots slotCount inBlock
 returns-2 c =
-    let start = c .before .before .before .before .before .before in let e = oldest (c .before .before .before .before .before) in let b = lowest (c .before .before) in
+    let after-lowest-in-slots : tie.After-lowest-in-slots = search in
+    let after-oldest-occupied : tie.After-oldest-occupied = search in
+    let start : tie.Start = search in
+    let e = oldest after-oldest-occupied in
+    let b = lowest after-lowest-in-slots in
     ap (λ (x : ℕ). due x 0) b ∙ sym (due-slots (sizesOf (start .args .z)) (whole start) (start .pre .sound) (omega arith) (omega arith))
 
 returns-3 : tie.Need-returns-3
 unfolding dueOf leastRecent occupied lowestInSlots slotCount inBlock
 returns-3 c =
-    let start = c .before .before .before .before .before .before in let e = oldest (c .before .before .before .before .before) in let b = lowest (c .before .before) in
+    let after-lowest-in-slots : tie.After-lowest-in-slots = search in
+    let after-oldest-occupied : tie.After-oldest-occupied = search in
+    let start : tie.Start = search in
+    let e = oldest after-oldest-occupied in
+    let b = lowest after-lowest-in-slots in
     sym (due-clean (sizesOf (start .args .z)) (whole start) (start .pre .sound) (omega arith) (omega arith))
 
 pub due-spec : {M : Type 1} → statement M

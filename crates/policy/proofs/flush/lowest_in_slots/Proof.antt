@@ -26,9 +26,15 @@ abbrev whole : tie.Start Inv-loop μ-loop → Directory
 whole c = numbers (c .args .slots .now) (c .pre .frames) (c .pre .valid) (c .pre .recency)
 
 -- the least of all slots
-all-slots : (c : tie.After-loop Inv-loop μ-loop) → c .before .loop .low ≡ least (c .before .before .before .args .z .slots) (slotAt (whole (c .before .before .before))) vacant
+all-slots : (c : tie.After-loop Inv-loop μ-loop) →
+    let at-loop : tie.At-loop Inv-loop μ-loop = search in
+    let start : tie.Start Inv-loop μ-loop = search in
+    at-loop .loop .low ≡ least (start .args .z .slots) (slotAt (whole start)) vacant
 all-slots c =
-    let l = c .before .loop in let start = c .before .before .before in let e : l .i ≡ start .args .z .slots = omega arith in
+    let at-loop : tie.At-loop Inv-loop μ-loop = search in
+    let start : tie.Start Inv-loop μ-loop = search in
+    let l = at-loop .loop in
+    let e : l .i ≡ start .args .z .slots = omega arith in
     l .inv .1 ∙ ap (λ (n : ℕ). least n (slotAt (whole start)) vacant) e
 
 cast-end : tie.Need-cast-end Inv-loop μ-loop
@@ -52,7 +58,11 @@ loop-less c = search needs
 
 loop-again : tie.Need-loop-again Inv-loop μ-loop
 loop-again c =
-    let l = c .before .before .before .loop in let d = whole (c .before .before .before .before .before) in let e = l .inv .1 in
+    let at-loop : tie.At-loop Inv-loop μ-loop = search in
+    let start : tie.Start Inv-loop μ-loop = search in
+    let l = at-loop .loop in
+    let d = whole start in
+    let e = l .inv .1 in
     elim (c .if1 .came) [
       | inl w ↦ (omega arith, w .1 ∙ least-hit (l .i) (slotAt d) vacant (let t = w .0 .taken in omega arith))
       | inr w ↦ (omega arith, w .1 ∙ e ∙ least-miss (l .i) (slotAt d) vacant (let t = w .0 .left in omega arith))
@@ -60,7 +70,10 @@ loop-again c =
 
 returns : tie.Need-returns Inv-loop μ-loop
 unfolding lowestInSlots slotCount inBlock
-returns c = let start = c .before .before .before .before in lowest-none (sizesOf (start .args .z)) (whole start) (start .pre .sound) _ (all-slots (c .before)) (c .if2 .taken)
+returns c =
+    let after-loop : tie.After-loop Inv-loop μ-loop = search in
+    let start : tie.Start Inv-loop μ-loop = search in
+    lowest-none (sizesOf (start .args .z)) (whole start) (start .pre .sound) _ (all-slots after-loop) (c .if2 .taken)
 
 block-of-requires : tie.Need-block-of-requires Inv-loop μ-loop
 block-of-requires c κs = search needs
@@ -68,8 +81,11 @@ block-of-requires c κs = search needs
 returns-2 : tie.Need-returns-2 Inv-loop μ-loop
 unfolding lowestInSlots slotCount inBlock
 returns-2 c =
-    let start = c .before .before .before .before .before in
-    ap (λ (b : BlockNo). b .0) (c .block-of .ensures) ∙ lowest-some (sizesOf (start .args .z)) (whole start) (start .pre .sound) _ (all-slots (c .before .before)) (c .before .if2 .left)
+    let else2 : tie.Else2 Inv-loop μ-loop = search in
+    let after-loop : tie.After-loop Inv-loop μ-loop = search in
+    let start : tie.Start Inv-loop μ-loop = search in
+    ap (λ (b : BlockNo). b .0) (c .block-of .ensures) ∙ lowest-some (sizesOf (start .args .z)) (whole start) (start .pre .sound) _
+    (all-slots after-loop) (else2 .if2 .left)
 
 pub lowest-in-slots-spec : {M : Type 1} → statement M
 lowest-in-slots-spec =

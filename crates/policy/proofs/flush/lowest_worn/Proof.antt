@@ -12,30 +12,51 @@ use Rattle.policy.proofs.flush.lowest_worn.Tie as tie
 abbrev whole : tie.Start → Directory
 whole c = numbers (c .args .slots .now) (c .args .frames .now) (c .pre .valid) (c .pre .recency)
 
-in-slots : (c : tie.After-worn-in-slots) → c .worn-in-slots .result ≡ wornInSlots (sizesOf (c .before .before .args .z)) (whole (c .before .before)) (c .before .before .args .wear .now)
+in-slots : (c : tie.After-worn-in-slots) →
+    let start : tie.Start = search in
+    c .worn-in-slots .result ≡ wornInSlots (sizesOf (start .args .z)) (whole start) (start .args .wear .now)
 unfolding wornInSlots slotCount inBlock
 in-slots c = c .worn-in-slots .ensures
 
-in-frames : (c : tie.After-worn-in-frames) → c .worn-in-frames .result ≡ wornInFrames (sizesOf (c .before .before .before .args .z)) (whole (c .before .before .before)) (c .before .before .before .args .wear .now)
+in-frames : (c : tie.After-worn-in-frames) →
+    let start : tie.Start = search in
+    c .worn-in-frames .result ≡ wornInFrames (sizesOf (start .args .z)) (whole start) (start .args .wear .now)
 unfolding wornInFrames frameOf
 in-frames c = c .worn-in-frames .ensures
 
 worn-in-slots-requires : tie.Need-worn-in-slots-requires
-worn-in-slots-requires c κs = record { frames = c .before .args .frames .now; valid = c .before .pre .valid; recency = c .before .pre .recency; with-wear = c .before .pre .with-wear }
+worn-in-slots-requires c κs =
+    let start : tie.Start = search in
+    record {
+      frames = start .args .frames .now;
+      valid = start .pre .valid;
+      recency = start .pre .recency;
+      with-wear = start .pre .with-wear;
+    }
 
 worn-in-frames-requires : tie.Need-worn-in-frames-requires
-worn-in-frames-requires c κs = record { slots = c .before .before .args .slots .now; valid = c .before .before .pre .valid; recency = c .before .before .pre .recency; with-wear = c .before .before .pre .with-wear }
+worn-in-frames-requires c κs =
+    let start : tie.Start = search in
+    record { slots = start .args .slots .now; valid = start .pre .valid; recency = start .pre .recency; with-wear = start .pre .with-wear }
 
 returns : tie.Need-returns
 unfolding lowestWorn cached frameOf slotCount inBlock
 returns c =
-    let start = c .before .before .before .before in let e = in-slots (c .before .before) in let f = in-frames (c .before) in
+    let after-worn-in-frames : tie.After-worn-in-frames = search in
+    let after-worn-in-slots : tie.After-worn-in-slots = search in
+    let start : tie.Start = search in
+    let e = in-slots after-worn-in-slots in
+    let f = in-frames after-worn-in-frames in
     f ∙ lower-frames (sizesOf (start .args .z)) (whole start) (start .pre .with-wear .sound) (start .args .wear .now) (omega arith)
 
 returns-2 : tie.Need-returns-2
 unfolding lowestWorn cached frameOf slotCount inBlock
 returns-2 c =
-    let start = c .before .before .before .before in let e = in-slots (c .before .before) in let f = in-frames (c .before) in
+    let after-worn-in-frames : tie.After-worn-in-frames = search in
+    let after-worn-in-slots : tie.After-worn-in-slots = search in
+    let start : tie.Start = search in
+    let e = in-slots after-worn-in-slots in
+    let f = in-frames after-worn-in-frames in
     e ∙ lower-slots (sizesOf (start .args .z)) (whole start) (start .pre .with-wear .sound) (start .args .wear .now) (omega arith)
 
 pub lowest-worn-spec : {M : Type 1} → statement M

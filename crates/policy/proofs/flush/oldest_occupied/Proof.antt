@@ -31,8 +31,14 @@ abbrev whole : tie.Start Inv-loop μ-loop → Directory
 whole c = numbers (c .pre .slots) (c .args .frames .now) (c .pre .valid) (c .args .recency .now)
 
 -- the frame at hand
-frame-lt : (c : tie.In-loop Inv-loop μ-loop) → getD (c .before .before .before .args .recency .now) (c .before .loop .i) 0 < c .before .before .before .args .z .frames
-frame-lt c = c .before .before .before .pre .sound .listed .recency-lt (c .before .loop .i) (omega arith)
+frame-lt : (c : tie.In-loop Inv-loop μ-loop) →
+    let at-loop : tie.At-loop Inv-loop μ-loop = search in
+    let start : tie.Start Inv-loop μ-loop = search in
+    getD (start .args .recency .now) (at-loop .loop .i) 0 < start .args .z .frames
+frame-lt c =
+    let at-loop : tie.At-loop Inv-loop μ-loop = search in
+    let start : tie.Start Inv-loop μ-loop = search in
+    start .pre .sound .listed .recency-lt (at-loop .loop .i) (omega arith)
 
 cast-end : tie.Need-cast-end Inv-loop μ-loop
 cast-end c = search needs
@@ -44,19 +50,31 @@ element-copy-out-f : tie.Need-element-copy-out-f Inv-loop μ-loop
 element-copy-out-f c = search needs
 
 cast-f : tie.Need-cast-f Inv-loop μ-loop
-cast-f c = let k = frame-lt (c .before) in search needs
+cast-f c =
+    let in-loop : tie.In-loop Inv-loop μ-loop = search in
+    let k = frame-lt in-loop in
+    search needs
 
 mul-if1 : tie.Need-mul-if1 Inv-loop μ-loop
-mul-if1 c = let k = frame-lt (c .before) in omega arith
+mul-if1 c =
+    let in-loop : tie.In-loop Inv-loop μ-loop = search in
+    let k = frame-lt in-loop in
+    omega arith
 
 element-copy-out-if1 : tie.Need-element-copy-out-if1 Inv-loop μ-loop
-element-copy-out-if1 c = let k = frame-lt (c .before) in omega arith
+element-copy-out-if1 c =
+    let in-loop : tie.In-loop Inv-loop μ-loop = search in
+    let k = frame-lt in-loop in
+    omega arith
 
 returns : tie.Need-returns Inv-loop μ-loop
 unfolding oldestOccupied leastRecent occupied
 returns c =
-    let start = c .before .before .before .before .before .before in let l = c .before .before .before .before .loop in
-    oldest-at (sizesOf (start .args .z)) (whole start) (start .pre .sound) (l .i) (omega arith) (l .inv .1) (lt-ltb _ vacant (c .if1 .taken))
+    let at-loop : tie.At-loop Inv-loop μ-loop = search in
+    let start : tie.Start Inv-loop μ-loop = search in
+    let l = at-loop .loop in
+    oldest-at (sizesOf (start .args .z)) (whole start) (start .pre .sound) (l .i) (omega arith) (l .inv .1)
+    (lt-ltb _ vacant (c .if1 .taken))
 
 add-i : tie.Need-add-i Inv-loop μ-loop
 add-i c = search needs
@@ -66,12 +84,18 @@ loop-less c = search needs
 
 loop-again : tie.Need-loop-again Inv-loop μ-loop
 unfolding occupied
-loop-again c = let l = c .before .before .before .before .loop in (omega arith, below-more _ (l .i) (l .inv .1) (le-ltb _ vacant (c .if1 .left)))
+loop-again c =
+    let at-loop : tie.At-loop Inv-loop μ-loop = search in
+    let l = at-loop .loop in
+    (omega arith, below-more _ (l .i) (l .inv .1) (le-ltb _ vacant (c .if1 .left)))
 
 returns-2 : tie.Need-returns-2 Inv-loop μ-loop
 unfolding oldestOccupied leastRecent occupied
 returns-2 c =
-    let start = c .before .before .before in let l = c .before .loop in let e : l .i ≡ start .args .z .frames = omega arith in
+    let at-loop : tie.At-loop Inv-loop μ-loop = search in
+    let start : tie.Start Inv-loop μ-loop = search in
+    let l = at-loop .loop in
+    let e : l .i ≡ start .args .z .frames = omega arith in
     e ∙ oldest-none (sizesOf (start .args .z)) (whole start) (start .pre .sound) (rw e at (l .inv .1))
 
 pub oldest-occupied-spec : {M : Type 1} → statement M

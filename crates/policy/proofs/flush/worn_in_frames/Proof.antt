@@ -26,7 +26,8 @@ abbrev taken : List ℕ → ℕ → Bool
 taken frames f = ltb (block frames f) vacant
 
 abbrev Inv-loop : tie.InvT-loop
-Inv-loop z frames wear low₀ f₀ low f = (f ≤ z .frames) × (low ≡ least f (worn-block (sizesOf z) wear (taken frames) (block frames)) (z .blocks))
+Inv-loop z frames wear low₀ f₀ low f = (f ≤ z .frames) × (low ≡ least f (worn-block (sizesOf z) wear (taken frames) (block frames))
+    (z .blocks))
 
 abbrev μ-loop : tie.MeasureT-loop
 μ-loop z frames wear low₀ f₀ low f = z .frames - f
@@ -50,8 +51,14 @@ element-copy-out-t11 c = search needs
 
 is-worn-requires : tie.Need-is-worn-requires Inv-loop μ-loop
 is-worn-requires c κs =
-    let start = c .before .before .before .before .before .before .before .before in let t = c .before .if2 .taken in let n = start .pre .with-wear .wear-length in
-    let k = frame-block (sizesOf (start .args .z)) (whole start) (start .pre .with-wear .sound) (c .before .before .before .before .before .before .loop .f) (omega arith) (omega arith) in omega arith
+    let then2 : tie.Then2 Inv-loop μ-loop = search in
+    let at-loop : tie.At-loop Inv-loop μ-loop = search in
+    let start : tie.Start Inv-loop μ-loop = search in
+    let t = then2 .if2 .taken in
+    let n = start .pre .with-wear .wear-length in
+    let k = frame-block (sizesOf (start .args .z)) (whole start) (start .pre .with-wear .sound) (at-loop .loop .f) (omega arith)
+    (omega arith) in
+    omega arith
 
 add-f : tie.Need-add-f Inv-loop μ-loop
 add-f c = search needs
@@ -61,20 +68,42 @@ loop-less c = search needs
 
 loop-again : tie.Need-loop-again Inv-loop μ-loop
 loop-again c =
-    let l = c .before .before .before .before .before .loop in let a = c .before .before .before .before .before .before .before .args in let sz = sizesOf (a .z) in let fs : List ℕ = a .frames .now in
+    let at-loop : tie.At-loop Inv-loop μ-loop = search in
+    let start : tie.Start Inv-loop μ-loop = search in
+    let l = at-loop .loop in
+    let a = start .args in
+    let sz = sizesOf (a .z) in
+    let fs : List ℕ = a .frames .now in
     elim (c .if2 .came) [
-      | inl w ↦ (omega arith, w .4 ∙ worn-hit sz (a .wear .now) (taken fs) (block fs) (l .f) (l .low) (l .inv .1) _ (lt-ltb (block fs (l .f)) vacant (w .0 .taken)) refl (rw (← (w .2 .ensures)) (w .3 .taken)))
+      | inl w ↦ (
+        omega arith,
+        w .4 ∙ worn-hit sz (a .wear .now) (taken fs) (block fs) (l .f) (l .low) (l .inv .1) _
+            (lt-ltb (block fs (l .f)) vacant (w .0 .taken)) refl (rw (← (w .2 .ensures)) (w .3 .taken)),
+      )
       | inr v ↦ elim v [
-        | inl w ↦ (omega arith, w .4 ∙ worn-miss sz (a .wear .now) (taken fs) (block fs) (l .f) (l .low) (l .inv .1) _ (lt-ltb (block fs (l .f)) vacant (w .0 .taken)) refl (rw (← (w .2 .ensures)) (w .3 .left)))
-        | inr w ↦ (omega arith, w .1 ∙ worn-skip sz (a .wear .now) (taken fs) (block fs) (l .f) (l .low) (l .inv .1) (le-ltb (block fs (l .f)) vacant (w .0 .left)))
+        | inl w ↦ (
+          omega arith,
+          w .4 ∙ worn-miss sz (a .wear .now) (taken fs) (block fs) (l .f) (l .low) (l .inv .1) _
+              (lt-ltb (block fs (l .f)) vacant (w .0 .taken)) refl (rw (← (w .2 .ensures)) (w .3 .left)),
+        )
+        | inr w ↦ (
+          omega arith,
+          w .1 ∙ worn-skip sz (a .wear .now) (taken fs) (block fs) (l .f) (l .low) (l .inv .1)
+              (le-ltb (block fs (l .f)) vacant (w .0 .left)),
+        )
       ]
     ]
 
 returns : tie.Need-returns Inv-loop μ-loop
 unfolding wornInFrames frameOf
 returns c =
-    let l = c .before .before .loop in let start = c .before .before .before .before in let a = start .args in let e : l .f ≡ a .z .frames = omega arith in
-    l .inv .1 ∙ ap (λ (n : ℕ). least n (worn-block (sizesOf (a .z)) (a .wear .now) (taken (a .frames .now)) (block (a .frames .now))) (a .z .blocks)) e
+    let at-loop : tie.At-loop Inv-loop μ-loop = search in
+    let start : tie.Start Inv-loop μ-loop = search in
+    let l = at-loop .loop in
+    let a = start .args in
+    let e : l .f ≡ a .z .frames = omega arith in
+    l .inv .1 ∙ ap (λ (n : ℕ). least n (worn-block (sizesOf (a .z)) (a .wear .now) (taken (a .frames .now)) (block (a .frames .now)))
+    (a .z .blocks)) e
     ∙ frames-lowest (sizesOf (a .z)) (whole start) (start .pre .with-wear .sound) (a .wear .now)
 
 pub worn-in-frames-spec : {M : Type 1} → statement M

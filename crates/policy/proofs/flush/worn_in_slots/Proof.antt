@@ -28,7 +28,8 @@ abbrev block : Sizes → List ℕ → ℕ → ℕ
 block z slots i = getD slots i 0 / z .«pages_per_block»
 
 abbrev Inv-loop : tie.InvT-loop
-Inv-loop z slots wear m low₀ i₀ low i = (i ≤ z .slots) × (low ≡ least i (worn-block (sizesOf z) wear (taken slots) (block z slots)) (z .blocks))
+Inv-loop z slots wear m low₀ i₀ low i = (i ≤ z .slots) × (low ≡ least i (worn-block (sizesOf z) wear (taken slots) (block z slots))
+    (z .blocks))
 
 abbrev μ-loop : tie.MeasureT-loop
 μ-loop z slots wear m low₀ i₀ low i = z .slots - i
@@ -38,10 +39,16 @@ abbrev whole : tie.Start Inv-loop μ-loop → Directory
 whole c = numbers (c .args .slots .now) (c .pre .frames) (c .pre .valid) (c .pre .recency)
 
 -- the page in the slot, and its block
-found : (c : tie.After-block-by Inv-loop μ-loop) → Held (sizesOf (c .before .before .before .before .before .before .before .before .args .z)) (whole (c .before .before .before .before .before .before .before .before)) (c .before .before .before .before .before .loop .i) (c .block-by .result .0)
+found : (c : tie.After-block-by Inv-loop μ-loop) →
+    let at-loop : tie.At-loop Inv-loop μ-loop = search in
+    let start : tie.Start Inv-loop μ-loop = search in
+    Held (sizesOf (start .args .z)) (whole start) (at-loop .loop .i) (c .block-by .result .0)
 found c =
-    let start = c .before .before .before .before .before .before .before .before in
-    held (start .args .z) (whole start) (start .pre .with-wear .sound) (c .before .before .before .before .before .loop .i) _ (omega arith) (c .before .if2 .taken) (c .block-by .ensures)
+    let then2 : tie.Then2 Inv-loop μ-loop = search in
+    let at-loop : tie.At-loop Inv-loop μ-loop = search in
+    let start : tie.Start Inv-loop μ-loop = search in
+    held (start .args .z) (whole start) (start .pre .with-wear .sound) (at-loop .loop .i) _ (omega arith) (then2 .if2 .taken)
+    (c .block-by .ensures)
 
 reciprocal-requires : tie.Need-reciprocal-requires Inv-loop μ-loop
 reciprocal-requires c κs = search needs
@@ -61,11 +68,21 @@ element-copy-out-x c = search needs
 
 block-by-requires : tie.Need-block-by-requires Inv-loop μ-loop
 block-by-requires c κs =
-    let start = c .before .before .before .before .before .before .before in let s = start .pre .with-wear .sound in
-    (K-pos (sizesOf (start .args .z)) (s .limits), s .limits .K-high, page-lt (start .args .z) (whole start) s (c .before .before .before .before .loop .i) (omega arith) (c .if2 .taken))
+    let at-loop : tie.At-loop Inv-loop μ-loop = search in
+    let start : tie.Start Inv-loop μ-loop = search in
+    let s = start .pre .with-wear .sound in (
+      K-pos (sizesOf (start .args .z)) (s .limits),
+      s .limits .K-high,
+      page-lt (start .args .z) (whole start) s (at-loop .loop .i) (omega arith) (c .if2 .taken),
+    )
 
 is-worn-requires : tie.Need-is-worn-requires Inv-loop μ-loop
-is-worn-requires c κs = let k = found (c .before) .low in let e = c .before .before .before .before .before .before .before .before .before .pre .with-wear .wear-length in omega arith
+is-worn-requires c κs =
+    let after-block-by : tie.After-block-by Inv-loop μ-loop = search in
+    let start : tie.Start Inv-loop μ-loop = search in
+    let k = found after-block-by .low in
+    let e = start .pre .with-wear .wear-length in
+    omega arith
 
 add-i : tie.Need-add-i Inv-loop μ-loop
 add-i c = search needs
@@ -75,22 +92,43 @@ loop-less c = search needs
 
 loop-again : tie.Need-loop-again Inv-loop μ-loop
 loop-again c =
-    let l = c .before .before .before .before .loop in let a = c .before .before .before .before .before .before .before .args in let sz = sizesOf (a .z) in let ss : List ℕ = a .slots .now in
+    let after-x : tie.After-x Inv-loop μ-loop = search in
+    let at-loop : tie.At-loop Inv-loop μ-loop = search in
+    let start : tie.Start Inv-loop μ-loop = search in
+    let l = at-loop .loop in
+    let a = start .args in
+    let sz = sizesOf (a .z) in
+    let ss : List ℕ = a .slots .now in
     elim (c .if2 .came) [
-      | inl w ↦ let p = found (record { before = record { before = c .before; if2 = w .0 }; block-by = w .1 }) in
-          (omega arith, w .5 ∙ worn-hit sz (a .wear .now) (taken ss) (block (a .z) ss) (l .i) (l .low) (l .inv .1) _ (lt-ltb _ vacant (p .page)) (p .own) (rw (← (w .3 .ensures)) (w .4 .taken)))
+      | inl w ↦ let p = found (record { before = record { before = after-x; if2 = w .0 }; block-by = w .1 }) in (
+        omega arith,
+        w .5 ∙ worn-hit sz (a .wear .now) (taken ss) (block (a .z) ss) (l .i) (l .low) (l .inv .1) _
+            (lt-ltb _ vacant (p .page)) (p .own) (rw (← (w .3 .ensures)) (w .4 .taken)),
+      )
       | inr v ↦ elim v [
-        | inl w ↦ let p = found (record { before = record { before = c .before; if2 = w .0 }; block-by = w .1 }) in
-            (omega arith, w .5 ∙ worn-miss sz (a .wear .now) (taken ss) (block (a .z) ss) (l .i) (l .low) (l .inv .1) _ (lt-ltb _ vacant (p .page)) (p .own) (rw (← (w .3 .ensures)) (w .4 .left)))
-        | inr w ↦ (omega arith, w .1 ∙ worn-skip sz (a .wear .now) (taken ss) (block (a .z) ss) (l .i) (l .low) (l .inv .1) (le-ltb _ vacant (w .0 .left)))
+        | inl w ↦ let p = found (record { before = record { before = after-x; if2 = w .0 }; block-by = w .1 }) in (
+          omega arith,
+          w .5 ∙ worn-miss sz (a .wear .now) (taken ss) (block (a .z) ss) (l .i) (l .low) (l .inv .1) _
+              (lt-ltb _ vacant (p .page)) (p .own) (rw (← (w .3 .ensures)) (w .4 .left)),
+        )
+        | inr w ↦ (
+          omega arith,
+          w .1 ∙ worn-skip sz (a .wear .now) (taken ss) (block (a .z) ss) (l .i) (l .low) (l .inv .1)
+              (le-ltb _ vacant (w .0 .left)),
+        )
       ]
     ]
 
 returns : tie.Need-returns Inv-loop μ-loop
 unfolding wornInSlots slotCount inBlock
 returns c =
-    let l = c .before .before .loop in let start = c .before .before .before .before .before in let a = start .args in let e : l .i ≡ a .z .slots = omega arith in
-    l .inv .1 ∙ ap (λ (n : ℕ). least n (worn-block (sizesOf (a .z)) (a .wear .now) (taken (a .slots .now)) (block (a .z) (a .slots .now))) (a .z .blocks)) e
+    let at-loop : tie.At-loop Inv-loop μ-loop = search in
+    let start : tie.Start Inv-loop μ-loop = search in
+    let l = at-loop .loop in
+    let a = start .args in
+    let e : l .i ≡ a .z .slots = omega arith in
+    l .inv .1 ∙ ap (λ (n : ℕ). least n (worn-block (sizesOf (a .z)) (a .wear .now) (taken (a .slots .now)) (block (a .z) (a .slots .now)))
+    (a .z .blocks)) e
     ∙ slots-lowest (sizesOf (a .z)) (whole start) (start .pre .with-wear .sound) (a .wear .now)
 
 pub worn-in-slots-spec : {M : Type 1} → statement M

@@ -30,7 +30,10 @@ element-copy-out-if1 c = search needs
 
 returns : tie.Need-returns Inv-loop μ-loop
 unfolding frameOf
-returns c = let l = c .before .before .before .before .loop in first-is _ _ (l .f) (l .inv .0) (l .inv .1) (λ k. eq-eqb _ _ (c .if1 .taken))
+returns c =
+    let at-loop : tie.At-loop Inv-loop μ-loop = search in
+    let l = at-loop .loop in
+    first-is _ _ (l .f) (l .inv .0) (l .inv .1) (λ k. eq-eqb _ _ (c .if1 .taken))
 
 add-f : tie.Need-add-f Inv-loop μ-loop
 add-f c = search needs
@@ -39,11 +42,17 @@ loop-less : tie.Need-loop-less Inv-loop μ-loop
 loop-less c = search needs
 
 loop-again : tie.Need-loop-again Inv-loop μ-loop
-loop-again c = let l = c .before .before .before .before .loop in (omega arith, below-more _ (l .f) (l .inv .1) (ne-eqb _ _ (c .if1 .left)))
+loop-again c =
+    let at-loop : tie.At-loop Inv-loop μ-loop = search in
+    let l = at-loop .loop in
+    (omega arith, below-more _ (l .f) (l .inv .1) (ne-eqb _ _ (c .if1 .left)))
 
 returns-2 : tie.Need-returns-2 Inv-loop μ-loop
 unfolding frameOf
-returns-2 c = let l = c .before .loop in first-is _ _ (l .f) (l .inv .0) (l .inv .1) (λ k. absurd (omega arith))
+returns-2 c =
+    let at-loop : tie.At-loop Inv-loop μ-loop = search in
+    let l = at-loop .loop in
+    first-is _ _ (l .f) (l .inv .0) (l .inv .1) (λ k. absurd (omega arith))
 
 pub frame-of-spec : {M : Type 1} → statement M
 frame-of-spec =

@@ -29,7 +29,8 @@ abbrev μ-loop : tie.MeasureT-loop
 μ-loop frames valid end b o f₀ f = end - f
 
 -- the loop is about the block and the offset of page n
-with-page : (z : Sizes) (frames valid : List ℕ) (n b o : ℕ) → b ≡ n / z .«pages_per_block» → o ≡ n % z .«pages_per_block» → first (z .frames) (holds frames valid b o) ≡ frameWith (sizesOf z) (numbers [] frames valid []) n
+with-page : (z : Sizes) (frames valid : List ℕ) (n b o : ℕ) → b ≡ n / z .«pages_per_block» → o ≡ n % z .«pages_per_block»
+    → first (z .frames) (holds frames valid b o) ≡ frameWith (sizesOf z) (numbers [] frames valid []) n
 unfolding frameWith inFrame
 with-page z frames valid n b o eb eo = ap₂ (λ (x y : ℕ). first (z .frames) (holds frames valid x y)) eb eo
 
@@ -59,14 +60,26 @@ element-copy-out-has c = search needs
 
 has-requires : tie.Need-has-requires Inv-loop μ-loop
 has-requires c κs =
-    let start = c .before .before .before .before .before .before .before .before in let e = c .before .before .before .before .before .offset-of .ensures in let a = start .args in
-    let l : a .n .0 % a .z .«pages_per_block» < a .z .«pages_per_block» = offset-lt (sizesOf (a .z)) (start .pre) (a .n .0) in omega arith
+    let after-offset-of : tie.After-offset-of Inv-loop μ-loop = search in
+    let start : tie.Start Inv-loop μ-loop = search in
+    let e = after-offset-of .offset-of .ensures in
+    let a = start .args in
+    let l : a .n .0 % a .z .«pages_per_block» < a .z .«pages_per_block» = offset-lt (sizesOf (a .z)) (start .pre) (a .n .0) in
+    omega arith
 
 returns : tie.Need-returns Inv-loop μ-loop
 returns c =
-    let l = c .before .before .before .before .before .before .loop in let a = c .before .before .before .before .before .before .before .before .before .before .args in
-    first-is (a .z .frames) (holds (a .frames .now) (a .valid .now) _ _) (l .f) (l .inv .0) (l .inv .1) (λ k. rw (← (c .before .has .ensures)) (c .if1 .taken))
-    ∙ with-page (a .z) (a .frames .now) (a .valid .now) (a .n .0) _ _ (ap (λ (x : BlockNo). x .0) (c .before .before .before .before .before .before .before .before .block-of .ensures)) (c .before .before .before .before .before .before .before .offset-of .ensures)
+    let after-has : tie.After-has Inv-loop μ-loop = search in
+    let at-loop : tie.At-loop Inv-loop μ-loop = search in
+    let after-offset-of : tie.After-offset-of Inv-loop μ-loop = search in
+    let after-block-of : tie.After-block-of Inv-loop μ-loop = search in
+    let start : tie.Start Inv-loop μ-loop = search in
+    let l = at-loop .loop in
+    let a = start .args in
+    first-is (a .z .frames) (holds (a .frames .now) (a .valid .now) _ _) (l .f) (l .inv .0) (l .inv .1)
+    (λ k. rw (← (after-has .has .ensures)) (c .if1 .taken))
+    ∙ with-page (a .z) (a .frames .now) (a .valid .now) (a .n .0) _ _ (ap (λ (x : BlockNo). x .0) (after-block-of .block-of .ensures))
+    (after-offset-of .offset-of .ensures)
 
 add-f : tie.Need-add-f Inv-loop μ-loop
 add-f c = search needs
@@ -76,14 +89,22 @@ loop-less c = search needs
 
 loop-again : tie.Need-loop-again Inv-loop μ-loop
 loop-again c =
-    let l = c .before .before .before .before .before .before .loop in
-    (omega arith, below-more _ (l .f) (l .inv .1) (rw (← (c .before .has .ensures)) (c .if1 .left)))
+    let after-has : tie.After-has Inv-loop μ-loop = search in
+    let at-loop : tie.At-loop Inv-loop μ-loop = search in
+    let l = at-loop .loop in
+    (omega arith, below-more _ (l .f) (l .inv .1) (rw (← (after-has .has .ensures)) (c .if1 .left)))
 
 returns-2 : tie.Need-returns-2 Inv-loop μ-loop
 returns-2 c =
-    let l = c .before .loop in let a = c .before .before .before .before .before .args in
+    let at-loop : tie.At-loop Inv-loop μ-loop = search in
+    let after-offset-of : tie.After-offset-of Inv-loop μ-loop = search in
+    let after-block-of : tie.After-block-of Inv-loop μ-loop = search in
+    let start : tie.Start Inv-loop μ-loop = search in
+    let l = at-loop .loop in
+    let a = start .args in
     first-is (a .z .frames) (holds (a .frames .now) (a .valid .now) _ _) (l .f) (l .inv .0) (l .inv .1) (λ k. absurd (omega arith))
-    ∙ with-page (a .z) (a .frames .now) (a .valid .now) (a .n .0) _ _ (ap (λ (x : BlockNo). x .0) (c .before .before .before .block-of .ensures)) (c .before .before .offset-of .ensures)
+    ∙ with-page (a .z) (a .frames .now) (a .valid .now) (a .n .0) _ _ (ap (λ (x : BlockNo). x .0) (after-block-of .block-of .ensures))
+    (after-offset-of .offset-of .ensures)
 
 pub frame-with-spec : {M : Type 1} → statement M
 frame-with-spec =

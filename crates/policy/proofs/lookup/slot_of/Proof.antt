@@ -34,7 +34,10 @@ element-copy-out-if1 c = search needs
 
 returns : tie.Need-returns Inv-loop μ-loop
 unfolding slotOf
-returns c = let l = c .before .before .before .before .loop in first-is _ _ (l .i) (omega arith) (l .inv) (λ k. eq-eqb _ _ (c .if1 .taken))
+returns c =
+    let at-loop : tie.At-loop Inv-loop μ-loop = search in
+    let l = at-loop .loop in
+    first-is _ _ (l .i) (omega arith) (l .inv) (λ k. eq-eqb _ _ (c .if1 .taken))
 
 add-i : tie.Need-add-i Inv-loop μ-loop
 add-i c = search needs
@@ -43,11 +46,17 @@ loop-less : tie.Need-loop-less Inv-loop μ-loop
 loop-less c = search needs
 
 loop-again : tie.Need-loop-again Inv-loop μ-loop
-loop-again c = let l = c .before .before .before .before .loop in below-more _ (l .i) (l .inv) (ne-eqb _ _ (c .if1 .left))
+loop-again c =
+    let at-loop : tie.At-loop Inv-loop μ-loop = search in
+    let l = at-loop .loop in
+    below-more _ (l .i) (l .inv) (ne-eqb _ _ (c .if1 .left))
 
 returns-2 : tie.Need-returns-2 Inv-loop μ-loop
 unfolding slotOf
-returns-2 c = let l = c .before .loop in first-is _ _ _ (omega arith) (λ j b. l .inv j (omega arith)) (λ k. absurd (omega arith))
+returns-2 c =
+    let at-loop : tie.At-loop Inv-loop μ-loop = search in
+    let l = at-loop .loop in
+    first-is _ _ _ (omega arith) (λ j b. l .inv j (omega arith)) (λ k. absurd (omega arith))
 
 pub slot-of-spec : {M : Type 1} → statement M
 slot-of-spec =

@@ -4,7 +4,8 @@ use mathlib.Core.Path.{_≡_, refl, sym, ap, _∙_}
 use lib.Dec.{eqb}
 use Rattle.model.specs.Sizes.{Sizes, vacant}
 use Rattle.model.specs.Directory.{Directory}
-use Rattle.model.specs.Policy.{inBlock, frameOf, validCount, slotCount, leastRecent, victim, fewestValid, evictable, anyEvictable, evictFrame, join, fill, exchange, evict}
+use Rattle.model.specs.Policy.{inBlock, frameOf, validCount, slotCount, leastRecent, victim, fewestValid, evictable, anyEvictable}
+use Rattle.model.specs.Policy.{evictFrame, join, fill, exchange, evict}
 use Rattle.model.proofs.Plan.{leastRecent-picks, occupied-all, fewest-pick, plan-4, plan-5, plan-6, plan-7}
 use Rattle.cache.specs.View.{sizesOf, numbers}
 use Rattle.policy.specs.declared.decision.Victim.{Victim}
@@ -19,35 +20,53 @@ abbrev directory : tie.Start → Directory
 directory s = numbers (s .args .slots .now) (s .args .frames .now) (s .args .valid .now) (s .args .recency .now)
 
 -- what each search finds, in the whole record: the victim's number and its pages
-block-is : (c : tie.After-victim) → c .victim .result .block .0 ≡ victim (sizes (c .before .before)) (directory (c .before .before))
+block-is : (c : tie.After-victim) →
+    let start : tie.Start = search in
+    c .victim .result .block .0 ≡ victim (sizes start) (directory start)
 unfolding victimOf victim slotCount inBlock
 block-is c = ap (λ (x : Victim). x .block .0) (c .victim .ensures)
 
-pages-is : (c : tie.After-victim) → c .victim .result .pages ≡ slotCount (sizes (c .before .before)) (directory (c .before .before)) (c .victim .result .block .0)
+pages-is : (c : tie.After-victim) →
+    let start : tie.Start = search in
+    c .victim .result .pages ≡ slotCount (sizes start) (directory start) (c .victim .result .block .0)
 unfolding victimOf victim slotCount inBlock
 pages-is c = rw (block-is c) (ap (λ (x : Victim). x .pages) (c .victim .ensures))
 
 -- its frame
-own-is : (c : tie.After-frame-of) → c .frame-of .result ≡ frameOf (sizes (c .before .before .before .before)) (directory (c .before .before .before .before)) (c .before .before .victim .result .block .0)
+own-is : (c : tie.After-frame-of) →
+    let after-victim : tie.After-victim = search in
+    let start : tie.Start = search in
+    c .frame-of .result ≡ frameOf (sizes start) (directory start) (after-victim .victim .result .block .0)
 unfolding frameOf
 own-is c = c .frame-of .ensures
 
 -- the vacant frame
-free-is : (c : tie.After-frame-of2) → c .frame-of2 .result ≡ frameOf (sizes (c .before .before .before .before .before .before .before)) (directory (c .before .before .before .before .before .before .before)) vacant
+free-is : (c : tie.After-frame-of2) →
+    let start : tie.Start = search in
+    c .frame-of2 .result ≡ frameOf (sizes start) (directory start) vacant
 unfolding frameOf
 free-is c = c .frame-of2 .ensures
 
 -- the fewest valid pages
-fewest-is : (c : tie.After-fewest-valid) → c .fewest-valid .result ≡ fewestValid (sizes (c .before .before .before .before .before .before .before .before .before .before)) (directory (c .before .before .before .before .before .before .before .before .before .before))
+fewest-is : (c : tie.After-fewest-valid) →
+    let start : tie.Start = search in
+    c .fewest-valid .result ≡ fewestValid (sizes start) (directory start)
 unfolding fewestValid validCount
 fewest-is c = c .fewest-valid .ensures
 
 -- the frames of ways 6 and 7
-exchanged-is : (c : tie.After-least-recent-with) → c .least-recent-with .result ≡ leastRecent (sizes (c .before .before .before .before .before .before .before .before .before .before .before .before .before)) (directory (c .before .before .before .before .before .before .before .before .before .before .before .before .before)) (λ f. eqb (validCount (sizes (c .before .before .before .before .before .before .before .before .before .before .before .before .before)) (directory (c .before .before .before .before .before .before .before .before .before .before .before .before .before)) f) (fewestValid (sizes (c .before .before .before .before .before .before .before .before .before .before .before .before .before)) (directory (c .before .before .before .before .before .before .before .before .before .before .before .before .before))))
+exchanged-is : (c : tie.After-least-recent-with) →
+    let start : tie.Start = search in
+    c .least-recent-with .result ≡ leastRecent (sizes start) (directory start)
+    (λ f. eqb (validCount (sizes start) (directory start) f) (fewestValid (sizes start) (directory start)))
 unfolding leastRecent validCount
-exchanged-is c = rw (← (fewest-is (c .before .before .before))) (c .least-recent-with .ensures)
+exchanged-is c =
+    let after-fewest-valid : tie.After-fewest-valid = search in
+    rw (← (fewest-is after-fewest-valid)) (c .least-recent-with .ensures)
 
-evicted-is : (c : tie.After-evict-frame) → c .evict-frame .result ≡ evictFrame leastRecent (sizes (c .before .before .before .before .before .before .before .before .before .before .before .before .before)) (directory (c .before .before .before .before .before .before .before .before .before .before .before .before .before)) (c .before .before .before .before .before .before .before .before .before .before .before .before .before .args .wear .now)
+evicted-is : (c : tie.After-evict-frame) →
+    let start : tie.Start = search in
+    c .evict-frame .result ≡ evictFrame leastRecent (sizes start) (directory start) (start .args .wear .now)
 unfolding evictFrame anyEvictable evictable leastRecent
 evicted-is c = c .evict-frame .ensures
 
@@ -62,8 +81,12 @@ cast-if1 c = search needs
 
 returns : tie.Need-returns
 returns c =
-    let s = c .before .before .before .before .before .before in let own = own-is (c .before .before) in let b = c .before .before .before .before .victim .result .block .0 in
-    rw (← (block-is (c .before .before .before .before))) (ap (join b) own ∙ sym (plan-4 leastRecent (sizes s) (directory s) (s .args .wear .now) b (omega arith)))
+    let after-frame-of : tie.After-frame-of = search in
+    let after-victim : tie.After-victim = search in
+    let s : tie.Start = search in
+    let own = own-is after-frame-of in
+    let b = after-victim .victim .result .block .0 in
+    rw (← (block-is after-victim)) (ap (join b) own ∙ sym (plan-4 leastRecent (sizes s) (directory s) (s .args .wear .now) b (omega arith)))
 
 frame-of-requires-2 : tie.Need-frame-of-requires-2
 frame-of-requires-2 c κs = search needs
@@ -73,31 +96,77 @@ cast-if2 c = search needs
 
 returns-2 : tie.Need-returns-2
 returns-2 c =
-    let s = c .before .before .before .before .before .before .before .before .before in let own = own-is (c .before .before .before .before .before) in let free = free-is (c .before .before) in let b = c .before .before .before .before .before .before .before .victim .result .block .0 in
-    rw (← (block-is (c .before .before .before .before .before .before .before))) (ap (fill b) free ∙ sym (plan-5 leastRecent (sizes s) (directory s) (s .args .wear .now) b (omega arith) (omega arith)))
+    let after-frame-of2 : tie.After-frame-of2 = search in
+    let after-frame-of : tie.After-frame-of = search in
+    let after-victim : tie.After-victim = search in
+    let s : tie.Start = search in
+    let own = own-is after-frame-of in
+    let free = free-is after-frame-of2 in
+    let b = after-victim .victim .result .block .0 in
+    rw (← (block-is after-victim)) (ap (fill b) free ∙ sym (plan-5 leastRecent (sizes s) (directory s) (s .args .wear .now) b (omega arith)
+    (omega arith)))
 
 fewest-valid-requires : tie.Need-fewest-valid-requires
 fewest-valid-requires c κs = search needs
 
 least-recent-with-requires : tie.Need-least-recent-with-requires
 least-recent-with-requires c κs =
-    let s = c .before .before .before .before .before .before .before .before .before .before .before .before in let k = fewest-pick (sizes s) (directory s) (s .pre .sound) leastRecent leastRecent-picks _ refl in
-    record { slots = _; frames = _; sound = s .pre .sound; frame = _; frame-lt = k .0; frame-has = k .1 ∙ sym (fewest-is (c .before .before)) }
+    let after-fewest-valid : tie.After-fewest-valid = search in
+    let s : tie.Start = search in
+    let k = fewest-pick (sizes s) (directory s) (s .pre .sound) leastRecent leastRecent-picks _ refl in
+    record {
+      slots = _;
+      frames = _;
+      sound = s .pre .sound;
+      frame = _;
+      frame-lt = k .0;
+      frame-has = k .1
+          ∙ sym (fewest-is after-fewest-valid);
+    }
 
 returns-3 : tie.Need-returns-3
 returns-3 c =
-    let s = c .before .before .before .before .before .before .before .before .before .before .before .before .before in let own = own-is (c .before .before .before .before .before .before .before .before .before) in let free = free-is (c .before .before .before .before .before .before) in let few = fewest-is (c .before .before .before) in let p = pages-is (c .before .before .before .before .before .before .before .before .before .before .before) in let b = c .before .before .before .before .before .before .before .before .before .before .before .victim .result .block .0 in
-    rw (← (block-is (c .before .before .before .before .before .before .before .before .before .before .before))) (ap (exchange b) (exchanged-is c) ∙ sym (plan-6 leastRecent (sizes s) (directory s) (s .args .wear .now) b (omega arith) (omega arith) (omega arith)))
+    let after-fewest-valid : tie.After-fewest-valid = search in
+    let after-frame-of2 : tie.After-frame-of2 = search in
+    let after-frame-of : tie.After-frame-of = search in
+    let after-victim : tie.After-victim = search in
+    let s : tie.Start = search in
+    let own = own-is after-frame-of in
+    let free = free-is after-frame-of2 in
+    let few = fewest-is after-fewest-valid in
+    let p = pages-is after-victim in
+    let b = after-victim .victim .result .block .0 in
+    rw (← (block-is after-victim)) (ap (exchange b) (exchanged-is c)
+    ∙ sym (plan-6 leastRecent (sizes s) (directory s) (s .args .wear .now) b (omega arith) (omega arith) (omega arith)))
 
 evict-frame-requires : tie.Need-evict-frame-requires
 evict-frame-requires c κs =
-    let s = c .before .before .before .before .before .before .before .before .before .before .before .before in let q = s .pre in let free = free-is (c .before .before .before .before .before) in
-    record { slots = _; valid = _; sound = q .sound; wear-length = q .wear-length; block-lt = occupied-all (sizes s) (directory s) (q .sound) (omega arith) }
+    let after-frame-of2 : tie.After-frame-of2 = search in
+    let s : tie.Start = search in
+    let q = s .pre in
+    let free = free-is after-frame-of2 in
+    record {
+      slots = _;
+      valid = _;
+      sound = q .sound;
+      wear-length = q .wear-length;
+      block-lt = occupied-all (sizes s) (directory s) (q .sound) (omega arith);
+    }
 
 returns-4 : tie.Need-returns-4
 returns-4 c =
-    let s = c .before .before .before .before .before .before .before .before .before .before .before .before .before in let own = own-is (c .before .before .before .before .before .before .before .before .before) in let free = free-is (c .before .before .before .before .before .before) in let few = fewest-is (c .before .before .before) in let p = pages-is (c .before .before .before .before .before .before .before .before .before .before .before) in let b = c .before .before .before .before .before .before .before .before .before .before .before .victim .result .block .0 in
-    rw (← (block-is (c .before .before .before .before .before .before .before .before .before .before .before))) (ap (evict b) (evicted-is c) ∙ sym (plan-7 leastRecent (sizes s) (directory s) (s .args .wear .now) b (omega arith) (omega arith) (omega arith)))
+    let after-fewest-valid : tie.After-fewest-valid = search in
+    let after-frame-of2 : tie.After-frame-of2 = search in
+    let after-frame-of : tie.After-frame-of = search in
+    let after-victim : tie.After-victim = search in
+    let s : tie.Start = search in
+    let own = own-is after-frame-of in
+    let free = free-is after-frame-of2 in
+    let few = fewest-is after-fewest-valid in
+    let p = pages-is after-victim in
+    let b = after-victim .victim .result .block .0 in
+    rw (← (block-is after-victim)) (ap (evict b) (evicted-is c) ∙ sym
+    (plan-7 leastRecent (sizes s) (directory s) (s .args .wear .now) b (omega arith) (omega arith) (omega arith)))
 
 pub eviction-plan-spec : {M : Type 1} → statement M
 eviction-plan-spec =

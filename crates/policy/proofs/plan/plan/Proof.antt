@@ -16,15 +16,21 @@ abbrev directory : tie.Start → Directory
 directory s = numbers (s .args .slots .now) (s .args .frames .now) (s .args .valid .now) (s .args .recency .now)
 
 -- what each search finds, in the whole record
-slot-is : (c : tie.After-slot-of) → c .slot-of .result ≡ slotOf (sizes (c .before .before)) (directory (c .before .before)) (c .before .before .args .n .0)
+slot-is : (c : tie.After-slot-of) →
+    let start : tie.Start = search in
+    c .slot-of .result ≡ slotOf (sizes start) (directory start) (start .args .n .0)
 unfolding slotOf
 slot-is c = c .slot-of .ensures
 
-frame-is : (c : tie.After-frame-with) → c .frame-with .result ≡ frameWith (sizes (c .before .before .before .before .before)) (directory (c .before .before .before .before .before)) (c .before .before .before .before .before .args .n .0)
+frame-is : (c : tie.After-frame-with) →
+    let start : tie.Start = search in
+    c .frame-with .result ≡ frameWith (sizes start) (directory start) (start .args .n .0)
 unfolding frameWith inFrame
 frame-is c = c .frame-with .ensures
 
-free-is : (c : tie.After-slot-of2) → c .slot-of2 .result ≡ slotOf (sizes (c .before .before .before .before .before .before .before .before)) (directory (c .before .before .before .before .before .before .before .before)) vacant
+free-is : (c : tie.After-slot-of2) →
+    let start : tie.Start = search in
+    c .slot-of2 .result ≡ slotOf (sizes start) (directory start) vacant
 unfolding slotOf
 free-is c = c .slot-of2 .ensures
 
@@ -36,7 +42,9 @@ cast-if1 c = search needs
 
 returns : tie.Need-returns
 returns c =
-    let s = c .before .before .before .before in let e = slot-is (c .before .before) in
+    let after-slot-of : tie.After-slot-of = search in
+    let s : tie.Start = search in
+    let e = slot-is after-slot-of in
     ap slotHit e ∙ sym (plan-1 leastRecent (sizes s) (directory s) (s .args .wear .now) (s .args .n .0) (omega arith))
 
 frame-with-requires : tie.Need-frame-with-requires
@@ -47,7 +55,11 @@ cast-if2 c = search needs
 
 returns-2 : tie.Need-returns-2
 returns-2 c =
-    let s = c .before .before .before .before .before .before .before in let e = slot-is (c .before .before .before .before .before) in let f = frame-is (c .before .before) in
+    let after-frame-with : tie.After-frame-with = search in
+    let after-slot-of : tie.After-slot-of = search in
+    let s : tie.Start = search in
+    let e = slot-is after-slot-of in
+    let f = frame-is after-frame-with in
     ap frameHit f ∙ sym (plan-2 leastRecent (sizes s) (directory s) (s .args .wear .now) (s .args .n .0) (omega arith) (omega arith))
 
 slot-of-requires-2 : tie.Need-slot-of-requires-2
@@ -58,16 +70,30 @@ cast-if3 c = search needs
 
 returns-3 : tie.Need-returns-3
 returns-3 c =
-    let s = c .before .before .before .before .before .before .before .before .before .before in let e = slot-is (c .before .before .before .before .before .before .before .before) in let f = frame-is (c .before .before .before .before .before) in let g = free-is (c .before .before) in
-    ap freeSlot g ∙ sym (plan-3 leastRecent (sizes s) (directory s) (s .args .wear .now) (s .args .n .0) (omega arith) (omega arith) (omega arith))
+    let after-slot-of2 : tie.After-slot-of2 = search in
+    let after-frame-with : tie.After-frame-with = search in
+    let after-slot-of : tie.After-slot-of = search in
+    let s : tie.Start = search in
+    let e = slot-is after-slot-of in
+    let f = frame-is after-frame-with in
+    let g = free-is after-slot-of2 in
+    ap freeSlot g ∙ sym (plan-3 leastRecent (sizes s) (directory s) (s .args .wear .now) (s .args .n .0) (omega arith) (omega arith)
+    (omega arith))
 
 eviction-plan-requires : tie.Need-eviction-plan-requires
 eviction-plan-requires c κs = search needs
 
 returns-4 : tie.Need-returns-4
 returns-4 c =
-    let s = c .before .before .before .before .before .before .before .before .before .before .before in let e = slot-is (c .before .before .before .before .before .before .before .before .before) in let f = frame-is (c .before .before .before .before .before .before) in let g = free-is (c .before .before .before) in
-    rw (plan-full leastRecent (sizes s) (directory s) (s .args .wear .now) (s .args .n .0) (omega arith) (omega arith) (omega arith)) (c .eviction-plan .ensures)
+    let after-slot-of2 : tie.After-slot-of2 = search in
+    let after-frame-with : tie.After-frame-with = search in
+    let after-slot-of : tie.After-slot-of = search in
+    let s : tie.Start = search in
+    let e = slot-is after-slot-of in
+    let f = frame-is after-frame-with in
+    let g = free-is after-slot-of2 in
+    rw (plan-full leastRecent (sizes s) (directory s) (s .args .wear .now) (s .args .n .0) (omega arith) (omega arith) (omega arith))
+    (c .eviction-plan .ensures)
 
 pub plan-spec : {M : Type 1} → statement M
 plan-spec =

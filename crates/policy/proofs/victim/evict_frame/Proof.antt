@@ -26,17 +26,23 @@ abbrev μ-loop : tie.MeasureT-loop
 
 -- as the call began, from where the loop goes on and from where it ends
 abbrev start : tie.Then1 Inv-loop μ-loop → tie.Start Inv-loop μ-loop
-start c = c .before .before .before
+start c = search
 
 abbrev began : tie.Else1 Inv-loop μ-loop → tie.Start Inv-loop μ-loop
-began c = c .before .before .before
+began c = search
 
 -- the frame at hand
-frame-lt : (c : tie.Then1 Inv-loop μ-loop) → getD (start c .args .recency .now) (c .before .before .loop .i) 0 < start c .args .z .frames
-frame-lt c = start c .pre .sound .listed .recency-lt (c .before .before .loop .i) (omega arith)
+frame-lt : (c : tie.Then1 Inv-loop μ-loop) →
+    let at-loop : tie.At-loop Inv-loop μ-loop = search in
+    getD (start c .args .recency .now) (at-loop .loop .i) 0 < start c .args .z .frames
+frame-lt c =
+    let at-loop : tie.At-loop Inv-loop μ-loop = search in
+    start c .pre .sound .listed .recency-lt (at-loop .loop .i) (omega arith)
 
 -- its block
-block-lt : (c : tie.Then1 Inv-loop μ-loop) → getD (start c .args .frames .now) (getD (start c .args .recency .now) (c .before .before .loop .i) 0) 0 < start c .args .z .blocks
+block-lt : (c : tie.Then1 Inv-loop μ-loop) →
+    let at-loop : tie.At-loop Inv-loop μ-loop = search in
+    getD (start c .args .frames .now) (getD (start c .args .recency .now) (at-loop .loop .i) 0) 0 < start c .args .z .blocks
 block-lt c = start c .pre .block-lt _ (frame-lt c)
 
 loop-holds : tie.Need-loop-holds Inv-loop μ-loop
@@ -49,28 +55,52 @@ element-copy-out-f : tie.Need-element-copy-out-f Inv-loop μ-loop
 element-copy-out-f c = search needs
 
 cast-f : tie.Need-cast-f Inv-loop μ-loop
-cast-f c = let k = frame-lt (c .before) in record { fits = omega arith }
+cast-f c =
+    let then1 : tie.Then1 Inv-loop μ-loop = search in
+    let k = frame-lt then1 in
+    record { fits = omega arith }
 
 mul-at : tie.Need-mul-at Inv-loop μ-loop
-mul-at c = let k = frame-lt (c .before) in omega arith
+mul-at c =
+    let then1 : tie.Then1 Inv-loop μ-loop = search in
+    let k = frame-lt then1 in
+    omega arith
 
 element-copy-out-at : tie.Need-element-copy-out-at Inv-loop μ-loop
-element-copy-out-at c = let k = frame-lt (c .before) in omega arith
+element-copy-out-at c =
+    let then1 : tie.Then1 Inv-loop μ-loop = search in
+    let k = frame-lt then1 in
+    omega arith
 
 cast-at : tie.Need-cast-at Inv-loop μ-loop
-cast-at c = let k = block-lt (c .before .before) in record { fits = omega arith }
+cast-at c =
+    let then1 : tie.Then1 Inv-loop μ-loop = search in
+    let k = block-lt then1 in
+    record { fits = omega arith }
 
 mul-if2 : tie.Need-mul-if2 Inv-loop μ-loop
-mul-if2 c = let k = block-lt (c .before .before) in let l = start (c .before .before) .pre .sound .limits .N-high in omega arith
+mul-if2 c =
+    let then1 : tie.Then1 Inv-loop μ-loop = search in
+    let k = block-lt then1 in
+    let l = start then1 .pre .sound .limits .N-high in
+    omega arith
 
 shared-slice-read-if2 : tie.Need-shared-slice-read-if2 Inv-loop μ-loop
-shared-slice-read-if2 c = let k = block-lt (c .before .before .before) in let l = start (c .before .before .before) .pre .wear-length in omega arith
+shared-slice-read-if2 c =
+    let then1 : tie.Then1 Inv-loop μ-loop = search in
+    let k = block-lt then1 in
+    let l = start then1 .pre .wear-length in
+    omega arith
 
 returns : tie.Need-returns Inv-loop μ-loop
 unfolding evictable anyEvictable evictFrame leastRecent
 returns c =
-    let at = c .before .before .before .before .before in let l = at .before .before .loop in let a = start at .args in
-    evict-at (sizesOf (a .z)) _ (start at .pre .sound) (a .wear .now) (l .i) (omega arith) (l .inv .1) (lt-ltb _ (sizesOf (a .z) .W) (let t = c .if2 .taken in omega arith))
+    let at : tie.Then1 Inv-loop μ-loop = search in
+    let at-loop : tie.At-loop Inv-loop μ-loop = search in
+    let l = at-loop .loop in
+    let a = start at .args in
+    evict-at (sizesOf (a .z)) _ (start at .pre .sound) (a .wear .now) (l .i) (omega arith) (l .inv .1)
+    (lt-ltb _ (sizesOf (a .z) .W) (let t = c .if2 .taken in omega arith))
 
 add-i : tie.Need-add-i Inv-loop μ-loop
 add-i c = search needs
@@ -81,19 +111,30 @@ loop-less c = search needs
 loop-again : tie.Need-loop-again Inv-loop μ-loop
 unfolding evictable
 loop-again c =
-    let at = c .before .before .before .before .before in let l = at .before .before .loop in let a = start at .args in
+    let at : tie.Then1 Inv-loop μ-loop = search in
+    let at-loop : tie.At-loop Inv-loop μ-loop = search in
+    let l = at-loop .loop in
+    let a = start at .args in
     (omega arith, below-more _ (l .i) (l .inv .1) (le-ltb _ (sizesOf (a .z) .W) (let t = c .if2 .left in omega arith)))
 
 element-copy-out-result : tie.Need-element-copy-out-result Inv-loop μ-loop
 element-copy-out-result c = search needs
 
 cast-result : tie.Need-cast-result Inv-loop μ-loop
-cast-result c = let s = began (c .before) .pre .sound in let k = s .listed .recency-lt 0 (s .limits .B-low) in record { fits = omega arith }
+cast-result c =
+    let else1 : tie.Else1 Inv-loop μ-loop = search in
+    let s = began else1 .pre .sound in
+    let k = s .listed .recency-lt 0 (s .limits .B-low) in
+    record { fits = omega arith }
 
 returns-2 : tie.Need-returns-2 Inv-loop μ-loop
 unfolding evictable anyEvictable evictFrame leastRecent
 returns-2 c =
-    let at = c .before in let l = at .before .before .loop in let a = began at .args in let e : l .i ≡ a .z .frames = omega arith in
+    let at : tie.Else1 Inv-loop μ-loop = search in
+    let at-loop : tie.At-loop Inv-loop μ-loop = search in
+    let l = at-loop .loop in
+    let a = began at .args in
+    let e : l .i ≡ a .z .frames = omega arith in
     evict-none (sizesOf (a .z)) _ (began at .pre .sound) (a .wear .now) (rw e at (l .inv .1))
 
 pub evict-frame-spec : {M : Type 1} → statement M

@@ -50,9 +50,16 @@ loop-less c = search needs
 loop-again : tie.Need-loop-again Inv-loop μ-loop
 unfolding validCount
 loop-again c =
-    let l = c .before .before .before .before .before .loop in let a = c .before .before .before .before .before .before .before .args in let q = c .before .before .before .before .before .before .before .pre in
-    let e = l .inv .1 in let top : ℕ = suc (a .z .«pages_per_block») in
-    let n : c .before .count .result ≡ pages (a .z) (a .valid .now) (l .f) = c .before .count .ensures ∙ valid-ones (sizesOf (a .z)) (numbers (q .slots) (q .frames) (a .valid .now) (q .recency)) (q .sound) (l .f) (omega arith) in
+    let after-count : tie.After-count Inv-loop μ-loop = search in
+    let at-loop : tie.At-loop Inv-loop μ-loop = search in
+    let start : tie.Start Inv-loop μ-loop = search in
+    let l = at-loop .loop in
+    let a = start .args in
+    let q = start .pre in
+    let e = l .inv .1 in
+    let top : ℕ = suc (a .z .«pages_per_block») in
+    let n : after-count .count .result ≡ pages (a .z) (a .valid .now) (l .f) = after-count .count .ensures
+    ∙ valid-ones (sizesOf (a .z)) (numbers (q .slots) (q .frames) (a .valid .now) (q .recency)) (q .sound) (l .f) (omega arith) in
     elim (c .if2 .came) [
       | inl w ↦ (omega arith, w .1 ∙ n ∙ least-hit (l .f) (pages (a .z) (a .valid .now)) top (let t = w .0 .taken in omega arith))
       | inr w ↦ (omega arith, w .1 ∙ e ∙ least-miss (l .f) (pages (a .z) (a .valid .now)) top (let t = w .0 .left in omega arith))
@@ -61,7 +68,11 @@ loop-again c =
 returns : tie.Need-returns Inv-loop μ-loop
 unfolding fewestValid
 returns c =
-    let l = c .before .before .loop in let a = c .before .before .before .before .args in let e : l .f ≡ a .z .frames = omega arith in
+    let at-loop : tie.At-loop Inv-loop μ-loop = search in
+    let start : tie.Start Inv-loop μ-loop = search in
+    let l = at-loop .loop in
+    let a = start .args in
+    let e : l .f ≡ a .z .frames = omega arith in
     l .inv .1 ∙ ap (λ (x : ℕ). least x (pages (a .z) (a .valid .now)) (suc (a .z .«pages_per_block»))) e
 
 pub fewest-valid-spec : {M : Type 1} → statement M

@@ -16,27 +16,46 @@ use Rattle.policy.proofs.victim.highest_counted.Statement.{statement}
 use Rattle.policy.proofs.victim.highest_counted.Tie as tie
 
 abbrev Inv-loop : tie.InvT-loop
-Inv-loop z slots counts₀ end m lead₀ i₀ counts lead i = (i ≤ end) × (length counts ≡ length counts₀) × Counted (sizesOf z) (numbers slots [] [] []) i counts lead
+Inv-loop z slots counts₀ end m lead₀ i₀ counts lead i = (i ≤ end) × (length counts ≡ length counts₀)
+    × Counted (sizesOf z) (numbers slots [] [] []) i counts lead
 
 abbrev μ-loop : tie.MeasureT-loop
 μ-loop z slots counts₀ end m lead₀ i₀ counts lead i = end - i
 
 -- the page in the slot, and its block
-found : (c : tie.After-block-by Inv-loop μ-loop) → Held (sizesOf (c .before .before .before .before .before .before .before .before .args .z)) (numbers (c .before .before .before .before .before .before .before .before .args .slots .now) [] [] []) (c .before .before .before .before .loop .i) (c .block-by .result .0)
+found : (c : tie.After-block-by Inv-loop μ-loop) →
+    let at-loop : tie.At-loop Inv-loop μ-loop = search in
+    let start : tie.Start Inv-loop μ-loop = search in
+    Held (sizesOf (start .args .z)) (numbers (start .args .slots .now) [] [] []) (at-loop .loop .i) (c .block-by .result .0)
 found c =
-    let start = c .before .before .before .before .before .before .before .before in let h = held (start .args .z) _ (start .pre .0 .sound) (c .before .before .before .before .loop .i) _ (omega arith) (c .before .if1 .taken) (c .block-by .ensures) in
+    let then1 : tie.Then1 Inv-loop μ-loop = search in
+    let at-loop : tie.At-loop Inv-loop μ-loop = search in
+    let start : tie.Start Inv-loop μ-loop = search in
+    let h = held (start .args .z) _ (start .pre .0 .sound) (at-loop .loop .i) _ (omega arith) (then1 .if1 .taken) (c .block-by .ensures) in
     record { page = h .page; own = h .own; low = h .low }
 
 -- the table has an entry for it
-inside : (c : tie.After-block-by Inv-loop μ-loop) → c .block-by .result .0 < length (c .before .before .before .before .loop .counts)
-inside c = let k = found c .low in let l = c .before .before .before .before .loop .inv .2 .long in omega arith
+inside : (c : tie.After-block-by Inv-loop μ-loop) →
+    let at-loop : tie.At-loop Inv-loop μ-loop = search in
+    c .block-by .result .0 < length (at-loop .loop .counts)
+inside c =
+    let at-loop : tie.At-loop Inv-loop μ-loop = search in
+    let k = found c .low in
+    let l = at-loop .loop .inv .2 .long in
+    omega arith
 
 -- a block has no more pages than there are slots, so a rank is small
-few : (c : tie.After-block-by Inv-loop μ-loop) → getD (c .before .before .before .before .loop .counts) (c .block-by .result .0) 0 < 128
+few : (c : tie.After-block-by Inv-loop μ-loop) →
+    let at-loop : tie.At-loop Inv-loop μ-loop = search in
+    getD (at-loop .loop .counts) (c .block-by .result .0) 0 < 128
 few c =
-    let start = c .before .before .before .before .before .before .before .before in let l = c .before .before .before .before .loop in
-    let e = l .inv .2 .each (c .block-by .result .0) (found c .low) in let m = count-le (l .i) (inBlock (sizesOf (start .args .z)) (numbers (start .args .slots .now) [] [] []) (c .block-by .result .0)) in
-    let p = start .pre .0 .sound .limits .P-high in omega arith
+    let at-loop : tie.At-loop Inv-loop μ-loop = search in
+    let start : tie.Start Inv-loop μ-loop = search in
+    let l = at-loop .loop in
+    let e = l .inv .2 .each (c .block-by .result .0) (found c .low) in
+    let m = count-le (l .i) (inBlock (sizesOf (start .args .z)) (numbers (start .args .slots .now) [] [] []) (c .block-by .result .0)) in
+    let p = start .pre .0 .sound .limits .P-high in
+    omega arith
 
 cast-end : tie.Need-cast-end Inv-loop μ-loop
 cast-end c = search needs
@@ -45,7 +64,10 @@ reciprocal-requires : tie.Need-reciprocal-requires Inv-loop μ-loop
 reciprocal-requires c κs = search needs
 
 loop-holds : tie.Need-loop-holds Inv-loop μ-loop
-loop-holds c = let p = c .before .before .before .pre in (omega arith, refl, counted-none _ _ (p .0 .sound .limits) _ (p .1))
+loop-holds c =
+    let start : tie.Start Inv-loop μ-loop = search in
+    let p = start .pre in
+    (omega arith, refl, counted-none _ _ (p .0 .sound .limits) _ (p .1))
 
 mul-x : tie.Need-mul-x Inv-loop μ-loop
 mul-x c = search needs
@@ -55,29 +77,52 @@ element-copy-out-x c = search needs
 
 block-by-requires : tie.Need-block-by-requires Inv-loop μ-loop
 block-by-requires c κs =
-    let start = c .before .before .before .before .before .before .before in let s = start .pre .0 .sound in
-    (K-pos (sizesOf (start .args .z)) (s .limits), s .limits .K-high, page-lt (start .args .z) _ s (c .before .before .before .loop .i) (omega arith) (c .if1 .taken))
+    let at-loop : tie.At-loop Inv-loop μ-loop = search in
+    let start : tie.Start Inv-loop μ-loop = search in
+    let s = start .pre .0 .sound in (
+      K-pos (sizesOf (start .args .z)) (s .limits),
+      s .limits .K-high,
+      page-lt (start .args .z) _ s (at-loop .loop .i) (omega arith) (c .if1 .taken),
+    )
 
 cast-at : tie.Need-cast-at Inv-loop μ-loop
 cast-at c = search needs
 
 slice-read-pages : tie.Need-slice-read-pages Inv-loop μ-loop
-slice-read-pages c = inside (c .before .before)
+slice-read-pages c =
+    let after-block-by : tie.After-block-by Inv-loop μ-loop = search in
+    inside after-block-by
 
 add-pages : tie.Need-add-pages Inv-loop μ-loop
-add-pages c = let f = few (c .before .before) in record { fits = omega arith }
+add-pages c =
+    let after-block-by : tie.After-block-by Inv-loop μ-loop = search in
+    let f = few after-block-by in
+    record { fits = omega arith }
 
 slice-write-counts : tie.Need-slice-write-counts Inv-loop μ-loop
-slice-write-counts c = inside (c .before .before)
+slice-write-counts c =
+    let after-block-by : tie.After-block-by Inv-loop μ-loop = search in
+    inside after-block-by
 
 cast-rank : tie.Need-cast-rank Inv-loop μ-loop
-cast-rank c = let f = few (c .before .before) in record { fits = omega arith }
+cast-rank c =
+    let after-block-by : tie.After-block-by Inv-loop μ-loop = search in
+    let f = few after-block-by in
+    record { fits = omega arith }
 
 mul-rank : tie.Need-mul-rank Inv-loop μ-loop
-mul-rank c = let f = few (c .before .before) in record { fits = omega arith }
+mul-rank c =
+    let after-block-by : tie.After-block-by Inv-loop μ-loop = search in
+    let f = few after-block-by in
+    record { fits = omega arith }
 
 sub-rank : tie.Need-sub-rank Inv-loop μ-loop
-sub-rank c = let k = found (c .before .before .before) .low in let n = c .before .before .before .before .before .before .before .before .before .before .before .pre .0 .sound .limits .N-high in omega arith
+sub-rank c =
+    let after-block-by : tie.After-block-by Inv-loop μ-loop = search in
+    let start : tie.Start Inv-loop μ-loop = search in
+    let k = found after-block-by .low in
+    let n = start .pre .0 .sound .limits .N-high in
+    omega arith
 
 add-i : tie.Need-add-i Inv-loop μ-loop
 add-i c = search needs
@@ -87,14 +132,33 @@ loop-less c = search needs
 
 loop-again : tie.Need-loop-again Inv-loop μ-loop
 loop-again c =
-    let l = c .before .before .before .loop in let start = c .before .before .before .before .before .before .before in let s = start .pre .0 .sound in let sz = sizesOf (start .args .z) in let d = numbers (start .args .slots .now) [] [] [] in
+    let after-x : tie.After-x Inv-loop μ-loop = search in
+    let at-loop : tie.At-loop Inv-loop μ-loop = search in
+    let start : tie.Start Inv-loop μ-loop = search in
+    let l = at-loop .loop in
+    let s = start .pre .0 .sound in
+    let sz = sizesOf (start .args .z) in
+    let d = numbers (start .args .slots .now) [] [] [] in
     elim (c .if1 .came) [
-      | inl w ↦ let p = found (record { before = record { before = c .before; if1 = w .0 }; block-by = w .1 }) in
-          (omega arith, ap length (w .6) ∙ length-set (l .counts) _ _ ∙ l .inv .1, rw (w .6, w .7) (counted-taken sz d (l .i) (l .counts) (l .lead) (l .inv .2) _ _ p refl (w .5 .taken)))
+      | inl w ↦ let p = found (record { before = record { before = after-x; if1 = w .0 }; block-by = w .1 }) in (
+        omega arith,
+        ap length (w .6) ∙ length-set (l .counts) _ _
+            ∙ l .inv .1,
+        rw (w .6, w .7) (counted-taken sz d (l .i) (l .counts) (l .lead) (l .inv .2) _ _ p refl (w .5 .taken)),
+      )
       | inr v ↦ elim v [
-        | inl w ↦ let p = found (record { before = record { before = c .before; if1 = w .0 }; block-by = w .1 }) in
-            (omega arith, ap length (w .6) ∙ length-set (l .counts) _ _ ∙ l .inv .1, rw (w .6, w .7) (counted-kept sz d (l .i) (l .counts) (l .lead) (l .inv .2) _ _ p refl (w .5 .left)))
-        | inr w ↦ (omega arith, ap length (w .1) ∙ l .inv .1, rw (w .1, w .2) (counted-vacant sz d (l .i) (l .counts) (l .lead) (l .inv .2) (slot-vacant sz _ s (l .i) (omega arith) (w .0 .left))))
+        | inl w ↦ let p = found (record { before = record { before = after-x; if1 = w .0 }; block-by = w .1 }) in (
+          omega arith,
+          ap length (w .6) ∙ length-set (l .counts) _ _
+              ∙ l .inv .1,
+          rw (w .6, w .7) (counted-kept sz d (l .i) (l .counts) (l .lead) (l .inv .2) _ _ p refl (w .5 .left)),
+        )
+        | inr w ↦ (
+          omega arith,
+          ap length (w .1) ∙ l .inv .1,
+          rw (w .1, w .2)
+              (counted-vacant sz d (l .i) (l .counts) (l .lead) (l .inv .2) (slot-vacant sz _ s (l .i) (omega arith) (w .0 .left))),
+        )
       ]
     ]
 
@@ -103,7 +167,10 @@ same-length c = search needs
 
 returns : tie.Need-returns Inv-loop μ-loop
 returns c =
-    let l = c .before .loop in let start = c .before .before .before .before .before in let e : l .i ≡ start .args .z .slots = omega arith in
+    let at-loop : tie.At-loop Inv-loop μ-loop = search in
+    let start : tie.Start Inv-loop μ-loop = search in
+    let l = at-loop .loop in
+    let e : l .i ≡ start .args .z .slots = omega arith in
     counted-all _ _ (start .pre .0 .sound .limits) (l .counts) (l .lead) (rw e at (l .inv .2))
 
 pub highest-counted-spec : {M : Type 1} → statement M

@@ -8,7 +8,9 @@ slice-aggregate-highest-counted : tie.Need-slice-aggregate-highest-counted
 slice-aggregate-highest-counted c = search needs
 
 highest-counted-requires : tie.Need-highest-counted-requires
-highest-counted-requires c κs = (c .before .before .before .pre, cleared-zeros _ 256 (omega arith))
+highest-counted-requires c κs =
+    let start : tie.Start = search in
+    (start .pre, cleared-zeros _ 256 (omega arith))
 
 returns : tie.Need-returns
 returns c = search needs
@@ -17,7 +19,10 @@ slice-aggregate-highest-counted-2 : tie.Need-slice-aggregate-highest-counted-2
 slice-aggregate-highest-counted-2 c = search needs
 
 highest-counted-requires-2 : tie.Need-highest-counted-requires-2
-highest-counted-requires-2 c κs = let p = c .before .before .before .pre in (p, cleared-zeros _ 4096 (p .sound .limits .N-high))
+highest-counted-requires-2 c κs =
+    let start : tie.Start = search in
+    let p = start .pre in
+    (p, cleared-zeros _ 4096 (p .sound .limits .N-high))
 
 returns-2 : tie.Need-returns-2
 returns-2 c = search needs

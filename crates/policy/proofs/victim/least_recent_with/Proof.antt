@@ -31,13 +31,25 @@ abbrev μ-loop : tie.MeasureT-loop
 μ-loop z valid recency v i₀ i = z .frames - i
 
 -- the frame at hand
-frame-lt : (c : tie.Then1 Inv-loop μ-loop) → getD (c .before .before .before .args .recency .now) (c .before .before .loop .i) 0 < c .before .before .before .args .z .frames
-frame-lt c = c .before .before .before .pre .sound .listed .recency-lt (c .before .before .loop .i) (omega arith)
+frame-lt : (c : tie.Then1 Inv-loop μ-loop) →
+    let at-loop : tie.At-loop Inv-loop μ-loop = search in
+    let start : tie.Start Inv-loop μ-loop = search in
+    getD (start .args .recency .now) (at-loop .loop .i) 0 < start .args .z .frames
+frame-lt c =
+    let at-loop : tie.At-loop Inv-loop μ-loop = search in
+    let start : tie.Start Inv-loop μ-loop = search in
+    start .pre .sound .listed .recency-lt (at-loop .loop .i) (omega arith)
 
 -- its count of ones
-ones : (c : tie.After-count Inv-loop μ-loop) → c .count .result ≡ pages (c .before .before .before .before .before .before .args .z) (c .before .before .before .before .before .before .args .valid .now) (c .before .before .before .before .before .before .args .recency .now) (c .before .before .before .before .before .loop .i)
+ones : (c : tie.After-count Inv-loop μ-loop) →
+    let at-loop : tie.At-loop Inv-loop μ-loop = search in
+    let start : tie.Start Inv-loop μ-loop = search in
+    c .count .result ≡ pages (start .args .z) (start .args .valid .now) (start .args .recency .now) (at-loop .loop .i)
 unfolding validCount
-ones c = c .count .ensures ∙ valid-ones _ _ (c .before .before .before .before .before .before .pre .sound) _ (frame-lt (c .before .before .before))
+ones c =
+    let then1 : tie.Then1 Inv-loop μ-loop = search in
+    let start : tie.Start Inv-loop μ-loop = search in
+    c .count .ensures ∙ valid-ones _ _ (start .pre .sound) _ (frame-lt then1)
 
 loop-holds : tie.Need-loop-holds Inv-loop μ-loop
 loop-holds c = (omega arith, below-none _)
@@ -49,13 +61,22 @@ element-copy-out-f : tie.Need-element-copy-out-f Inv-loop μ-loop
 element-copy-out-f c = search needs
 
 cast-f : tie.Need-cast-f Inv-loop μ-loop
-cast-f c = let k = frame-lt (c .before) in record { fits = omega arith }
+cast-f c =
+    let then1 : tie.Then1 Inv-loop μ-loop = search in
+    let k = frame-lt then1 in
+    record { fits = omega arith }
 
 mul-count : tie.Need-mul-count Inv-loop μ-loop
-mul-count c = let k = frame-lt (c .before) in omega arith
+mul-count c =
+    let then1 : tie.Then1 Inv-loop μ-loop = search in
+    let k = frame-lt then1 in
+    omega arith
 
 element-copy-out-count : tie.Need-element-copy-out-count Inv-loop μ-loop
-element-copy-out-count c = let k = frame-lt (c .before) in omega arith
+element-copy-out-count c =
+    let then1 : tie.Then1 Inv-loop μ-loop = search in
+    let k = frame-lt then1 in
+    omega arith
 
 count-requires : tie.Need-count-requires Inv-loop μ-loop
 count-requires c κs = search needs
@@ -63,8 +84,13 @@ count-requires c κs = search needs
 returns : tie.Need-returns Inv-loop μ-loop
 unfolding leastRecent
 returns c =
-    let l = c .before .before .before .before .before .before .loop in let a = c .before .before .before .before .before .before .before .args in
-    ap (λ (x : ℕ). getD (a .recency .now) x 0) (first-is (a .z .frames) (passes (a .z) (a .valid .now) (a .recency .now) (a .v)) (l .i) (l .inv .0) (l .inv .1) (λ k. eq-eqb _ _ (sym (ones (c .before)) ∙ c .if2 .taken)))
+    let after-count : tie.After-count Inv-loop μ-loop = search in
+    let at-loop : tie.At-loop Inv-loop μ-loop = search in
+    let start : tie.Start Inv-loop μ-loop = search in
+    let l = at-loop .loop in
+    let a = start .args in
+    ap (λ (x : ℕ). getD (a .recency .now) x 0) (first-is (a .z .frames) (passes (a .z) (a .valid .now) (a .recency .now) (a .v)) (l .i)
+    (l .inv .0) (l .inv .1) (λ k. eq-eqb _ _ (sym (ones after-count) ∙ c .if2 .taken)))
 
 add-i : tie.Need-add-i Inv-loop μ-loop
 add-i c = search needs
@@ -74,15 +100,24 @@ loop-less c = search needs
 
 loop-again : tie.Need-loop-again Inv-loop μ-loop
 loop-again c =
-    let l = c .before .before .before .before .before .before .loop in
-    (omega arith, below-more _ (l .i) (l .inv .1) (ne-eqb _ _ (λ e. c .if2 .left (ones (c .before) ∙ e))))
+    let after-count : tie.After-count Inv-loop μ-loop = search in
+    let at-loop : tie.At-loop Inv-loop μ-loop = search in
+    let l = at-loop .loop in
+    (omega arith, below-more _ (l .i) (l .inv .1) (ne-eqb _ _ (λ e. c .if2 .left (ones after-count ∙ e))))
 
 returns-2 : tie.Need-returns-2 Inv-loop μ-loop
 unfolding validCount
 -- some frame passes, so the loop is not left here
 returns-2 c =
-    let l = c .before .before .loop in let a = c .before .before .before .args in let p = c .before .before .before .pre in let k = p .sound .listed .recency-has (p .frame) (p .frame-lt) in let kl = k .1 in
-    clash (eq-eqb _ _ (ap (validCount (sizesOf (a .z)) (numbers [] [] (a .valid .now) [])) (k .2) ∙ p .frame-has)) (l .inv .1 (k .0) (omega arith))
+    let at-loop : tie.At-loop Inv-loop μ-loop = search in
+    let start : tie.Start Inv-loop μ-loop = search in
+    let l = at-loop .loop in
+    let a = start .args in
+    let p = start .pre in
+    let k = p .sound .listed .recency-has (p .frame) (p .frame-lt) in
+    let kl = k .1 in
+    clash (eq-eqb _ _ (ap (validCount (sizesOf (a .z)) (numbers [] [] (a .valid .now) [])) (k .2) ∙ p .frame-has))
+    (l .inv .1 (k .0) (omega arith))
 
 pub least-recent-with-spec : {M : Type 1} → statement M
 least-recent-with-spec =

@@ -6,7 +6,9 @@ use Rattle.policy.proofs.victim.victim.Statement.{statement}
 use Rattle.policy.proofs.victim.victim.Tie as tie
 
 small : (c : tie.After-highest-rank) → c .highest-rank .result ≤ 524288
-small c = rank-low _ _ (c .before .pre .sound .limits) _ (c .highest-rank .ensures)
+small c =
+    let start : tie.Start = search in
+    rank-low _ _ (start .pre .sound .limits) _ (c .highest-rank .ensures)
 
 highest-rank-requires : tie.Need-highest-rank-requires
 highest-rank-requires c κs = search needs
@@ -21,7 +23,9 @@ sub-block : tie.Need-sub-block
 sub-block c = search needs
 
 returns : tie.Need-returns
-returns c = rank-apart _ _ (c .before .pre .sound .limits) _ (c .highest-rank .ensures)
+returns c =
+    let start : tie.Start = search in
+    rank-apart _ _ (start .pre .sound .limits) _ (c .highest-rank .ensures)
 
 pub victim-spec : {M : Type 1} → statement M
 victim-spec = tie.close (tie.spec highest-rank-requires add-pages mul-block sub-block returns)

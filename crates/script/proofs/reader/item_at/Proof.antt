@@ -20,21 +20,34 @@ part-parse-start : tie.Need-part-parse-start
 part-parse-start c = search needs
 
 part-parse-end : tie.Need-part-parse-end
-part-parse-end c = let k = end-le 10 (c .before .before .before .args .src .now) (c .before .before .before .args .at) (omega arith) in let e = c .end-of .ensures in omega arith
+part-parse-end c =
+    let start : tie.Start = search in
+    let k = end-le 10 (start .args .src .now) (start .args .at) (omega arith) in
+    let e = c .end-of .ensures in
+    omega arith
 
 parse-requires : tie.Need-parse-requires
 parse-requires c κs = search needs
 
 add-next : tie.Need-add-next
-add-next c = let k = end-le 10 (c .before .before .before .before .before .args .src .now) (c .before .before .before .before .before .args .at) (omega arith) in let e = c .before .before .end-of .ensures in omega arith
+add-next c =
+    let after-end-of : tie.After-end-of = search in
+    let start : tie.Start = search in
+    let k = end-le 10 (start .args .src .now) (start .args .at) (omega arith) in
+    let e = after-end-of .end-of .ensures in
+    omega arith
 
 returns : tie.Need-returns
 returns c =
-    let a = c .before .before .before .before .before .args in
+    let after-end-of : tie.After-end-of = search in
+    let then1 : tie.Then1 = search in
+    let start : tie.Start = search in
+    let a = start .args in
     let s = a .src .now in
-    let e = c .before .before .end-of .ensures in
-    let w : take (c .before .before .end-of .result - a .at) (drop (a .at) s) ≡ upTo 10 (drop (a .at) s) = ap (λ (k : ℕ). take (k - a .at) (drop (a .at) s)) e ∙ piece-is 10 s (a .at) in
-    rw (c .parse .ensures ∙ ap formOf w, e) (sym (item-line s (a .at) (a .line) (c .before .before .before .if1 .taken)))
+    let e = after-end-of .end-of .ensures in
+    let w : take (after-end-of .end-of .result - a .at) (drop (a .at) s)
+    ≡ upTo 10 (drop (a .at) s) = ap (λ (k : ℕ). take (k - a .at) (drop (a .at) s)) e ∙ piece-is 10 s (a .at) in
+    rw (c .parse .ensures ∙ ap formOf w, e) (sym (item-line s (a .at) (a .line) (then1 .if1 .taken)))
 
 returns-2 : tie.Need-returns-2
 returns-2 c = sym (item-end _ _ _ (c .if1 .left))

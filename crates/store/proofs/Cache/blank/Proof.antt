@@ -15,7 +15,9 @@ vacant-requires c κs = search needs
 
 returns : tie.Need-returns
 unfolding blankCache
-returns c = λ i. record { sizes = c .before .blank .ensures i; directory = c .vacant .ensures i }
+returns c =
+    let after-blank : tie.After-blank = search in
+    λ i. record { sizes = after-blank .blank .ensures i; directory = c .vacant .ensures i }
 
 pub blank-spec : {M : Type 1} → statement M
 blank-spec = tie.close (tie.spec blank-requires vacant-requires returns)

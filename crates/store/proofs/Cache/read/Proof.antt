@@ -14,11 +14,21 @@ block-numbers-requires : tie.Need-block-numbers-requires
 block-numbers-requires c κs = search needs
 
 -- the lists are the directory's
-lists : (c : tie.After-block-numbers) → let d = c .before .before .before .before .before .before .before .before .before .args .self .directory in numbers (c .before .page-numbers .result) (c .block-numbers .result) (d .valid) (d .recency) ≡ directoryOf d
-lists c = lists-of (c .before .before .before .before .before .before .before .before .before .args .self .directory) _ _ (c .before .page-numbers .ensures) (c .block-numbers .ensures)
+lists : (c : tie.After-block-numbers) →
+    let after-page-numbers : tie.After-page-numbers = search in
+    let start : tie.Start = search in
+    let d = start .args .self .directory in numbers (after-page-numbers .page-numbers .result) (c .block-numbers .result) (d .valid)
+    (d .recency) ≡ directoryOf d
+lists c =
+    let after-page-numbers : tie.After-page-numbers = search in
+    let start : tie.Start = search in
+    lists-of (start .args .self .directory) _ _ (after-page-numbers .page-numbers .ensures) (c .block-numbers .ensures)
 
 attempt-requires : tie.Need-attempt-requires
-attempt-requires c κs = let s = c .before .before .before .before .before .before .before .before .before .before .before .before .before .before .before .before in rw (lists (c .before .before .before .before .before .before .before)) (shape-of (s .args .self .directory) _ (s .good .0 .1 .1 .1 .0 .1 .1))
+attempt-requires c κs =
+    let after-block-numbers : tie.After-block-numbers = search in
+    let s : tie.Start = search in
+    rw (lists after-block-numbers) (shape-of (s .args .self .directory) _ (s .good .0 .1 .1 .1 .0 .1 .1))
 
 same-length : tie.Need-same-length
 same-length c = search needs
@@ -26,10 +36,19 @@ same-length c = search needs
 returns : tie.Need-returns
 unfolding directoryOf
 returns c =
-    let b = c .before .before .before .before .before .before .before .before .before .before .before .before in
-    let d = c .before .before .before .before .before .before .before .before .before .before .before .before .before .before .before .before .before .before .before .before .before .args .self .directory in
-    let next : Directory = record { recency = c .before .before .before .before .attempt .last .1 .1 .1 .1 .0; valid = d .valid; frames = d .frames; slots = d .slots } in
-    on-lists _ d next _ _ _ _ _ _ _ (lists b) (sym (lists-of next _ _ (b .before .page-numbers .ensures) (b .block-numbers .ensures))) (c .before .before .before .before .attempt .ensures)
+    let after-attempt : tie.After-attempt = search in
+    let b : tie.After-block-numbers = search in
+    let after-page-numbers : tie.After-page-numbers = search in
+    let start : tie.Start = search in
+    let d = start .args .self .directory in
+    let next : Directory = record {
+      recency = after-attempt .attempt .last .1 .1 .1 .1 .0;
+      valid = d .valid;
+      frames = d .frames;
+      slots = d .slots;
+    } in
+    on-lists _ d next _ _ _ _ _ _ _ (lists b) (sym (lists-of next _ _ (after-page-numbers .page-numbers .ensures)
+    (b .block-numbers .ensures))) (after-attempt .attempt .ensures)
 
 pub read-spec : {M : Type 1} → statement M
 read-spec =

@@ -25,19 +25,34 @@ cast-b : tie.Need-cast-b
 cast-b c = search needs
 
 mul-result : tie.Need-mul-result
-mul-result c = let h = pages-small (sizesOf (c .before .before .before .before .before .args .z)) (c .before .before .before .before .before .pre) in omega arith
+mul-result c =
+    let start : tie.Start = search in
+    let h = pages-small (sizesOf (start .args .z)) (start .pre) in
+    omega arith
 
 mul-result-2 : tie.Need-mul-result-2
-mul-result-2 c = let h = flash-small (sizesOf (c .before .before .before .before .before .args .z)) (c .before .before .before .before .before .pre) in omega arith
+mul-result-2 c =
+    let start : tie.Start = search in
+    let h = flash-small (sizesOf (start .args .z)) (start .pre) in
+    omega arith
 
 mul-result-3 : tie.Need-mul-result-3
-mul-result-3 c = let h = pspace-small (sizesOf (c .before .before .before .before .before .args .z)) (c .before .before .before .before .before .pre) in omega arith
+mul-result-3 c =
+    let start : tie.Start = search in
+    let h = pspace-small (sizesOf (start .args .z)) (start .pre) in
+    omega arith
 
 mul-result-4 : tie.Need-mul-result-4
-mul-result-4 c = let h = frames-small (sizesOf (c .before .before .before .before .before .args .z)) (c .before .before .before .before .before .pre) in omega arith
+mul-result-4 c =
+    let start : tie.Start = search in
+    let h = frames-small (sizesOf (start .args .z)) (start .pre) in
+    omega arith
 
 mul-result-5 : tie.Need-mul-result-5
-mul-result-5 c = let h = bspace-small (sizesOf (c .before .before .before .before .before .args .z)) (c .before .before .before .before .before .pre) in omega arith
+mul-result-5 c =
+    let start : tie.Start = search in
+    let h = bspace-small (sizesOf (start .args .z)) (start .pre) in
+    omega arith
 
 returns : tie.Need-returns
 unfolding lengthsOk

@@ -10,7 +10,10 @@ use Rattle.store.proofs.lent.reach_ok.Reads as reads
 use Rattle.store.proofs.lent.reach_ok.Lts as lts
 
 returns : tie.Need-returns
-returns c = let a = c .before .args in sym (lt-leb (a .first + a .many) (a .z .«page_size») (let t = c .if1 .taken in omega arith))
+returns c =
+    let start : tie.Start = search in
+    let a = start .args in
+    sym (lt-leb (a .first + a .many) (a .z .«page_size») (let t = c .if1 .taken in omega arith))
 
 cast-result : tie.Need-cast-result
 cast-result c = search needs

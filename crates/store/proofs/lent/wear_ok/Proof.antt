@@ -33,10 +33,15 @@ loop-less : tie.Need-loop-less Inv-loop μ-loop
 loop-less c = search needs
 
 loop-again : tie.Need-loop-again Inv-loop μ-loop
-loop-again c = (omega arith, all-more _ (c .before .before .loop .b) (c .before .before .loop .inv .1) refl)
+loop-again c =
+    let at-loop : tie.At-loop Inv-loop μ-loop = search in
+    (omega arith, all-more _ (at-loop .loop .b) (at-loop .loop .inv .1) refl)
 
 returns : tie.Need-returns Inv-loop μ-loop
-returns c = c .before .loop .inv .1 ∙ ap (λ (k : ℕ). all k (λ i. leb (getD (c .before .before .args .wear .now) i 0) (c .before .before .args .limit))) (omega arith)
+returns c =
+    let at-loop : tie.At-loop Inv-loop μ-loop = search in
+    let start : tie.Start Inv-loop μ-loop = search in
+    at-loop .loop .inv .1 ∙ ap (λ (k : ℕ). all k (λ i. leb (getD (start .args .wear .now) i 0) (start .args .limit))) (omega arith)
 
 pub wear-ok-spec : {M : Type 1} → statement M
 wear-ok-spec =

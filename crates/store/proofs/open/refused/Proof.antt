@@ -10,7 +10,9 @@ blank-requires : tie.Need-blank-requires
 blank-requires c κs = search needs
 
 returns : tie.Need-returns
-returns c = λ i. record { answer = refusalOf (c .before .args .why); cache = c .blank .ensures i }
+returns c =
+    let start : tie.Start = search in
+    λ i. record { answer = refusalOf (start .args .why); cache = c .blank .ensures i }
 
 pub refused-spec : {M : Type 1} → statement M
 refused-spec = tie.close (tie.spec blank-requires returns)

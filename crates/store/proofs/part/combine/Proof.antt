@@ -11,17 +11,31 @@ use Rattle.page.proofs.lay.Reads as lay-reads
 use Rattle.reads.proofs.peek.Reads as peek-reads
 
 peek-requires : tie.Need-peek-requires
-peek-requires c κs = c .before .before .before .before .before .before .pre .0
+peek-requires c κs =
+    let start : tie.Start = search in
+    start .pre .0
 
 lay-requires : tie.Need-lay-requires
-lay-requires c κs = let p = c .before .before .before .before .before .before .before .before .before .before .pre in let h = p .0 .limits .S-high in let r = p .1 in let e = p .0 .page-length in let k = c .before .before .before .peek .kept .1 .1 .1 .1 .1 .1 .1 .1 .0 in (omega arith, omega arith)
+lay-requires c κs =
+    let after-peek : tie.After-peek = search in
+    let start : tie.Start = search in
+    let p = start .pre in
+    let h = p .0 .limits .S-high in
+    let r = p .1 in
+    let e = p .0 .page-length in
+    let k = after-peek .peek .kept in
+    (omega arith, omega arith)
 
 same-length : tie.Need-same-length
 same-length c = search needs
 
 returns : tie.Need-returns
 unfolding combined
-returns c = c .before .before .lay .ensures ∙ ap (laid (c .before .before .before .before .before .before .before .before .before .before .before .before .before .args .first) (c .before .before .before .before .before .before .before .before .before .before .before .before .before .args .bytes .now)) (c .before .before .before .before .before .before .peek .ensures .page-is)
+returns c =
+    let after-lay : tie.After-lay = search in
+    let after-peek : tie.After-peek = search in
+    let start : tie.Start = search in
+    after-lay .lay .ensures ∙ ap (laid (start .args .first) (start .args .bytes .now)) (after-peek .peek .ensures .page-is)
 
 pub combine-spec : {M : Type 1} → statement M
 combine-spec = tie.close (tie.spec peek-requires lay-requires same-length returns)

@@ -23,13 +23,21 @@ same-length : tie.Need-same-length
 same-length c = search needs
 
 returns : tie.Need-returns
-returns c = rw (c .before .before .before .before .enum-told .given .1) (c .before .before .lay .ensures ∙ laid-whole _ _ (c .before .before .before .before .before .before .before .before .pre .1))
+returns c =
+    let after-lay : tie.After-lay = search in
+    let after-enum-told : tie.After-enum-told = search in
+    let start : tie.Start = search in
+    rw (after-enum-told .enum-told .given .1) (after-lay .lay .ensures ∙ laid-whole _ _ (start .pre .1))
 
 same-length-2 : tie.Need-same-length-2
 same-length-2 c = search needs
 
 returns-2 : tie.Need-returns-2
-returns-2 c = rw (c .before .before .before .before .enum-told2 .given .1) (c .before .before .lay2 .ensures ∙ laid-whole _ _ (c .before .before .before .before .before .before .before .before .pre .1))
+returns-2 c =
+    let after-lay2 : tie.After-lay2 = search in
+    let after-enum-told2 : tie.After-enum-told2 = search in
+    let start : tie.Start = search in
+    rw (after-enum-told2 .enum-told2 .given .1) (after-lay2 .lay2 .ensures ∙ laid-whole _ _ (start .pre .1))
 
 returns-3 : tie.Need-returns-3
 returns-3 c = stays _ _ (c .enum-told3 .given .1) _ _

@@ -11,13 +11,22 @@ cast-s : tie.Need-cast-s
 cast-s c = search needs
 
 array-borrow-prefix-whole : tie.Need-array-borrow-prefix-whole
-array-borrow-prefix-whole c = let h = c .before .before .before .before .before .before .before .before .before .before .before .before .before .before .before .before .pre .ready .sound .limits .S-high in omega arith
+array-borrow-prefix-whole c =
+    let start : tie.Start = search in
+    let h = start .pre .ready .sound .limits .S-high in
+    omega arith
 
 slice-aggregate-write-combined : tie.Need-slice-aggregate-write-combined
-slice-aggregate-write-combined c = let h = c .before .before .before .before .before .before .before .before .before .before .before .before .before .before .before .before .before .pre .ready .sound .limits .S-high in simp length-take (omega arith)
+slice-aggregate-write-combined c =
+    let start : tie.Start = search in
+    let h = start .pre .ready .sound .limits .S-high in
+    simp length-take (omega arith)
 
 write-combined-requires : tie.Need-write-combined-requires
-write-combined-requires c κs = let p = c .before .before .before .before .before .before .before .before .before .before .before .before .before .before .before .before .before .pre in let h = p .ready .sound .limits .S-high in
+write-combined-requires c κs =
+    let start : tie.Start = search in
+    let p = start .pre in
+    let h = p .ready .sound .limits .S-high in
     (record { ready = p .ready; page-lt = p .page-lt; page-length = p .page-length; reach = p .reach }, simp length-take (omega arith))
 
 same-length : tie.Need-same-length
@@ -36,7 +45,9 @@ same-length-5 : tie.Need-same-length-5
 same-length-5 c = search needs
 
 returns : tie.Need-returns
-returns c = c .before .before .before .before .before .before .before .before .before .before .before .write-combined .ensures
+returns c =
+    let after-write-combined : tie.After-write-combined = search in
+    after-write-combined .write-combined .ensures
 
 pub write-apart-spec : {M : Type 1} → statement M
 write-apart-spec =

@@ -6,13 +6,27 @@ use Rattle.store.proofs.part.write_combined.Statement.{statement}
 use Rattle.store.proofs.part.write_combined.Tie as tie
 
 combine-requires : tie.Need-combine-requires
-combine-requires c κs = let p = c .before .before .before .before .before .before .before .before .before .before .before .before .before .before .pre in (part-readable _ _ _ _ _ _ _ (p .0) _ (p .1), p .0 .reach)
+combine-requires c κs =
+    let start : tie.Start = search in
+    let p = start .pre in
+    (part-readable _ _ _ _ _ _ _ (p .0) _ (p .1), p .0 .reach)
 
 write-requires : tie.Need-write-requires
-write-requires c κs = let p = c .before .before .before .before .before .before .before .before .before .before .before .before .before .before .before .before .before .before .before .before .before .before .before .before .before .before .pre in part-writable _ _ _ _ _ _ _ (p .0) _ (c .before .before .before .before .before .before .before .before .before .before .before .combine .kept .1 .1 .1 .1 .1 .1 .1 .1 .1 .1 .0 ∙ p .1)
+write-requires c κs =
+    let after-combine : tie.After-combine = search in
+    let start : tie.Start = search in
+    let p = start .pre in
+    part-writable _ _ _ _ _ _ _ (p .0) _ (omega (arith, after-combine .combine .kept, p))
 
 deliver-requires : tie.Need-deliver-requires
-deliver-requires c κs = let p = c .before .before .before .before .before .before .before .before .before .before .before .before .before .before .before .before .before .before .before .before .before .before .before .before .before .before .before .before .before .before .before .before .before .before .before .before .before .pre in let h = p .0 .ready .sound .limits .S-high in let e = c .before .before .before .before .before .before .before .before .before .before .before .before .before .before .before .before .before .before .before .before .before .before .combine .kept .1 .1 .1 .1 .1 .1 .1 .1 .1 .1 .0 ∙ p .1 in let g = p .0 .page-length in (omega arith, omega arith)
+deliver-requires c κs =
+    let after-combine : tie.After-combine = search in
+    let start : tie.Start = search in
+    let p = start .pre in
+    let h = p .0 .ready .sound .limits .S-high in
+    let e = after-combine .combine .kept in
+    let g = p .0 .page-length in
+    (omega (arith, e, p), omega (arith, e, p))
 
 same-length : tie.Need-same-length
 same-length c = search needs
@@ -33,7 +47,12 @@ same-length-6 : tie.Need-same-length-6
 same-length-6 c = search needs
 
 returns : tie.Need-returns
-returns c = part-wrote _ _ _ _ _ _ _ _ _ _ _ _ _ _ _ (c .before .before .before .before .before .before .before .before .before .before .before .before .before .before .before .before .before .before .before .before .before .before .before .before .before .combine .ensures) (c .before .before .before .before .before .before .before .before .before .before .before .before .before .write .ensures) (c .before .before .deliver .ensures)
+returns c =
+    let after-deliver : tie.After-deliver = search in
+    let after-write : tie.After-write = search in
+    let after-combine : tie.After-combine = search in
+    part-wrote _ _ _ _ _ _ _ _ _ _ _ _ _ _ _ (after-combine .combine .ensures) (after-write .write .ensures)
+    (after-deliver .deliver .ensures)
 
 pub write-combined-spec : {M : Type 1} → statement M
 write-combined-spec =

@@ -1,3 +1,4 @@
+use native.Mathlib.Omega.{arith}
 use borrow.Author.Needs.{needs}
 use mathlib.Core.Path.{_∙_}
 use Rattle.writes.proofs.Entering.{joins, join-enters, join-entered, exchange-enters, exchange-entered}
@@ -9,10 +10,23 @@ enum-known-room : tie.Need-enum-known-room
 enum-known-room c = search needs
 
 join-requires : tie.Need-join-requires
-join-requires c κs = let q = c .before .before .before .before .before .before .before .before .before .before .before .before .before .before .pre in let g = room-holds _ _ _ (c .before .before .before .before .before .before .before .before .before .before .before .before .before .before .args .n .0) _ _ _ q (c .before .before .before .before .before .before .before .room .given .1) in joins _ _ _ _ _ _ (c .before .before .before .before .before .before .before .before .before .before .before .before .before .before .args .page .now) (q .ready .sound) (g .victim-lt) (g .frame-lt) (q .ready .fits .pspace-length) (q .ready .fits .bspace-length)
+join-requires c κs =
+    let after-room : tie.After-room = search in
+    let start : tie.Start = search in
+    let q = start .pre in
+    let g = room-holds _ _ _ (start .args .n .0) _ _ _ q (after-room .room .given .1) in
+    joins _ _ _ _ _ _ (start .args .page .now) (q .ready .sound) (g .victim-lt) (g .frame-lt) (q .ready .fits .pspace-length)
+    (q .ready .fits .bspace-length)
 
 enter-requires : tie.Need-enter-requires
-enter-requires c κs = let q = c .before .before .before .before .before .before .before .before .before .before .before .before .before .before .before .before .before .before .before .before .before .before .pre in let g = room-holds _ _ _ (c .before .before .before .before .before .before .before .before .before .before .before .before .before .before .before .before .before .before .before .before .before .before .args .n .0) _ _ _ q (c .before .before .before .before .before .before .before .before .before .before .before .before .before .before .before .room .given .1) in join-enters _ _ _ _ _ (c .before .before .before .before .before .before .before .before .before .before .before .before .before .before .before .before .before .before .before .before .before .before .args .bspace .now) _ (q .ready .sound) g (q .ready .fits .pspace-length) (q .page-length) _ (c .before .before .before .before .before .before .before .join .ensures .directory)
+enter-requires c κs =
+    let after-join : tie.After-join = search in
+    let after-room : tie.After-room = search in
+    let start : tie.Start = search in
+    let q = start .pre in
+    let g = room-holds _ _ _ (start .args .n .0) _ _ _ q (after-room .room .given .1) in
+    join-enters _ _ _ _ _ (start .args .bspace .now) _ (q .ready .sound) g (q .ready .fits .pspace-length) (q .page-length) _
+    (after-join .join .ensures .directory)
 
 same-length : tie.Need-same-length
 same-length c = search needs
@@ -21,16 +35,36 @@ same-length-2 : tie.Need-same-length-2
 same-length-2 c = search needs
 
 returns : tie.Need-returns
-returns c = let q = c .before .before .before .before .before .before .before .before .before .before .before .before .before .before .before .before .before .before .before .before .before .before .before .before .before .pre in by-room _ _ _ _ _ _ _ q (c .before .before .before .before .before .before .before .before .before .before .before .before .before .before .before .before .before .before .room .given .1) (way-4 _ _ _ _ _ _ _ _ _ _ _ _ _ (join-entered _ _ _ _ _ _ _ (q .ready .sound) _ _ _ _ _ (c .before .before .before .before .before .before .before .before .before .before .join .ensures) (c .before .before .enter .ensures)))
+returns c =
+    let after-enter : tie.After-enter = search in
+    let after-join : tie.After-join = search in
+    let after-room : tie.After-room = search in
+    let start : tie.Start = search in
+    let q = start .pre in
+    by-room _ _ _ _ _ _ _ q (after-room .room .given .1) (way-4 _ _ _ _ _ _ _ _ _ _ _ _ _
+    (join-entered _ _ _ _ _ _ _ (q .ready .sound) _ _ _ _ _ (after-join .join .ensures) (after-enter .enter .ensures)))
 
 enum-known-room-2 : tie.Need-enum-known-room-2
 enum-known-room-2 c = search needs
 
 join-requires-2 : tie.Need-join-requires-2
-join-requires-2 c κs = let q = c .before .before .before .before .before .before .before .before .before .before .before .before .before .before .pre in let g = room-holds _ _ _ (c .before .before .before .before .before .before .before .before .before .before .before .before .before .before .args .n .0) _ _ _ q (c .before .before .before .before .before .before .before .room2 .given .1) in joins _ _ _ _ _ _ (c .before .before .before .before .before .before .before .before .before .before .before .before .before .before .args .page .now) (q .ready .sound) (g .victim-lt) (g .frame-lt) (q .ready .fits .pspace-length) (q .ready .fits .bspace-length)
+join-requires-2 c κs =
+    let after-room2 : tie.After-room2 = search in
+    let start : tie.Start = search in
+    let q = start .pre in
+    let g = room-holds _ _ _ (start .args .n .0) _ _ _ q (after-room2 .room2 .given .1) in
+    joins _ _ _ _ _ _ (start .args .page .now) (q .ready .sound) (g .victim-lt) (g .frame-lt) (q .ready .fits .pspace-length)
+    (q .ready .fits .bspace-length)
 
 enter-requires-2 : tie.Need-enter-requires-2
-enter-requires-2 c κs = let q = c .before .before .before .before .before .before .before .before .before .before .before .before .before .before .before .before .before .before .before .before .before .before .pre in let g = room-holds _ _ _ (c .before .before .before .before .before .before .before .before .before .before .before .before .before .before .before .before .before .before .before .before .before .before .args .n .0) _ _ _ q (c .before .before .before .before .before .before .before .before .before .before .before .before .before .before .before .room2 .given .1) in join-enters _ _ _ _ _ (c .before .before .before .before .before .before .before .before .before .before .before .before .before .before .before .before .before .before .before .before .before .before .args .bspace .now) _ (q .ready .sound) g (q .ready .fits .pspace-length) (q .page-length) _ (c .before .before .before .before .before .before .before .join2 .ensures .directory)
+enter-requires-2 c κs =
+    let after-join2 : tie.After-join2 = search in
+    let after-room2 : tie.After-room2 = search in
+    let start : tie.Start = search in
+    let q = start .pre in
+    let g = room-holds _ _ _ (start .args .n .0) _ _ _ q (after-room2 .room2 .given .1) in
+    join-enters _ _ _ _ _ (start .args .bspace .now) _ (q .ready .sound) g (q .ready .fits .pspace-length) (q .page-length) _
+    (after-join2 .join2 .ensures .directory)
 
 same-length-3 : tie.Need-same-length-3
 same-length-3 c = search needs
@@ -39,16 +73,39 @@ same-length-4 : tie.Need-same-length-4
 same-length-4 c = search needs
 
 returns-2 : tie.Need-returns-2
-returns-2 c = let q = c .before .before .before .before .before .before .before .before .before .before .before .before .before .before .before .before .before .before .before .before .before .before .before .before .before .pre in by-room _ _ _ _ _ _ _ q (c .before .before .before .before .before .before .before .before .before .before .before .before .before .before .before .before .before .before .room2 .given .1) (way-5 _ _ _ _ _ _ _ _ _ _ _ _ _ (join-entered _ _ _ _ _ _ _ (q .ready .sound) _ _ _ _ _ (c .before .before .before .before .before .before .before .before .before .before .join2 .ensures) (c .before .before .enter2 .ensures)))
+returns-2 c =
+    let after-enter2 : tie.After-enter2 = search in
+    let after-join2 : tie.After-join2 = search in
+    let after-room2 : tie.After-room2 = search in
+    let start : tie.Start = search in
+    let q = start .pre in
+    by-room _ _ _ _ _ _ _ q (after-room2 .room2 .given .1) (way-5 _ _ _ _ _ _ _ _ _ _ _ _ _
+    (join-entered _ _ _ _ _ _ _ (q .ready .sound) _ _ _ _ _ (after-join2 .join2 .ensures) (after-enter2 .enter2 .ensures)))
 
 enum-known-room-3 : tie.Need-enum-known-room-3
 enum-known-room-3 c = search needs
 
 exchange-requires : tie.Need-exchange-requires
-exchange-requires c κs = let q = c .before .before .before .before .before .before .before .before .before .before .before .before .before .before .pre in let g = room-holds _ _ _ (c .before .before .before .before .before .before .before .before .before .before .before .before .before .before .args .n .0) _ _ _ q (c .before .before .before .before .before .before .before .room3 .given .1) .0 in record { joins = joins _ _ _ _ _ _ (c .before .before .before .before .before .before .before .before .before .before .before .before .before .before .args .page .now) (q .ready .sound) (g .victim-lt) (g .frame-lt) (q .ready .fits .pspace-length) (q .ready .fits .bspace-length); old-lt = g .block-lt }
+exchange-requires c κs =
+    let after-room3 : tie.After-room3 = search in
+    let start : tie.Start = search in
+    let q = start .pre in
+    let g = room-holds _ _ _ (start .args .n .0) _ _ _ q (after-room3 .room3 .given .1) .0 in
+    record {
+      joins = joins _ _ _ _ _ _ (start .args .page .now) (q .ready .sound) (g .victim-lt) (g .frame-lt)
+          (q .ready .fits .pspace-length) (q .ready .fits .bspace-length);
+      old-lt = g .block-lt;
+    }
 
 enter-requires-3 : tie.Need-enter-requires-3
-enter-requires-3 c κs = let q = c .before .before .before .before .before .before .before .before .before .before .before .before .before .before .before .before .before .before .before .before .before .before .before .before .pre in let g = room-holds _ _ _ (c .before .before .before .before .before .before .before .before .before .before .before .before .before .before .before .before .before .before .before .before .before .before .before .before .args .n .0) _ _ _ q (c .before .before .before .before .before .before .before .before .before .before .before .before .before .before .before .before .before .room3 .given .1) in exchange-enters _ _ _ _ (c .before .before .before .before .before .before .before .before .before .before .before .before .before .before .before .before .before .before .before .before .before .before .before .before .args .pspace .now) (c .before .before .before .before .before .before .before .before .before .before .before .before .before .before .before .before .before .before .before .before .before .before .before .before .args .bspace .now) _ (q .ready .sound) (g .0) (g .1) (q .page-length) _ _ (c .before .before .before .before .before .before .before .before .before .exchange .ensures .directory) (c .before .before .before .before .before .before .before .before .before .exchange .kept .1 .1 .1 .1 .1 .0 ∙ q .ready .fits .pspace-length)
+enter-requires-3 c κs =
+    let after-exchange : tie.After-exchange = search in
+    let after-room3 : tie.After-room3 = search in
+    let start : tie.Start = search in
+    let q = start .pre in
+    let g = room-holds _ _ _ (start .args .n .0) _ _ _ q (after-room3 .room3 .given .1) in
+    exchange-enters _ _ _ _ (start .args .pspace .now) (start .args .bspace .now) _ (q .ready .sound) (g .0) (g .1) (q .page-length) _ _
+    (after-exchange .exchange .ensures .directory) (omega (arith, after-exchange .exchange .kept, q .ready .fits))
 
 same-length-5 : tie.Need-same-length-5
 same-length-5 c = search needs
@@ -57,13 +114,29 @@ same-length-6 : tie.Need-same-length-6
 same-length-6 c = search needs
 
 returns-3 : tie.Need-returns-3
-returns-3 c = let q = c .before .before .before .before .before .before .before .before .before .before .before .before .before .before .before .before .before .before .before .before .before .before .before .before .before .before .before .pre in by-room _ _ _ _ _ _ _ q (c .before .before .before .before .before .before .before .before .before .before .before .before .before .before .before .before .before .before .before .before .room3 .given .1) (way-6 _ _ _ _ _ _ _ _ _ _ _ _ _ (exchange-entered _ _ _ _ _ _ _ (q .ready .sound) _ _ _ _ _ _ (c .before .before .before .before .before .before .before .before .before .before .before .before .exchange .ensures) (c .before .before .enter3 .ensures)))
+returns-3 c =
+    let after-enter3 : tie.After-enter3 = search in
+    let after-exchange : tie.After-exchange = search in
+    let after-room3 : tie.After-room3 = search in
+    let start : tie.Start = search in
+    let q = start .pre in
+    by-room _ _ _ _ _ _ _ q (after-room3 .room3 .given .1) (way-6 _ _ _ _ _ _ _ _ _ _ _ _ _
+    (exchange-entered _ _ _ _ _ _ _ (q .ready .sound) _ _ _ _ _ _ (after-exchange .exchange .ensures) (after-enter3 .enter3 .ensures)))
 
 enum-known-room-4 : tie.Need-enum-known-room-4
 enum-known-room-4 c = search needs
 
 evict-requires : tie.Need-evict-requires
-evict-requires c κs = let q = c .before .before .before .before .before .before .before .before .before .before .before .before .before .before .before .before .pre in record { ready = q .ready; page-length = q .page-length; holds = room-holds _ _ _ (c .before .before .before .before .before .before .before .before .before .before .before .before .before .before .before .before .args .n .0) _ _ _ q (c .before .before .before .before .before .before .before .before .before .room4 .given .1) }
+evict-requires c κs =
+    let after-room4 : tie.After-room4 = search in
+    let start : tie.Start = search in
+    let q = start .pre in
+    record {
+      ready = q .ready;
+      page-length = q .page-length;
+      holds = room-holds _ _ _ (start .args .n .0) _ _ _ q
+          (after-room4 .room4 .given .1);
+    }
 
 same-length-7 : tie.Need-same-length-7
 same-length-7 c = search needs
@@ -78,7 +151,11 @@ same-length-10 : tie.Need-same-length-10
 same-length-10 c = search needs
 
 returns-4 : tie.Need-returns-4
-returns-4 c = by-room _ _ _ _ _ _ _ (c .before .before .before .before .before .before .before .before .before .before .before .before .before .before .before .before .before .before .before .before .before .before .before .before .before .pre) (c .before .before .before .before .before .before .before .before .before .before .before .before .before .before .before .before .before .before .room4 .given .1) (c .before .before .before .before .before .before .before .before .evict .ensures)
+returns-4 c =
+    let after-evict : tie.After-evict = search in
+    let after-room4 : tie.After-room4 = search in
+    let start : tie.Start = search in
+    by-room _ _ _ _ _ _ _ (start .pre) (after-room4 .room4 .given .1) (after-evict .evict .ensures)
 
 pub write-spec : {M : Type 1} → statement M
 write-spec =

@@ -6,25 +6,44 @@ use Rattle.writes.proofs.put.enter.Statement.{statement}
 use Rattle.writes.proofs.put.enter.Tie as tie
 
 touch-requires : tie.Need-touch-requires
-touch-requires c κs = let q = c .before .before .before .pre in listed _ _ _ (q .sound) (q .frame-lt)
+touch-requires c κs =
+    let start : tie.Start = search in
+    let q = start .pre in
+    listed _ _ _ (q .sound) (q .frame-lt)
 
 slot-of-requires : tie.Need-slot-of-requires
 slot-of-requires c κs = search needs
 
 over-slot-requires : tie.Need-over-slot-requires
-over-slot-requires c κs = over _ _ _ _ _ (c .before .before .before .before .before .before .before .pre) _ (c .before .slot-of .ensures)
+over-slot-requires c κs =
+    let after-slot-of : tie.After-slot-of = search in
+    let start : tie.Start = search in
+    over _ _ _ _ _ (start .pre) _ (after-slot-of .slot-of .ensures)
 
 mul-slots : tie.Need-mul-slots
-mul-slots c = let l = slot-small _ _ _ _ _ (c .before .before .before .before .before .before .before .before .before .before .pre) _ (c .before .before .before .before .slot-of .ensures) in record { fits = omega arith }
+mul-slots c =
+    let after-slot-of : tie.After-slot-of = search in
+    let start : tie.Start = search in
+    let l = slot-small _ _ _ _ _ (start .pre) _ (after-slot-of .slot-of .ensures) in
+    record { fits = omega arith }
 
 element-write-slots : tie.Need-element-write-slots
-element-write-slots c = slot-small _ _ _ _ _ (c .before .before .before .before .before .before .before .before .before .before .pre) _ (c .before .before .before .before .slot-of .ensures)
+element-write-slots c =
+    let after-slot-of : tie.After-slot-of = search in
+    let start : tie.Start = search in
+    slot-small _ _ _ _ _ (start .pre) _ (after-slot-of .slot-of .ensures)
 
 same-length : tie.Need-same-length
 same-length c = search needs
 
 returns : tie.Need-returns
-returns c = enter-is _ _ _ _ _ (c .before .before .before .before .before .before .before .before .before .before .pre) _ (c .before .before .before .before .slot-of .ensures) _ _ _ (c .before .before .before .before .before .before .touch .ensures) (c .before .before .over-slot .ensures)
+returns c =
+    let after-over-slot : tie.After-over-slot = search in
+    let after-slot-of : tie.After-slot-of = search in
+    let after-touch : tie.After-touch = search in
+    let start : tie.Start = search in
+    enter-is _ _ _ _ _ (start .pre) _ (after-slot-of .slot-of .ensures) _ _ _ (after-touch .touch .ensures)
+    (after-over-slot .over-slot .ensures)
 
 pub enter-spec : {M : Type 1} → statement M
 enter-spec =

@@ -21,13 +21,21 @@ cast-o : tie.Need-cast-o
 cast-o c = search needs
 
 copy-in-block-requires : tie.Need-copy-in-block-requires
-copy-in-block-requires c κs = let q = c .before .before .before .before .before .before .pre in (q .limits .S-high, rw (c .before .offset-of .ensures) (offset-lt _ (q .limits) _), has-stretch _ _ _ _ q, frame-buffer _ _ _ _ q)
+copy-in-block-requires c κs =
+    let after-offset-of : tie.After-offset-of = search in
+    let start : tie.Start = search in
+    let q = start .pre in
+    (q .limits .S-high, rw (after-offset-of .offset-of .ensures) (offset-lt _ (q .limits) _), has-stretch _ _ _ _ q, frame-buffer _ _ _ _ q)
 
 same-length : tie.Need-same-length
 same-length c = search needs
 
 returns : tie.Need-returns
-returns c = frame-page-is _ _ _ _ (c .before .before .before .before .before .before .before .before .before .pre) _ _ _ (c .before .before .before .before .offset-of .ensures) (c .before .before .copy-in-block .ensures)
+returns c =
+    let after-copy-in-block : tie.After-copy-in-block = search in
+    let after-offset-of : tie.After-offset-of = search in
+    let start : tie.Start = search in
+    frame-page-is _ _ _ _ (start .pre) _ _ _ (after-offset-of .offset-of .ensures) (after-copy-in-block .copy-in-block .ensures)
 
 pub over-frame-page-spec : {M : Type 1} → statement M
 over-frame-page-spec =

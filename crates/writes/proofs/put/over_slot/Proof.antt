@@ -10,13 +10,19 @@ cast-s : tie.Need-cast-s
 cast-s c = search needs
 
 copy-page-requires : tie.Need-copy-page-requires
-copy-page-requires c κs = let q = c .before .before .before .before .pre in (q .limits .S-high, has-slot _ _ _ _ q, slot-buffer _ _ _ _ q)
+copy-page-requires c κs =
+    let start : tie.Start = search in
+    let q = start .pre in
+    (q .limits .S-high, has-slot _ _ _ _ q, slot-buffer _ _ _ _ q)
 
 same-length : tie.Need-same-length
 same-length c = search needs
 
 returns : tie.Need-returns
-returns c = slot-is _ _ _ _ (c .before .before .before .before .before .before .before .pre) _ (c .before .before .copy-page .ensures)
+returns c =
+    let after-copy-page : tie.After-copy-page = search in
+    let start : tie.Start = search in
+    slot-is _ _ _ _ (start .pre) _ (after-copy-page .copy-page .ensures)
 
 pub over-slot-spec : {M : Type 1} → statement M
 over-slot-spec = tie.close (tie.spec cast-s copy-page-requires same-length returns)

@@ -19,7 +19,7 @@ pub extern "C" fn record_sound(r: Record) -> bool
 {
     let sizes = r.sizes;
     let directory = r.directory;
-    directory.sound(sizes)
+    sound::directory_sound(directory, sizes)
 }
 
 // The same of the directory's lists, as the store's calls have it tested. Each list has as many entries as its type says.
@@ -36,5 +36,5 @@ pub extern "C" fn lists_sound(
         let d = numbers (now (slots .entry)) (now (frames .entry)) (now (valid .entry)) (now (recency .entry)) in
         s ≡ sound (sizesOf sizes) d) ⌝ }
 {
-    cache::soundness::lists_sound(sizes, slots, frames, valid, recency)
+    sound::lists_sound(sizes, slots, frames, valid, recency)
 }

@@ -1,8 +1,6 @@
 // The cache record's numbers by value: its sizes and its directory, which says what stands where.
-mod filter;
 mod lists; // lists.rt: the directory as lists of plain numbers, and back
 pub mod search; // search.rt: what a search of the slots may pass over
-pub mod soundness; // soundness.rt: whether a record is sound
 
 use address::BlockNo;
 use address::PageNo;

@@ -14,6 +14,7 @@ use records::largest;
 use records::middling;
 use records::sizes;
 use runs::entries;
+use sound::directory_sound;
 ghost use Prim.Native.Nat.{_≤_};
 
 fn main() {
@@ -164,10 +165,10 @@ fn entries_past(s: Sizes, d: Directory) {
 
 // These sizes with nothing cached.
 fn vacant(name: &[u8], s: Sizes, expected: bool) {
-    report::verdict(name, expected, Directory::vacant().sound(s));
+    report::verdict(name, expected, directory_sound(Directory::vacant(), s));
 }
 
 // A record that must be sound.
 fn whole(name: &[u8], s: Sizes, d: Directory) {
-    report::verdict(name, true, d.sound(s));
+    report::verdict(name, true, directory_sound(d, s));
 }

@@ -4,6 +4,7 @@ use cache::Directory;
 use cache::Sizes;
 use records::Entry;
 use records::with;
+use sound::directory_sound;
 
 // A run of entries of a record.
 pub struct Run {
@@ -37,7 +38,7 @@ impl Run {
         let mut count = 0u64;
         let mut i = self.from;
         while i < to {
-            count = more(count, with(d, i, x).sound(s));
+            count = more(count, directory_sound(with(d, i, x), s));
             i += 1;
         }
         count

@@ -8,7 +8,7 @@ use answer::Refusal;
 use answer::Step;
 use cache::Directory;
 use cache::Sizes;
-use cache::soundness::lists_sound;
+use sound::lists_sound;
 ghost use mathlib.Core.Path.{_≡_};
 ghost use mathlib.Core.List.{[]};
 ghost use Rattle.model.specs.Policy.{leastRecent};

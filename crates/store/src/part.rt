@@ -7,7 +7,7 @@ use answer::Refusal;
 use answer::Write;
 use cache::Directory;
 use cache::Sizes;
-use cache::soundness::lists_sound;
+use sound::lists_sound;
 ghost use mathlib.Core.Path.{_≡_};
 ghost use mathlib.Core.Bool.{cond};
 ghost use mathlib.Core.List.{[]};

@@ -15,8 +15,8 @@ loop-holds c = search needs
 with-requires : tie.Need-with-requires Inv-loop μ-loop
 with-requires c κs = search needs
 
-sound-requires : tie.Need-sound-requires Inv-loop μ-loop
-sound-requires c κs = search needs
+directory-sound-requires : tie.Need-directory-sound-requires Inv-loop μ-loop
+directory-sound-requires c κs = search needs
 
 more-requires : tie.Need-more-requires Inv-loop μ-loop
 more-requires c κs = search needs
@@ -41,7 +41,7 @@ unsound-spec =
     μ-loop
     loop-holds
     with-requires
-    sound-requires
+    directory-sound-requires
     more-requires
     add-i
     loop-less

@@ -1,4 +1,3 @@
 pub mod Order
-pub mod Marks
 pub mod Parts
 pub mod Whole

@@ -18,9 +18,10 @@ use Rattle.model.specs.Sizes.{Sizes, InLimits, vacant}
 use Rattle.model.specs.Directory.{Directory, slotAt, frameAt, validAt, inFrame}
 use Rattle.model.specs.Soundness.{slotOk, frameOk, slotsDiffer, cachedOnce}
 use Rattle.model.proofs.Soundness.{K-pos}
-use Rattle.sound.specs.Filter.{inFilter, laidAt}
-use Rattle.sound.specs.Soundness.{slotGood, Laid, Unmet, Passed}
-use Rattle.sound.proofs.Marks.{laid-keeps, laid-has}
+use Rattle.filter.specs.Filter.{inFilter, laidAt}
+use Rattle.filter.specs.Passed.{Unmet, Passed}
+use Rattle.sound.specs.Soundness.{slotGood, Laid}
+use Rattle.filter.proofs.Marks.{laid-keeps, laid-has}
 
 spread : (a t u v : Bool) → (a || ((t && u) && v)) ≡ ((a || t) && ((a || u) && (a || v)))
 spread true t u v = refl

@@ -1,7 +1,5 @@
 // The soundness test. One filter takes the frames' valid pages and then the slots' page numbers one by one; only where a
 // bit is met already are entries compared.
-mod filter; // filter.rt: a filter of page numbers
-
 use address::PageNo;
 use cache::Directory;
 use cache::Sizes;
@@ -9,7 +7,7 @@ use cache::VACANT;
 ghost use mathlib.Core.Path.{_≡_};
 ghost use mathlib.Core.Bool.{not, _||_};
 ghost use mathlib.Core.List.{[]};
-ghost use Prim.Native.Nat.{_*_, _<_, _≤_};
+ghost use Prim.Native.Nat.{_<_};
 ghost use lib.Dec.{eqb};
 ghost use lib.ListN.{length, getD};
 ghost use Rattle.prelude.specs.Scan.{all, allPairs};
@@ -17,7 +15,7 @@ ghost use Rattle.model.specs.Sizes.{InLimits};
 ghost use Rattle.model.specs.Directory.{inFrame};
 ghost use Rattle.model.specs.Soundness.{sound, framesDiffer, listedOnce, framePast, slotPast, Shape};
 ghost use Rattle.cache.specs.View.{sizesOf, directoryOf, numbers};
-ghost use Rattle.sound.specs.Soundness.{slotGood, FramesTested, Ready, FirstMet};
+ghost use Rattle.sound.specs.Soundness.{slotGood, FramesTested, Ready};
 
 // Whether the record of these sizes and this directory is sound.
 pub fn directory_sound(d: Directory, sizes: Sizes) -> bool
@@ -178,7 +176,7 @@ fn slots_ok(
     let p = sizes.slots as usize;
     let mut j = 0;
     loop {
-        j = first_met(sizes, slots, seen, j);
+        j = filter::first_met(sizes, slots, seen, j);
         if p <= j {
             return true;
         }
@@ -187,35 +185,6 @@ fn slots_ok(
         }
         j += 1;
     }
-}
-
-// The first slot from i on, below P, whose number is out of range or may be in the filter; P where there is none. The
-// numbers passed go into the filter; one that changes no word of it may be there already.
-fn first_met(sizes: Sizes, slots: &[u32; 128], seen: &mut [u64; 64], i: usize) -> usize
-    requires { ⌜ InLimits (sizesOf sizes) × (i ≤ sizesOf sizes .P) × (length (now seen) ≡ 64) ⌝ }
-    ensures { λ r. ⌜ (
-        FirstMet (sizesOf sizes .N * sizesOf sizes .K) (sizesOf sizes .P) (now (slots .entry)) i (now (seen .entry))
-        (now (seen .exit)) r) ⌝ }
-{
-    let p = sizes.slots as usize;
-    let end = sizes.blocks * sizes.pages_per_block;
-    let mut j = i;
-    while j < p {
-        let y = slots[j];
-        if y < end {
-            let w = (y % 4096 / 64) as usize;
-            let v = seen[w];
-            let next = bitmap::with(v, y % 64);
-            if next == v {
-                return j;
-            }
-            seen[w] = next;
-        } else if y != VACANT {
-            return j;
-        }
-        j += 1;
-    }
-    j
 }
 
 // Slot j by itself, compared with each slot before it and each frame.

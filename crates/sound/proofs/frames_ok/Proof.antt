@@ -14,7 +14,7 @@ use Rattle.model.specs.Directory.{Directory}
 use Rattle.model.specs.Soundness.{frameOk}
 use Rattle.cache.specs.View.{sizesOf, numbers}
 use Rattle.sound.specs.Soundness.{Laid, FramesTested}
-use Rattle.sound.proofs.Marks.{laid-length}
+use Rattle.filter.proofs.Marks.{laid-length}
 use Rattle.sound.proofs.Parts.{vacant-ok, vacant-with, held-test, laid-skip, laid-more}
 use Rattle.sound.proofs.frames_ok.Statement.{statement}
 use Rattle.sound.proofs.frames_ok.Tie as tie

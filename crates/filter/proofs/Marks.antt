@@ -14,8 +14,8 @@ use Rattle.prelude.specs.Bits.{bit, withBit}
 use Rattle.prelude.proofs.Tests.{by-test, clash, or-l, or-r}
 use Rattle.prelude.proofs.Bits.{bit-or, bit-one, or-with, shl-bit, shr-bit}
 use Rattle.model.specs.Sizes.{vacant}
-use Rattle.sound.specs.Filter.{inFilter, orAt, laidAt}
-use Rattle.sound.specs.Soundness.{Unmet, Passed}
+use Rattle.filter.specs.Filter.{inFilter, orAt, laidAt}
+use Rattle.filter.specs.Passed.{Unmet, Passed}
 
 -- ---- a word that takes more bits
 

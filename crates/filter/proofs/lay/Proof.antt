@@ -1,7 +1,7 @@
 use borrow.Author.Needs.{needs}
 use mathlib.Core.Path.{_∙_}
-use Rattle.sound.proofs.filter.lay.Statement.{statement}
-use Rattle.sound.proofs.filter.lay.Tie as tie
+use Rattle.filter.proofs.lay.Statement.{statement}
+use Rattle.filter.proofs.lay.Tie as tie
 
 cast-w : tie.Need-cast-w
 cast-w c = search needs

@@ -6,10 +6,10 @@ use Prim.Native.Nat.{_-_, _/_, _%_, _≤_}
 use lib.ListN.{getD, set}
 use Rattle.prelude.proofs.Bits.{with-met, with-unmet}
 use Rattle.model.proofs.Soundness.{pages-small}
-use Rattle.sound.specs.Soundness.{Passed}
-use Rattle.sound.proofs.Marks.{putIn, passed-none, passed-vacant, passed-new}
-use Rattle.sound.proofs.first_met.Statement.{statement}
-use Rattle.sound.proofs.first_met.Tie as tie
+use Rattle.filter.specs.Passed.{Passed}
+use Rattle.filter.proofs.Marks.{putIn, passed-none, passed-vacant, passed-new}
+use Rattle.filter.proofs.first_met.Statement.{statement}
+use Rattle.filter.proofs.first_met.Tie as tie
 
 abbrev Inv-loop : tie.InvT-loop
 Inv-loop slots seen₀ i p end j₀ seen j = (j ≤ p) × Passed end slots i j seen₀ seen

@@ -26,11 +26,13 @@ use Rattle.answer.specs.Carried.{buffers}
 use Rattle.store.specs.declared.Cache.{Cache}
 use Rattle.store.specs.View.{storeOf}
 use Rattle.store.proofs.Carrying.{call-record, call-buffer, call-carried}
-use Rattle.interpret.specs.declared.Lined.{Lined}
 use Rattle.interpret.specs.declared.parts.Parts.{Parts}
-use Rattle.interpret.specs.Lines.{Effect, opened, written, wasRead, stepped, flushed, carried, sizesAfter}
-use Rattle.interpret.specs.View.{Carries, Held, PartsOf, front, Sized, Lent, CarriedOut}
-use Rattle.interpret.proofs.Opening.{opened-done, opened-sizes, opened-refused}
+use Rattle.perform.specs.declared.Lined.{Lined}
+use Rattle.perform.specs.Effects.{Effect, opened, written, wasRead, stepped, flushed}
+use Rattle.perform.specs.View.{Carries}
+use Rattle.perform.proofs.Opening.{opened-done, opened-sizes, opened-refused}
+use Rattle.interpret.specs.Lines.{carried, sizesAfter}
+use Rattle.interpret.specs.View.{Held, PartsOf, front, Sized, Lent, CarriedOut}
 
 -- ---- what a form asks of the buffers lent
 

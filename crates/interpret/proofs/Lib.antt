@@ -1,4 +1,1 @@
-pub mod Said
-pub mod Carrying
-pub mod Opening
 pub mod Front

@@ -1,38 +1,19 @@
--- The program's memory, and what the code hands back for a line.
+-- The program's memory, and what a line leaves in it.
 use mathlib.Core.Path.{_≡_}
 use mathlib.Core.Bool.{true}
 use mathlib.Core.List.{List}
 use Prim.Native.Nat.{ℕ, _*_, _≤_}
 use lib.ListN.{length, take}
 use Rattle.model.specs.Sizes.{Sizes, sizesOk}
-use Rattle.model.specs.Calls.{Answer, openDone, readDone, writeDone, stepDone, stepClean, flushDone, refused, Buffers, Fits}
+use Rattle.model.specs.Calls.{Buffers, Fits}
 use Rattle.print.specs.Print.{wearRoom}
 use Rattle.script.specs.Forms.{Form, opens, writes, reads, steps, flushes, wears, bad, buffersFit}
 use Rattle.cache.specs.View.{sizesOf}
 use Rattle.answer.specs.Carried.{buffers}
-use Rattle.store.specs.View.{storeOf}
-use Rattle.interpret.specs.Lines.{Effect}
-use Rattle.interpret.specs.declared.Lined.{Lined}
+use Rattle.perform.specs.declared.Lined.{Lined}
+use Rattle.perform.specs.Effects.{Effect}
+use Rattle.perform.specs.View.{Carries}
 use Rattle.interpret.specs.declared.parts.Parts.{Parts}
-
--- the number of a refusal
-abbrev pub numberOf : Answer → ℕ
-numberOf openDone = 0
-numberOf (readDone way) = 0
-numberOf (writeDone way b m) = 0
-numberOf (stepDone b m) = 0
-numberOf stepClean = 0
-numberOf (flushDone r m) = 0
-numberOf (refused n b) = n
-
--- the record with the buffers u, and the first bytes of out
-abbrev pub effectOf : Lined → Buffers → List ℕ → Effect
-effectOf r u out = record { store = storeOf (r .cache) u; printed = take (r .printed) out }
-
--- the code did what e says
-pub record Carries (e : Effect) (r : Lined) (u : Buffers) (out : List ℕ) : Type 0 where
-  pub effect : effectOf r u out ≡ e
-  pub within : r .printed ≤ wearRoom 4096
 
 -- ---- the store's own buffers stand at the front of the program's memory
 

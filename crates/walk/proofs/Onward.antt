@@ -22,9 +22,10 @@ use Rattle.answer.specs.Carried.{buffers}
 use Rattle.cache.specs.View.{sizesOf}
 use Rattle.store.specs.declared.Cache.{Cache}
 use Rattle.store.specs.View.{cacheOf}
-use Rattle.interpret.specs.declared.Lined.{Lined}
+use Rattle.perform.specs.declared.Lined.{Lined}
 use Rattle.walk.specs.declared.Walk.{Walk}
-use Rattle.interpret.specs.Lines.{Effect, carried, printedBy, rest, outputOf}
+use Rattle.perform.specs.Effects.{Effect}
+use Rattle.interpret.specs.Lines.{carried, printedBy, rest, outputOf}
 use Rattle.interpret.specs.View.{Held, Memory, CarriedOut}
 use Rattle.walk.specs.Walk.{inUse, printing, Ready, More, Started, Onward, Output}
 use Rattle.walk.proofs.Rest.{held-blank, blank-front, onward, Stands, rest-item, item-stands, rest-output, over-output}

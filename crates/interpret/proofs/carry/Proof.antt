@@ -3,7 +3,7 @@ use native.Mathlib.Omega.{arith}
 use mathlib.Core.Path.{refl}
 use lib.ListN.{length}
 use Rattle.print.specs.Print.{lineRoom, wearRoom}
-use Rattle.interpret.proofs.Said.{carries}
+use Rattle.perform.proofs.Carrying.{carries}
 use Rattle.interpret.proofs.Front.{lent-open, lent-page}
 use Rattle.interpret.proofs.carry.Statement.{statement}
 use Rattle.interpret.proofs.carry.Tie as tie

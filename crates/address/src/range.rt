@@ -90,8 +90,8 @@ pub fn block_by(n: PageNo, k: u32, m: u32) -> BlockNo
     ensures { λ r. ⌜ r ≡ blockOf n k ⌝ }
 {
     let wide = n.0 as u64 * m as u64;
-    let b = (wide >> 32) as u32;
-    let first = b * k;
+    let b = BlockNo((wide >> 32) as u32);
+    let first = b.0 * k;
     let last = first + (k - 1);
     if n.0 < first {
         return block_before(n, k, b);
@@ -99,16 +99,16 @@ pub fn block_by(n: PageNo, k: u32, m: u32) -> BlockNo
     if last < n.0 {
         return block_after(n, k, b);
     }
-    BlockNo(b)
+    b
 }
 
 // The block of page n, which lies before block `start`.
-fn block_before(n: PageNo, k: u32, start: u32) -> BlockNo
-    requires { ⌜ (0 < k) × (k ≤ 64) × (start < 262144) × (n .0 < start * k) ⌝ }
+fn block_before(n: PageNo, k: u32, start: BlockNo) -> BlockNo
+    requires { ⌜ (0 < k) × (k ≤ 64) × (start .0 < 262144) × (n .0 < start .0 * k) ⌝ }
     ensures { λ r. ⌜ r ≡ blockOf n k ⌝ }
 {
-    let mut b = start;
-    let mut first = start * k;
+    let mut b = start.0;
+    let mut first = start.0 * k;
     while n.0 < first {
         b -= 1;
         first -= k;
@@ -117,12 +117,12 @@ fn block_before(n: PageNo, k: u32, start: u32) -> BlockNo
 }
 
 // The block of page n, which lies after block `start`.
-fn block_after(n: PageNo, k: u32, start: u32) -> BlockNo
-    requires { ⌜ (0 < k) × (n .0 < 262144) × (start * k + k ≤ n .0) ⌝ }
+fn block_after(n: PageNo, k: u32, start: BlockNo) -> BlockNo
+    requires { ⌜ (0 < k) × (n .0 < 262144) × (start .0 * k + k ≤ n .0) ⌝ }
     ensures { λ r. ⌜ r ≡ blockOf n k ⌝ }
 {
-    let mut b = start;
-    let mut last = start * k + (k - 1);
+    let mut b = start.0;
+    let mut last = start.0 * k + (k - 1);
     while last < n.0 {
         b += 1;
         last += k;

@@ -6,22 +6,30 @@ use Rattle.address.proofs.range.block_after.Statement.{statement}
 use Rattle.address.proofs.range.block_after.Tie as tie
 
 abbrev Inv-loop : tie.InvT-loop
-Inv-loop n k start b₀ last₀ b last = (last ≡ b * k + (k - 1)) × (b * k ≤ n .0)
+Inv-loop n k b₀ last₀ b last = (last ≡ b * k + (k - 1)) × (b * k ≤ n .0)
 
 abbrev μ-loop : tie.MeasureT-loop
-μ-loop n k start b₀ last₀ b last = n .0 - last
+μ-loop n k b₀ last₀ b last = n .0 - last
 
 mul-last : tie.Need-mul-last Inv-loop μ-loop
-mul-last c = let h = c .pre .2 in let n = c .pre .1 in record { fits = omega arith }
+mul-last c =
+    let start : tie.Start Inv-loop μ-loop = search in
+    let h = start .pre .2 in let n = start .pre .1 in record { fits = omega arith }
 
 sub-last : tie.Need-sub-last Inv-loop μ-loop
-sub-last c = c .pre .0
+sub-last c =
+    let start : tie.Start Inv-loop μ-loop = search in
+    start .pre .0
 
 add-last : tie.Need-add-last Inv-loop μ-loop
-add-last c = let h = c .pre .2 in let n = c .pre .1 in record { fits = omega arith }
+add-last c =
+    let start : tie.Start Inv-loop μ-loop = search in
+    let h = start .pre .2 in let n = start .pre .1 in record { fits = omega arith }
 
 loop-holds : tie.Need-loop-holds Inv-loop μ-loop
-loop-holds c = let h = c .pre .2 in (refl, omega arith)
+loop-holds c =
+    let start : tie.Start Inv-loop μ-loop = search in
+    let h = start .pre .2 in (refl, omega arith)
 
 add-b : tie.Need-add-b Inv-loop μ-loop
 add-b c =

@@ -7,10 +7,10 @@ use Rattle.address.proofs.range.block_before.Statement.{statement}
 use Rattle.address.proofs.range.block_before.Tie as tie
 
 abbrev Inv-loop : tie.InvT-loop
-Inv-loop n k start b₀ first₀ b first = (first ≡ b * k) × (b < 262144) × (n .0 < first + k)
+Inv-loop n k b₀ first₀ b first = (first ≡ b * k) × (b < 262144) × (n .0 < first + k)
 
 abbrev μ-loop : tie.MeasureT-loop
-μ-loop n k start b₀ first₀ b first = first - n .0
+μ-loop n k b₀ first₀ b first = first - n .0
 
 down : (c : tie.Then1 Inv-loop μ-loop) →
     let at-loop : tie.At-loop Inv-loop μ-loop = search in
@@ -25,11 +25,15 @@ down c =
     rw (l .inv .0) (one-before (a .k) (l .b) (a .n .0) (rw (← (l .inv .0)) (c .if1 .taken)))
 
 mul-first : tie.Need-mul-first Inv-loop μ-loop
-mul-first c = let l = c .pre .2 in let low : c .args .start ≤ 262143 = omega arith in
-    let top : c .args .start * c .args .k ≤ 262143 * 64 = mul-le-mul low (c .pre .1) in record { fits = omega arith }
+mul-first c =
+    let start : tie.Start Inv-loop μ-loop = search in
+    let l = start .pre .2 in let low : start .args .start .0 ≤ 262143 = omega arith in
+    let top : start .args .start .0 * start .args .k ≤ 262143 * 64 = mul-le-mul low (start .pre .1) in record { fits = omega arith }
 
 loop-holds : tie.Need-loop-holds Inv-loop μ-loop
-loop-holds c = let h = c .pre .3 in (refl, c .pre .2, omega arith)
+loop-holds c =
+    let start : tie.Start Inv-loop μ-loop = search in
+    let h = start .pre .3 in (refl, start .pre .2, omega arith)
 
 sub-b : tie.Need-sub-b Inv-loop μ-loop
 sub-b c = down c .0

@@ -34,11 +34,11 @@ cast-wide c = search needs
 mul-wide : tie.Need-mul-wide
 mul-wide c = let l = product c in record { fits = omega arith }
 
-cast-b : tie.Need-cast-b
-cast-b c = let l = product c in record { fits = omega arith }
+cast-last : tie.Need-cast-last
+cast-last c = let l = product c in record { fits = omega arith }
 
 mul-first : tie.Need-mul-first
-mul-first c = let l = first-page c in record { fits = omega arith }
+mul-first c = let l = first-page (search) in record { fits = omega arith }
 
 sub-last : tie.Need-sub-last
 sub-last c = search needs
@@ -46,7 +46,7 @@ sub-last c = search needs
 add-last : tie.Need-add-last
 add-last c =
     let start : tie.Start = search in
-    let l = first-page c in
+    let l = first-page (search) in
     let k = start .pre .1 in
     record { fits = omega arith }
 
@@ -82,5 +82,5 @@ returns-3 c =
     (else1 .if1 .left) (omega arith)))
 
 pub block-by-spec : {M : Type 1} → statement M
-block-by-spec = tie.close (tie.spec cast-wide mul-wide cast-b mul-first sub-last add-last block-before-requires returns
+block-by-spec = tie.close (tie.spec cast-wide mul-wide cast-last mul-first sub-last add-last block-before-requires returns
     block-after-requires returns-2 returns-3)

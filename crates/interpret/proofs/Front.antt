@@ -25,7 +25,7 @@ use Rattle.cache.specs.View.{sizesOf}
 use Rattle.answer.specs.Carried.{buffers}
 use Rattle.store.specs.declared.Cache.{Cache}
 use Rattle.store.specs.View.{storeOf}
-use Rattle.store.proofs.Carrying.{call-record, call-buffer, call-carried}
+use Rattle.checked.proofs.Carrying.{call-record, call-buffer, call-carried}
 use Rattle.interpret.specs.declared.parts.Parts.{Parts}
 use Rattle.perform.specs.declared.Lined.{Lined}
 use Rattle.perform.specs.Effects.{Effect, opened, written, wasRead, stepped, flushed}

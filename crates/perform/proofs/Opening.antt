@@ -22,7 +22,7 @@ use Rattle.print.proofs.Put.{printed-as}
 use Rattle.store.specs.declared.Cache.{Cache}
 use Rattle.store.specs.declared.Opened.{Opened}
 use Rattle.store.specs.View.{openedOf, storeOf}
-use Rattle.store.proofs.ByTests.{open-size, open-done}
+use Rattle.store.proofs.Opening.{open-size, open-done}
 use Rattle.perform.specs.Effects.{fresh, opened, only}
 use Rattle.perform.specs.View.{Carries}
 use Rattle.perform.proofs.Carrying.{carries}

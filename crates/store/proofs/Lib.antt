@@ -1,4 +1,3 @@
-pub mod ByTests
-pub mod Carrying
-pub mod Parts
+pub mod Opening
+pub mod Lists
 pub mod Demand3

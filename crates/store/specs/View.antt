@@ -1,13 +1,8 @@
 -- The record, the lent buffers and what a call hands back, as the model has them.
-use mathlib.Core.Bool.{Bool, _&&_}
 use mathlib.Core.List.{[]}
-use Prim.Native.Nat.{ℕ, _*_}
-use lib.Dec.{eqb}
-use Rattle.model.specs.Sizes as sizes
 use Rattle.model.specs.Directory as directory
 use Rattle.model.specs.Calls as calls
 use Rattle.model.specs.Calls.{Buffers, Page}
-use Rattle.cache.specs.declared.Sizes.{Sizes}
 use Rattle.cache.specs.View.{sizesOf, directoryOf}
 use Rattle.answer.specs.Numbers.{openingOf, readOf, writeOf, stepOf, flushOf}
 use Rattle.store.specs.declared.Cache.{Cache}
@@ -27,14 +22,6 @@ openedOf r = record { answer = openingOf (r .answer); cache = cacheOf (r .cache)
 abbrev pub storeOf : Cache → Buffers → calls.Store
 storeOf c u = record { cache = cacheOf c; lent = u }
 
--- the same of sizes and the directory's lists
-abbrev pub storeWith : Sizes → directory.Directory → Buffers → calls.Store
-storeWith z d u = record { cache = record { sizes = sizesOf z; directory = d }; lent = u }
-
--- the answer, the record handed back, the buffers u and the page buffer
-abbrev pub resultWith : calls.Answer → Sizes → directory.Directory → Buffers → Page → calls.Result
-resultWith a z d u page = record { answer = a; store = storeWith z d u; page = page }
-
 abbrev pub readResult : ReadOut → Buffers → Page → calls.Result
 readResult r u page = record { answer = readOf (r .answer); store = storeOf (r .cache) u; page = page }
 
@@ -47,8 +34,3 @@ stepResult r u = record { answer = stepOf (r .answer); store = storeOf (r .cache
 
 abbrev pub flushResult : FlushOut → Buffers → calls.Result
 flushResult r u = record { answer = flushOf (r .answer); store = storeOf (r .cache) u; page = [] }
-
--- the lengths that the sizes ask for
-unfoldable pub lengthsOk : sizes.Sizes → ℕ → ℕ → ℕ → ℕ → Bool
-lengthsOk sz flash wear pspace bspace =
-    eqb flash (sz .N * sz .K * sz .S) && (eqb wear (sz .N) && (eqb pspace (sz .P * sz .S) && eqb bspace (sz .B * sz .K * sz .S)))

@@ -1,7 +1,6 @@
 // The page store: the cache record, and the calls on it. Each call takes the record by value with the lent buffers and hands
 // back the next record beside its answer; a refused call changes nothing.
 mod flush; // flush.rt: a flush step, and a flush
-mod lent; // lent.rt: whether lent buffers are as the sizes ask
 mod open; // open.rt: the blank record, and opening a store
 mod part; // part.rt: writing part of a page
 mod read; // read.rt: reading a page

@@ -1,6 +1,5 @@
 use crate::Cache;
 use crate::Opened;
-use crate::lent;
 use answer::Opening;
 use answer::Refusal;
 use cache::Directory;

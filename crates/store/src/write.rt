@@ -1,21 +1,13 @@
 // Writing a page.
 use crate::Cache;
 use crate::WriteOut;
-use crate::lent;
 use address::PageNo;
-use answer::Refusal;
-use answer::Write;
 use cache::Directory;
-use cache::Sizes;
-use sound::lists_sound;
 ghost use mathlib.Core.Path.{_≡_};
 ghost use Rattle.model.specs.Policy.{leastRecent};
 ghost use Rattle.model.specs.Calls.{write, call};
-ghost use Rattle.model.specs.Soundness.{Shape};
-ghost use Rattle.cache.specs.View.{numbers};
-ghost use Rattle.answer.specs.Numbers.{writeOf};
 ghost use Rattle.answer.specs.Carried.{buffers};
-ghost use Rattle.store.specs.View.{storeOf, storeWith, resultWith, writeResult};
+ghost use Rattle.store.specs.View.{storeOf, writeResult};
 
 impl Cache {
     // Writes the page buffer as page n, by document 01's ways 1 to 7.
@@ -39,7 +31,7 @@ impl Cache {
         let mut frames = d.block_numbers();
         let mut valid = d.valid;
         let mut recency = d.recency;
-        let answer = attempt(
+        let answer = checked::write::write(
             z,
             &mut slots,
             &mut frames,
@@ -60,53 +52,4 @@ impl Cache {
             answer,
         }
     }
-}
-
-// The checks, and the write, on the directory's lists.
-fn attempt(
-    z: Sizes,
-    slots: &mut [u32; 128],
-    frames: &mut [u32; 8],
-    valid: &mut [u64; 8],
-    recency: &mut [u8; 8],
-    flash: &mut [u8],
-    wear: &mut [u32],
-    pspace: &mut [u8],
-    bspace: &mut [u8],
-    n: PageNo,
-    page: &[u8],
-) -> Write
-    requires { ⌜ Shape (numbers (now slots) (now frames) (now valid) (now recency)) ⌝ }
-    ensures { λ r. ⌜ (
-        let d = numbers (now (slots .entry)) (now (frames .entry)) (now (valid .entry)) (now (recency .entry)) in
-        let u = buffers (now (flash .entry)) (now (wear .entry)) (now (pspace .entry)) (now (bspace .entry)) in
-        let d′ = numbers (now (slots .exit)) (now (frames .exit)) (now (valid .exit)) (now (recency .exit)) in
-        let u′ = buffers (now (flash .exit)) (now (wear .exit)) (now (pspace .exit)) (now (bspace .exit)) in
-        resultWith (writeOf r) z d′ u′ (now (page .entry)) ≡ call leastRecent (storeWith z d u) (write (n .0) (now (page .entry)))) ⌝ }
-{
-    if !lists_sound(z, slots, frames, valid, recency) {
-        return Write::Refused(Refusal::Record);
-    }
-    if !lent::lengths_ok(z, flash.len(), wear.len(), pspace.len(), bspace.len()) {
-        return Write::Refused(Refusal::Buffer);
-    }
-    if page.len() != z.page_size as usize {
-        return Write::Refused(Refusal::Buffer);
-    }
-    if z.blocks * z.pages_per_block <= n.0 {
-        return Write::Refused(Refusal::Page);
-    }
-    writes::write(
-        z,
-        slots,
-        frames,
-        valid,
-        recency,
-        flash,
-        wear,
-        pspace,
-        bspace,
-        n,
-        page,
-    )
 }

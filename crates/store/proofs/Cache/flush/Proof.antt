@@ -2,7 +2,7 @@ use borrow.Author.Needs.{needs}
 use mathlib.Core.Path.{_≡_}
 use Rattle.cache.specs.View.{directoryOf, numbers}
 use Rattle.cache.proofs.View.{shape-of, lists-of}
-use Rattle.store.proofs.Carrying.{on-lists}
+use Rattle.store.proofs.Lists.{on-lists}
 use Rattle.store.proofs.Cache.flush.Statement.{statement}
 use Rattle.store.proofs.Cache.flush.Tie as tie
 
@@ -23,8 +23,8 @@ lists c =
     let start : tie.Start = search in
     lists-of (start .args .self .directory) _ _ (after-page-numbers .page-numbers .ensures) (c .block-numbers .ensures)
 
-attempt-flush-requires : tie.Need-attempt-flush-requires
-attempt-flush-requires c κs =
+flush-requires : tie.Need-flush-requires
+flush-requires c κs =
     let after-block-numbers : tie.After-block-numbers = search in
     let s : tie.Start = search in
     rw (lists after-block-numbers) (shape-of (s .args .self .directory) _ (s .good .0 .1 .1 .1 .0 .1 .1))
@@ -43,9 +43,9 @@ same-length-3 c = search needs
 
 returns : tie.Need-returns
 returns c =
-    let after-attempt-flush : tie.After-attempt-flush = search in
+    let after-flush : tie.After-flush = search in
     let after-block-numbers : tie.After-block-numbers = search in
-    on-lists _ _ _ _ _ _ _ _ _ _ (lists after-block-numbers) (c .of .ensures) (after-attempt-flush .attempt-flush .ensures)
+    on-lists _ _ _ _ _ _ _ _ _ _ (lists after-block-numbers) (c .of .ensures) (after-flush .flush .ensures)
 
 pub flush-spec : {M : Type 1} → statement M
 flush-spec =
@@ -53,7 +53,7 @@ flush-spec =
     (tie.spec
     page-numbers-requires
     block-numbers-requires
-    attempt-flush-requires
+    flush-requires
     of-requires
     same-length
     same-length-2

@@ -2,7 +2,7 @@ use borrow.Author.Needs.{needs}
 use mathlib.Core.Path.{_≡_}
 use Rattle.cache.specs.View.{directoryOf, numbers}
 use Rattle.cache.proofs.View.{shape-of, lists-of}
-use Rattle.store.proofs.Carrying.{on-lists}
+use Rattle.store.proofs.Lists.{on-lists}
 use Rattle.store.proofs.Cache.flush_step.Statement.{statement}
 use Rattle.store.proofs.Cache.flush_step.Tie as tie
 
@@ -23,8 +23,8 @@ lists c =
     let start : tie.Start = search in
     lists-of (start .args .self .directory) _ _ (after-page-numbers .page-numbers .ensures) (c .block-numbers .ensures)
 
-attempt-step-requires : tie.Need-attempt-step-requires
-attempt-step-requires c κs =
+step-requires : tie.Need-step-requires
+step-requires c κs =
     let after-block-numbers : tie.After-block-numbers = search in
     let s : tie.Start = search in
     rw (lists after-block-numbers) (shape-of (s .args .self .directory) _ (s .good .0 .1 .1 .1 .0 .1 .1))
@@ -43,9 +43,9 @@ same-length-3 c = search needs
 
 returns : tie.Need-returns
 returns c =
-    let after-attempt-step : tie.After-attempt-step = search in
+    let after-step : tie.After-step = search in
     let after-block-numbers : tie.After-block-numbers = search in
-    on-lists _ _ _ _ _ _ _ _ _ _ (lists after-block-numbers) (c .of .ensures) (after-attempt-step .attempt-step .ensures)
+    on-lists _ _ _ _ _ _ _ _ _ _ (lists after-block-numbers) (c .of .ensures) (after-step .step .ensures)
 
 pub flush-step-spec : {M : Type 1} → statement M
 flush-step-spec =
@@ -53,7 +53,7 @@ flush-step-spec =
     (tie.spec
     page-numbers-requires
     block-numbers-requires
-    attempt-step-requires
+    step-requires
     of-requires
     same-length
     same-length-2

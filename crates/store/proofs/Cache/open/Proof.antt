@@ -4,15 +4,16 @@ use borrow.Author.Tests.{not-true, not-false}
 use Rattle.model.specs.Calls.{openDone}
 use Rattle.model.proofs.Soundness.{limits-of}
 use Rattle.cache.specs.View.{sizesOf}
-use Rattle.store.proofs.ByTests.{lengths-lent, open-size, open-buffer, open-overworn, open-done}
+use Rattle.lent.proofs.Lengths.{lengths-lent}
+use Rattle.store.proofs.Opening.{open-size, open-buffer, open-overworn, open-done}
 use Rattle.store.proofs.Cache.open.Statement.{statement}
 use Rattle.store.proofs.Cache.open.Tie as tie
 use Rattle.store.proofs.Cache.open.Reads as reads
 use Rattle.store.proofs.Cache.open.Lts as lts
 use Rattle.cache.proofs.Directory.vacant.Reads as vacant-reads
 use Rattle.cache.proofs.Sizes.ok.Reads as ok-reads
-use Rattle.store.proofs.lent.lengths_ok.Reads as lengths-ok-reads
-use Rattle.store.proofs.lent.wear_ok.Reads as wear-ok-reads
+use Rattle.lent.proofs.lengths_ok.Reads as lengths-ok-reads
+use Rattle.lent.proofs.wear_ok.Reads as wear-ok-reads
 use Rattle.store.proofs.open.refused.Reads as refused-reads
 
 ok-requires : tie.Need-ok-requires

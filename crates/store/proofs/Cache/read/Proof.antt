@@ -3,7 +3,7 @@ use mathlib.Core.Path.{_≡_, sym}
 use Rattle.cache.specs.declared.Directory.{Directory}
 use Rattle.cache.specs.View.{directoryOf, numbers}
 use Rattle.cache.proofs.View.{shape-of, lists-of}
-use Rattle.store.proofs.Carrying.{on-lists}
+use Rattle.store.proofs.Lists.{on-lists}
 use Rattle.store.proofs.Cache.read.Statement.{statement}
 use Rattle.store.proofs.Cache.read.Tie as tie
 
@@ -24,8 +24,8 @@ lists c =
     let start : tie.Start = search in
     lists-of (start .args .self .directory) _ _ (after-page-numbers .page-numbers .ensures) (c .block-numbers .ensures)
 
-attempt-requires : tie.Need-attempt-requires
-attempt-requires c κs =
+read-requires : tie.Need-read-requires
+read-requires c κs =
     let after-block-numbers : tie.After-block-numbers = search in
     let s : tie.Start = search in
     rw (lists after-block-numbers) (shape-of (s .args .self .directory) _ (s .good .0 .1 .1 .1 .0 .1 .1))
@@ -36,19 +36,19 @@ same-length c = search needs
 returns : tie.Need-returns
 unfolding directoryOf
 returns c =
-    let after-attempt : tie.After-attempt = search in
+    let after-read : tie.After-read = search in
     let b : tie.After-block-numbers = search in
     let after-page-numbers : tie.After-page-numbers = search in
     let start : tie.Start = search in
     let d = start .args .self .directory in
     let next : Directory = record {
-      recency = after-attempt .attempt .last .1 .1 .1 .1 .0;
+      recency = after-read .read .last .1 .1 .1 .1 .0;
       valid = d .valid;
       frames = d .frames;
       slots = d .slots;
     } in
     on-lists _ d next _ _ _ _ _ _ _ (lists b) (sym (lists-of next _ _ (after-page-numbers .page-numbers .ensures)
-    (b .block-numbers .ensures))) (after-attempt .attempt .ensures)
+    (b .block-numbers .ensures))) (after-read .read .ensures)
 
 pub read-spec : {M : Type 1} → statement M
 read-spec =
@@ -56,6 +56,6 @@ read-spec =
     (tie.spec
     page-numbers-requires
     block-numbers-requires
-    attempt-requires
+    read-requires
     same-length
     returns)

@@ -1,0 +1,93 @@
+// A flush step, and a flush.
+use answer::Flush;
+use answer::Refusal;
+use answer::Step;
+use cache::Sizes;
+use sound::lists_sound;
+ghost use mathlib.Core.Path.{_≡_};
+ghost use mathlib.Core.List.{[]};
+ghost use Rattle.model.specs.Policy.{leastRecent};
+ghost use Rattle.model.specs.Soundness.{Shape};
+ghost use Rattle.model.specs.Calls.{step, flush, call};
+ghost use Rattle.cache.specs.View.{numbers};
+ghost use Rattle.answer.specs.Numbers.{stepOf, flushOf};
+ghost use Rattle.answer.specs.Carried.{buffers};
+ghost use Rattle.checked.specs.Lists.{storeWith, resultWith};
+
+// The checks, and the step, on the directory's lists.
+pub fn step(
+    z: Sizes,
+    slots: &mut [u32; 128],
+    frames: &mut [u32; 8],
+    valid: &mut [u64; 8],
+    recency: &[u8; 8],
+    flash: &mut [u8],
+    wear: &mut [u32],
+    pspace: &[u8],
+    bspace: &mut [u8],
+) -> Step
+    requires { ⌜ Shape (numbers (now slots) (now frames) (now valid) (now recency)) ⌝ }
+    ensures { λ r. ⌜ (
+        let d = numbers (now (slots .entry)) (now (frames .entry)) (now (valid .entry)) (now (recency .entry)) in
+        let u = buffers (now (flash .entry)) (now (wear .entry)) (now (pspace .entry)) (now (bspace .entry)) in
+        let d′ = numbers (now (slots .exit)) (now (frames .exit)) (now (valid .exit)) (now (recency .entry)) in
+        let u′ = buffers (now (flash .exit)) (now (wear .exit)) (now (pspace .entry)) (now (bspace .exit)) in
+        resultWith (stepOf r) z d′ u′ [] ≡ call leastRecent (storeWith z d u) step) ⌝ }
+{
+    if !lists_sound(z, slots, frames, valid, recency) {
+        return Step::Refused(Refusal::Record);
+    }
+    if !lent::lengths_ok(z, flash.len(), wear.len(), pspace.len(), bspace.len()) {
+        return Step::Refused(Refusal::Buffer);
+    }
+    flushes::step(
+        z,
+        slots,
+        frames,
+        valid,
+        recency,
+        flash,
+        wear,
+        pspace,
+        bspace,
+    )
+}
+
+// The checks, and the flush, on the directory's lists.
+pub fn flush(
+    z: Sizes,
+    slots: &mut [u32; 128],
+    frames: &mut [u32; 8],
+    valid: &mut [u64; 8],
+    recency: &[u8; 8],
+    flash: &mut [u8],
+    wear: &mut [u32],
+    pspace: &[u8],
+    bspace: &mut [u8],
+) -> Flush
+    requires { ⌜ Shape (numbers (now slots) (now frames) (now valid) (now recency)) ⌝ }
+    ensures { λ r. ⌜ (
+        let d = numbers (now (slots .entry)) (now (frames .entry)) (now (valid .entry)) (now (recency .entry)) in
+        let u = buffers (now (flash .entry)) (now (wear .entry)) (now (pspace .entry)) (now (bspace .entry)) in
+        let d′ = numbers (now (slots .exit)) (now (frames .exit)) (now (valid .exit)) (now (recency .entry)) in
+        let u′ = buffers (now (flash .exit)) (now (wear .exit)) (now (pspace .entry)) (now (bspace .exit)) in
+        resultWith (flushOf r) z d′ u′ [] ≡ call leastRecent (storeWith z d u) flush) ⌝ }
+{
+    if !lists_sound(z, slots, frames, valid, recency) {
+        return Flush::Refused(Refusal::Record);
+    }
+    if !lent::lengths_ok(z, flash.len(), wear.len(), pspace.len(), bspace.len()) {
+        return Flush::Refused(Refusal::Buffer);
+    }
+    flushes::flush(
+        z,
+        slots,
+        frames,
+        valid,
+        recency,
+        flash,
+        wear,
+        pspace,
+        bspace,
+    )
+}

@@ -1,0 +1,41 @@
+use borrow.Author.Needs.{needs}
+use native.Mathlib.Omega.{arith}
+use mathlib.Core.Path.{_∙_, ap}
+use Rattle.prelude.specs.Pages.{laid}
+use Rattle.model.specs.Calls.{combined}
+use Rattle.parts.proofs.combine.Statement.{statement}
+use Rattle.parts.proofs.combine.Tie as tie
+use Rattle.parts.proofs.combine.Reads as reads
+use Rattle.parts.proofs.combine.Lts as lts
+use Rattle.page.proofs.lay.Reads as lay-reads
+use Rattle.reads.proofs.peek.Reads as peek-reads
+
+peek-requires : tie.Need-peek-requires
+peek-requires c κs =
+    let start : tie.Start = search in
+    start .pre .0
+
+lay-requires : tie.Need-lay-requires
+lay-requires c κs =
+    let after-peek : tie.After-peek = search in
+    let start : tie.Start = search in
+    let p = start .pre in
+    let h = p .0 .limits .S-high in
+    let r = p .1 in
+    let e = p .0 .page-length in
+    let k = after-peek .peek .kept in
+    (omega arith, omega arith)
+
+same-length : tie.Need-same-length
+same-length c = search needs
+
+returns : tie.Need-returns
+unfolding combined
+returns c =
+    let after-lay : tie.After-lay = search in
+    let after-peek : tie.After-peek = search in
+    let start : tie.Start = search in
+    after-lay .lay .ensures ∙ ap (laid (start .args .first) (start .args .bytes .now)) (after-peek .peek .ensures .page-is)
+
+pub combine-spec : {M : Type 1} → statement M
+combine-spec = tie.close (tie.spec peek-requires lay-requires same-length returns)

@@ -1,0 +1,69 @@
+use borrow.Author.Needs.{needs}
+use native.Mathlib.Omega.{arith}
+use Rattle.parts.proofs.Parts.{part-readable, part-writable, part-wrote}
+use Rattle.parts.proofs.write_combined.Statement.{statement}
+use Rattle.parts.proofs.write_combined.Tie as tie
+
+combine-requires : tie.Need-combine-requires
+combine-requires c κs =
+    let start : tie.Start = search in
+    let p = start .pre in
+    (part-readable _ _ _ _ _ _ _ (p .0) _ (p .1), p .0 .reach)
+
+write-requires : tie.Need-write-requires
+write-requires c κs =
+    let after-combine : tie.After-combine = search in
+    let start : tie.Start = search in
+    let p = start .pre in
+    part-writable _ _ _ _ _ _ _ (p .0) _ (omega (arith, after-combine .combine .kept, p))
+
+deliver-requires : tie.Need-deliver-requires
+deliver-requires c κs =
+    let after-combine : tie.After-combine = search in
+    let start : tie.Start = search in
+    let p = start .pre in
+    let h = p .0 .ready .sound .limits .S-high in
+    let e = after-combine .combine .kept in
+    let g = p .0 .page-length in
+    (omega (arith, e, p), omega (arith, e, p))
+
+same-length : tie.Need-same-length
+same-length c = search needs
+
+same-length-2 : tie.Need-same-length-2
+same-length-2 c = search needs
+
+same-length-3 : tie.Need-same-length-3
+same-length-3 c = search needs
+
+same-length-4 : tie.Need-same-length-4
+same-length-4 c = search needs
+
+same-length-5 : tie.Need-same-length-5
+same-length-5 c = search needs
+
+same-length-6 : tie.Need-same-length-6
+same-length-6 c = search needs
+
+returns : tie.Need-returns
+returns c =
+    let after-deliver : tie.After-deliver = search in
+    let after-write : tie.After-write = search in
+    let after-combine : tie.After-combine = search in
+    part-wrote _ _ _ _ _ _ _ _ _ _ _ _ _ _ _ (after-combine .combine .ensures) (after-write .write .ensures)
+    (after-deliver .deliver .ensures)
+
+pub write-combined-spec : {M : Type 1} → statement M
+write-combined-spec =
+    tie.close
+    (tie.spec
+    combine-requires
+    write-requires
+    deliver-requires
+    same-length
+    same-length-2
+    same-length-3
+    same-length-4
+    same-length-5
+    same-length-6
+    returns)

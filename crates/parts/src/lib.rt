@@ -1,0 +1,158 @@
+// A part write, for a sound record, rightly sized buffers and bytes that end within the page: page n is read without a use, the bytes are
+// laid in, and the page so combined is written.
+use address::PageNo;
+use answer::Write;
+use cache::Sizes;
+ghost use mathlib.Core.Path.{_≡_};
+ghost use mathlib.Core.Bool.{cond};
+ghost use mathlib.Core.List.{[]};
+ghost use Prim.Native.Nat.{_+_, _≤_};
+ghost use lib.ListN.{length};
+ghost use Rattle.model.specs.Calls.{isRefused, zeroPage, combined};
+ghost use Rattle.cache.specs.View.{sizesOf, numbers};
+ghost use Rattle.answer.specs.Numbers.{writeOf};
+ghost use Rattle.answer.specs.Carried.{buffers};
+ghost use Rattle.reads.specs.Reads.{Readable, pages};
+ghost use Rattle.parts.specs.Parts.{PartReady, PartWrote};
+
+// Lends the write a page of its own for the combined page, since a refused one leaves the page buffer alone.
+pub fn write(
+    z: Sizes,
+    slots: &mut [u32; 128],
+    frames: &mut [u32; 8],
+    valid: &mut [u64; 8],
+    recency: &mut [u8; 8],
+    flash: &mut [u8],
+    wear: &mut [u32],
+    pspace: &mut [u8],
+    bspace: &mut [u8],
+    n: PageNo,
+    first: u32,
+    bytes: &[u8],
+    page: &mut [u8],
+) -> Write
+    requires { ⌜ (
+        let d = numbers (now slots) (now frames) (now valid) (now recency) in
+        let u = buffers (now flash) (now wear) (now pspace) (now bspace) in
+        PartReady (sizesOf z) d u (n .0) first (now bytes) (now page)) ⌝ }
+    ensures { λ r. ⌜ (
+        let d = numbers (now (slots .entry)) (now (frames .entry)) (now (valid .entry)) (now (recency .entry)) in
+        let u = buffers (now (flash .entry)) (now (wear .entry)) (now (pspace .entry)) (now (bspace .entry)) in
+        let d′ = numbers (now (slots .exit)) (now (frames .exit)) (now (valid .exit)) (now (recency .exit)) in
+        let u′ = buffers (now (flash .exit)) (now (wear .exit)) (now (pspace .exit)) (now (bspace .exit)) in
+        PartWrote (sizesOf z) d u (n .0) first (now (bytes .entry)) (now (page .entry)) (writeOf r) d′ u′ (now (page .exit))) ⌝ }
+{
+    let s = z.page_size as usize;
+    let mut whole = [0u8; 2048];
+    write_combined(
+        z,
+        slots,
+        frames,
+        valid,
+        recency,
+        flash,
+        wear,
+        pspace,
+        bspace,
+        n,
+        first,
+        bytes,
+        page,
+        &mut whole[..s],
+    )
+}
+
+// Makes the combined page in `whole`, writes it, and hands it back.
+fn write_combined(
+    z: Sizes,
+    slots: &mut [u32; 128],
+    frames: &mut [u32; 8],
+    valid: &mut [u64; 8],
+    recency: &mut [u8; 8],
+    flash: &mut [u8],
+    wear: &mut [u32],
+    pspace: &mut [u8],
+    bspace: &mut [u8],
+    n: PageNo,
+    first: u32,
+    bytes: &[u8],
+    page: &mut [u8],
+    whole: &mut [u8],
+) -> Write
+    requires { ⌜ (
+        let d = numbers (now slots) (now frames) (now valid) (now recency) in
+        let u = buffers (now flash) (now wear) (now pspace) (now bspace) in
+        PartReady (sizesOf z) d u (n .0) first (now bytes) (now page) × (length (now whole) ≡ z .«page_size»)) ⌝ }
+    ensures { λ r. ⌜ (
+        let d = numbers (now (slots .entry)) (now (frames .entry)) (now (valid .entry)) (now (recency .entry)) in
+        let u = buffers (now (flash .entry)) (now (wear .entry)) (now (pspace .entry)) (now (bspace .entry)) in
+        let d′ = numbers (now (slots .exit)) (now (frames .exit)) (now (valid .exit)) (now (recency .exit)) in
+        let u′ = buffers (now (flash .exit)) (now (wear .exit)) (now (pspace .exit)) (now (bspace .exit)) in
+        PartWrote (sizesOf z) d u (n .0) first (now (bytes .entry)) (now (page .entry)) (writeOf r) d′ u′ (now (page .exit))) ⌝ }
+{
+    combine(
+        z,
+        slots,
+        frames,
+        valid,
+        flash,
+        pspace,
+        bspace,
+        n,
+        first,
+        bytes,
+        whole,
+    );
+    let answer = writes::write(
+        z,
+        slots,
+        frames,
+        valid,
+        recency,
+        flash,
+        wear,
+        pspace,
+        bspace,
+        n,
+        whole,
+    );
+    deliver(answer, page, whole);
+    answer
+}
+
+// Page n, read without counting as a use, with the bytes laid in.
+fn combine(
+    z: Sizes,
+    slots: &[u32; 128],
+    frames: &[u32; 8],
+    valid: &[u64; 8],
+    flash: &[u8],
+    pspace: &[u8],
+    bspace: &[u8],
+    n: PageNo,
+    first: u32,
+    bytes: &[u8],
+    whole: &mut [u8],
+)
+    requires { ⌜ (
+        Readable (sizesOf z) (now flash) (now pspace) (now bspace) (n .0) (now whole) × (first + length (now bytes) ≤ z .«page_size»)) ⌝ }
+    ensures { λ _. ⌜ (
+        let d = numbers (now (slots .entry)) (now (frames .entry)) (now (valid .entry)) [] in
+        let m = pages (sizesOf z) (now (flash .entry)) (now (pspace .entry)) (now (bspace .entry)) in
+        now (whole .exit) ≡ combined (zeroPage (sizesOf z)) (sizesOf z) d m (n .0) first (now (bytes .entry))) ⌝ }
+{
+    reads::peek(z, slots, frames, valid, flash, pspace, bspace, n, whole);
+    page::lay(whole, first as usize, bytes);
+}
+
+// The page buffer gets the page that was written, and stays as it is where the write was refused.
+fn deliver(answer: Write, page: &mut [u8], whole: &[u8])
+    requires { ⌜ (length (now whole) ≤ 2048) × (length (now page) ≡ length (now whole)) ⌝ }
+    ensures { λ _. ⌜ now (page .exit) ≡ cond (isRefused (writeOf answer)) (now (page .entry)) (now (whole .entry)) ⌝ }
+{
+    match answer {
+        Write::Done { .. } => page::lay(page, 0, whole),
+        Write::Rewrote { .. } => page::lay(page, 0, whole),
+        Write::Refused(_) => {}
+    }
+}

@@ -58,7 +58,7 @@ resultOf u (part n first x page out u′ page′) = writeResult out u′ page′
 resultOf u (step out flash′ wear′ bspace′) = stepResult out (buffers flash′ wear′ (u .pspace) bspace′)
 resultOf u (flush out flash′ wear′ bspace′) = flushResult out (buffers flash′ wear′ (u .pspace) bspace′)
 
--- the contract of the call, on record c and buffers u: the `ensures` of `Cache::read`, `write`, `write_part`, `flush_step`, `flush`
+-- the contract of a call, on record c and buffers u: this is the `ensures` of `Cache::read`, `write`, `write_part`, `flush_step`, `flush`
 abbrev pub Contract : Cache → Buffers → Made → Type 0
 Contract c u m = resultOf u m ≡ call leastRecent (storeOf c u) (callOf m)
 
@@ -79,7 +79,11 @@ Claim sz u₀ c u r (m ∷ ms) = record {
   then : Claim sz u₀ (cacheAfter m) (buffersAfter u m) (fed sz r (callOf m) (bookSays sz r (leastRecentOf m))) ms;
 }
 
+-- the contract of an opening with sizes z and buffers u: this is the `ensures` of `Cache::open`
+abbrev pub OpeningContract : Sizes → Buffers → Opened → Type 0
+OpeningContract z u o = openedOf o ≡ openStore (sizesOf z) u
+
 -- Demand 3 for the code: after one accepted opening, for every list of calls.
 abbrev pub Demand3 : Type 0
-Demand3 = (z : Sizes) (u : Buffers) (o : Opened) → openedOf o ≡ openStore (sizesOf z) u → openedOf o .answer ≡ openDone
+Demand3 = (z : Sizes) (u : Buffers) (o : Opened) → OpeningContract z u o → openedOf o .answer ≡ openDone
     → (ms : List Made) → AsContracted (o .cache) u ms → Claim (sizesOf z) u (o .cache) u (opened (sizesOf z) u) ms

@@ -3,11 +3,9 @@ use crate::Cache;
 use crate::FlushOut;
 use crate::StepOut;
 use cache::Directory;
-ghost use mathlib.Core.Path.{_≡_};
-ghost use Rattle.model.specs.Policy.{leastRecent};
-ghost use Rattle.model.specs.Calls.{step, flush, call};
 ghost use Rattle.answer.specs.Carried.{buffers};
-ghost use Rattle.store.specs.View.{storeOf, stepResult, flushResult};
+ghost use Rattle.store.specs.Histories.{Contract};
+ghost use Rattle.store.specs.Histories as made;
 
 impl Cache {
     // Rewrites one block that has pages cached, the one that is due.
@@ -20,8 +18,7 @@ impl Cache {
     ) -> StepOut
         ensures { λ r. ⌜ (
             let u = buffers (now (flash .entry)) (now (wear .entry)) (now (pspace .entry)) (now (bspace .entry)) in
-            let u′ = buffers (now (flash .exit)) (now (wear .exit)) (now (pspace .entry)) (now (bspace .exit)) in
-            stepResult r u′ ≡ call leastRecent (storeOf self u) step) ⌝ }
+            Contract self u (made.step r (now (flash .exit)) (now (wear .exit)) (now (bspace .exit)))) ⌝ }
     {
         let z = self.sizes;
         let d = self.directory;
@@ -59,8 +56,7 @@ impl Cache {
     ) -> FlushOut
         ensures { λ r. ⌜ (
             let u = buffers (now (flash .entry)) (now (wear .entry)) (now (pspace .entry)) (now (bspace .entry)) in
-            let u′ = buffers (now (flash .exit)) (now (wear .exit)) (now (pspace .entry)) (now (bspace .exit)) in
-            flushResult r u′ ≡ call leastRecent (storeOf self u) flush) ⌝ }
+            Contract self u (made.flush r (now (flash .exit)) (now (wear .exit)) (now (bspace .exit)))) ⌝ }
     {
         let z = self.sizes;
         let d = self.directory;

@@ -6,11 +6,10 @@ use cache::Directory;
 use cache::Sizes;
 ghost use mathlib.Core.Path.{_≡_};
 ghost use Rattle.model.specs.Directory.{blankCache};
-ghost use Rattle.model.specs.Calls.{openStore};
 ghost use Rattle.answer.specs.Carried.{buffers};
 ghost use Rattle.answer.specs.Numbers.{refusalOf};
-ghost use Rattle.cache.specs.View.{sizesOf};
 ghost use Rattle.store.specs.View.{cacheOf, openedOf};
+ghost use Rattle.store.specs.Histories.{OpeningContract};
 
 impl Cache {
     // The record before any opening: every call on it is refused.
@@ -27,7 +26,7 @@ impl Cache {
     pub fn open(sizes: Sizes, flash: &[u8], wear: &[u32], pspace: &[u8], bspace: &[u8]) -> Opened
         ensures { λ r. ⌜ (
             let u = buffers (now (flash .entry)) (now (wear .entry)) (now (pspace .entry)) (now (bspace .entry)) in
-            openedOf r ≡ openStore (sizesOf sizes) u) ⌝ }
+            OpeningContract sizes u r) ⌝ }
     {
         if !sizes.ok() {
             return refused(Refusal::Size);

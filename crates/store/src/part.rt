@@ -3,11 +3,9 @@ use crate::Cache;
 use crate::WriteOut;
 use address::PageNo;
 use cache::Directory;
-ghost use mathlib.Core.Path.{_≡_};
-ghost use Rattle.model.specs.Policy.{leastRecent};
-ghost use Rattle.model.specs.Calls.{part, call};
 ghost use Rattle.answer.specs.Carried.{buffers};
-ghost use Rattle.store.specs.View.{storeOf, writeResult};
+ghost use Rattle.store.specs.Histories.{Contract};
+ghost use Rattle.store.specs.Histories as made;
 
 impl Cache {
     // Writes page n with the bytes laid in from byte `first` on, and leaves the page so combined in the page buffer. Without bytes
@@ -26,8 +24,7 @@ impl Cache {
         ensures { λ r. ⌜ (
             let u = buffers (now (flash .entry)) (now (wear .entry)) (now (pspace .entry)) (now (bspace .entry)) in
             let u′ = buffers (now (flash .exit)) (now (wear .exit)) (now (pspace .exit)) (now (bspace .exit)) in
-            writeResult r u′ (now (page .exit)) ≡ call leastRecent (storeOf self u)
-            (part (n .0) first (now (bytes .entry)) (now (page .entry)))) ⌝ }
+            Contract self u (made.part n first (now (bytes .entry)) (now (page .entry)) r u′ (now (page .exit)))) ⌝ }
     {
         let z = self.sizes;
         let d = self.directory;

@@ -3,11 +3,9 @@ use crate::Cache;
 use crate::ReadOut;
 use address::PageNo;
 use cache::Directory;
-ghost use mathlib.Core.Path.{_≡_};
-ghost use Rattle.model.specs.Policy.{leastRecent};
-ghost use Rattle.model.specs.Calls.{read, call};
 ghost use Rattle.answer.specs.Carried.{buffers};
-ghost use Rattle.store.specs.View.{storeOf, readResult};
+ghost use Rattle.store.specs.Histories.{Contract};
+ghost use Rattle.store.specs.Histories as made;
 
 impl Cache {
     // Reads page n into the page buffer. Nothing but the page buffer changes, and, where the page is in a frame, the order of
@@ -23,7 +21,7 @@ impl Cache {
     ) -> ReadOut
         ensures { λ r. ⌜ (
             let u = buffers (now (flash .entry)) (now (wear .entry)) (now (pspace .entry)) (now (bspace .entry)) in
-            readResult r u (now (page .exit)) ≡ call leastRecent (storeOf self u) (read (n .0) (now (page .entry)))) ⌝ }
+            Contract self u (made.read n (now (page .entry)) r (now (page .exit)))) ⌝ }
     {
         let z = self.sizes;
         let d = self.directory;

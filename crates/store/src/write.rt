@@ -3,11 +3,9 @@ use crate::Cache;
 use crate::WriteOut;
 use address::PageNo;
 use cache::Directory;
-ghost use mathlib.Core.Path.{_≡_};
-ghost use Rattle.model.specs.Policy.{leastRecent};
-ghost use Rattle.model.specs.Calls.{write, call};
 ghost use Rattle.answer.specs.Carried.{buffers};
-ghost use Rattle.store.specs.View.{storeOf, writeResult};
+ghost use Rattle.store.specs.Histories.{Contract};
+ghost use Rattle.store.specs.Histories as made;
 
 impl Cache {
     // Writes the page buffer as page n, by document 01's ways 1 to 7.
@@ -23,7 +21,7 @@ impl Cache {
         ensures { λ r. ⌜ (
             let u = buffers (now (flash .entry)) (now (wear .entry)) (now (pspace .entry)) (now (bspace .entry)) in
             let u′ = buffers (now (flash .exit)) (now (wear .exit)) (now (pspace .exit)) (now (bspace .exit)) in
-            writeResult r u′ (now (page .entry)) ≡ call leastRecent (storeOf self u) (write (n .0) (now (page .entry)))) ⌝ }
+            Contract self u (made.write n (now (page .entry)) r u′)) ⌝ }
     {
         let z = self.sizes;
         let d = self.directory;

@@ -57,12 +57,14 @@ typedef struct {
     clash_directory directory;
 } clash_cache;
 
+/* What a call does not answer is 0, and block is CLASH_VACANT wherever no block is meant: in an opening, a read and a flush, in a write
+ * that erased none, a step that found nothing cached, and every refusal but 6. All but refusal and block is 0 where a call is refused. */
 typedef struct {
     uint32_t refusal;
     uint32_t way;      /* read: 1 slot, 2 frame, 3 flash; write: 1 to 7; part: as write, 0 without bytes */
-    uint32_t block;    /* write, part: the block erased, CLASH_VACANT for none; step: the block rewritten; refusal 6: the worn block */
+    uint32_t block;    /* write, part: the block erased; step: the block rewritten; refusal 6: the worn block */
     uint32_t rewrites; /* flush: blocks rewritten; step: 1, or 0 where nothing was cached */
-    uint32_t merged;   /* merge reads */
+    uint32_t merged;   /* merge reads of write, part, step and flush */
 } clash_answer;
 
 typedef struct {

@@ -1,16 +1,18 @@
 use borrow.Author.Needs.{needs}
+use mathlib.Core.Path.{ap}
+use Rattle.clash_c.specs.Replies.{inNumbers}
 use Rattle.clash_c.proofs.clash_part.Statement.{statement}
 use Rattle.clash_c.proofs.clash_part.Tie as tie
 use Rattle.clash_c.proofs.clash_part.Reads as reads
 use Rattle.clash_c.proofs.clash_part.Lts as lts
-use Rattle.clash_c.proofs.write_answer.Reads as write-answer-reads
+use Rattle.replies.proofs.of_write.Reads as of-write-reads
 use Rattle.store.proofs.Cache.write_part.Reads as write-part-reads
 
 write-part-requires : tie.Need-write-part-requires
 write-part-requires c κs = search needs
 
-write-answer-requires : tie.Need-write-answer-requires
-write-answer-requires c κs = search needs
+of-write-requires : tie.Need-of-write-requires
+of-write-requires c κs = search needs
 
 same-length : tie.Need-same-length
 same-length c = search needs
@@ -30,14 +32,14 @@ same-length-5 c = search needs
 returns : tie.Need-returns
 returns c =
     let after-write-part : tie.After-write-part = search in
-    rw (c .write-answer .ensures) (after-write-part .write-part .ensures)
+    rw (c .of-write .ensures) (ap inNumbers (after-write-part .write-part .ensures))
 
 pub clash-part-spec : {M : Type 1} → statement M
 clash-part-spec =
     tie.close
     (tie.spec
     write-part-requires
-    write-answer-requires
+    of-write-requires
     same-length
     same-length-2
     same-length-3

@@ -1,12 +1,14 @@
 use borrow.Author.Needs.{needs}
 use mathlib.Core.Path.{refl, sym, ap, _∙_}
+use Rattle.answer.specs.declared.Write.{Write}
 use Rattle.answer.specs.Numbers.{writeOf}
-use Rattle.clash_c.proofs.write_answer.Statement.{statement}
-use Rattle.clash_c.proofs.write_answer.Tie as tie
-use Rattle.clash_c.proofs.write_answer.Reads as reads
-use Rattle.clash_c.proofs.write_answer.Lts as lts
-use Rattle.clash_c.proofs.done.Reads as done-reads
-use Rattle.clash_c.proofs.refused.Reads as refused-reads
+use Rattle.replies.specs.Numbers.{numbersOf}
+use Rattle.replies.proofs.of_write.Statement.{statement}
+use Rattle.replies.proofs.of_write.Tie as tie
+use Rattle.replies.proofs.of_write.Reads as reads
+use Rattle.replies.proofs.of_write.Lts as lts
+use Rattle.replies.proofs.done.Reads as done-reads
+use Rattle.replies.proofs.refused.Reads as refused-reads
 
 enum-known-a : tie.Need-enum-known-a
 enum-known-a c = search needs
@@ -39,10 +41,10 @@ returns-2 c =
 returns-3 : tie.Need-returns-3
 returns-3 c =
     let after-a3 : tie.After-a3 = search in
-    rw (c .refused .ensures .1) (c .refused .ensures .0 ∙ sym (ap writeOf (after-a3 .a3 .given .1)))
+    c .refused .ensures ∙ sym (ap (λ (x : Write). numbersOf (writeOf x)) (after-a3 .a3 .given .1))
 
-pub write-answer-spec : {M : Type 1} → statement M
-write-answer-spec =
+pub of-write-spec : {M : Type 1} → statement M
+of-write-spec =
     tie.close
     (tie.spec
     enum-known-a

@@ -1,12 +1,14 @@
 use borrow.Author.Needs.{needs}
 use mathlib.Core.Path.{refl, sym, ap, _∙_}
+use Rattle.answer.specs.declared.Step.{Step}
 use Rattle.answer.specs.Numbers.{stepOf}
-use Rattle.clash_c.proofs.step_answer.Statement.{statement}
-use Rattle.clash_c.proofs.step_answer.Tie as tie
-use Rattle.clash_c.proofs.step_answer.Reads as reads
-use Rattle.clash_c.proofs.step_answer.Lts as lts
-use Rattle.clash_c.proofs.done.Reads as done-reads
-use Rattle.clash_c.proofs.refused.Reads as refused-reads
+use Rattle.replies.specs.Numbers.{numbersOf}
+use Rattle.replies.proofs.of_step.Statement.{statement}
+use Rattle.replies.proofs.of_step.Tie as tie
+use Rattle.replies.proofs.of_step.Reads as reads
+use Rattle.replies.proofs.of_step.Lts as lts
+use Rattle.replies.proofs.done.Reads as done-reads
+use Rattle.replies.proofs.refused.Reads as refused-reads
 
 enum-known-a : tie.Need-enum-known-a
 enum-known-a c = search needs
@@ -39,10 +41,10 @@ returns-2 c =
 returns-3 : tie.Need-returns-3
 returns-3 c =
     let after-a2 : tie.After-a2 = search in
-    rw (c .refused .ensures .1) (c .refused .ensures .0 ∙ sym (ap stepOf (after-a2 .a2 .given .1)))
+    c .refused .ensures ∙ sym (ap (λ (x : Step). numbersOf (stepOf x)) (after-a2 .a2 .given .1))
 
-pub step-answer-spec : {M : Type 1} → statement M
-step-answer-spec =
+pub of-step-spec : {M : Type 1} → statement M
+of-step-spec =
     tie.close
     (tie.spec
     enum-known-a

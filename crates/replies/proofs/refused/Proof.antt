@@ -1,10 +1,10 @@
 use borrow.Author.Needs.{needs}
 use mathlib.Core.Path.{refl}
-use Rattle.clash_c.proofs.refused.Statement.{statement}
-use Rattle.clash_c.proofs.refused.Tie as tie
-use Rattle.clash_c.proofs.refused.Reads as reads
-use Rattle.clash_c.proofs.refused.Lts as lts
-use Rattle.clash_c.proofs.turned_down.Reads as turned-down-reads
+use Rattle.replies.proofs.refused.Statement.{statement}
+use Rattle.replies.proofs.refused.Tie as tie
+use Rattle.replies.proofs.refused.Reads as reads
+use Rattle.replies.proofs.refused.Lts as lts
+use Rattle.replies.proofs.turned_down.Reads as turned-down-reads
 
 enum-told : tie.Need-enum-told
 enum-told c = search needs
@@ -45,32 +45,32 @@ turned-down-requires-6 c κs = search needs
 returns : tie.Need-returns
 returns c =
     let after-enum-told : tie.After-enum-told = search in
-    rw (c .turned-down .ensures) (rw (after-enum-told .enum-told .given .1) (refl, refl))
+    rw (c .turned-down .ensures) (rw (after-enum-told .enum-told .given .1) refl)
 
 returns-2 : tie.Need-returns-2
 returns-2 c =
     let after-enum-told2 : tie.After-enum-told2 = search in
-    rw (c .turned-down2 .ensures) (rw (after-enum-told2 .enum-told2 .given .1) (refl, refl))
+    rw (c .turned-down2 .ensures) (rw (after-enum-told2 .enum-told2 .given .1) refl)
 
 returns-3 : tie.Need-returns-3
 returns-3 c =
     let after-enum-told3 : tie.After-enum-told3 = search in
-    rw (c .turned-down3 .ensures) (rw (after-enum-told3 .enum-told3 .given .1) (refl, refl))
+    rw (c .turned-down3 .ensures) (rw (after-enum-told3 .enum-told3 .given .1) refl)
 
 returns-4 : tie.Need-returns-4
 returns-4 c =
     let after-enum-told4 : tie.After-enum-told4 = search in
-    rw (c .turned-down4 .ensures) (rw (after-enum-told4 .enum-told4 .given .1) (refl, refl))
+    rw (c .turned-down4 .ensures) (rw (after-enum-told4 .enum-told4 .given .1) refl)
 
 returns-5 : tie.Need-returns-5
 returns-5 c =
     let after-enum-told5 : tie.After-enum-told5 = search in
-    rw (c .turned-down5 .ensures) (rw (after-enum-told5 .enum-told5 .given .1) (refl, refl))
+    rw (c .turned-down5 .ensures) (rw (after-enum-told5 .enum-told5 .given .1) refl)
 
 returns-6 : tie.Need-returns-6
 returns-6 c =
     let after-why : tie.After-why = search in
-    rw (c .turned-down6 .ensures) (rw (after-why .why .given .1) (refl, refl))
+    rw (c .turned-down6 .ensures) (rw (after-why .why .given .1) refl)
 
 pub refused-spec : {M : Type 1} → statement M
 refused-spec =

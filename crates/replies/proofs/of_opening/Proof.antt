@@ -1,12 +1,14 @@
 use borrow.Author.Needs.{needs}
 use mathlib.Core.Path.{refl, sym, ap, _∙_}
+use Rattle.answer.specs.declared.Opening.{Opening}
 use Rattle.answer.specs.Numbers.{openingOf}
-use Rattle.clash_c.proofs.open_answer.Statement.{statement}
-use Rattle.clash_c.proofs.open_answer.Tie as tie
-use Rattle.clash_c.proofs.open_answer.Reads as reads
-use Rattle.clash_c.proofs.open_answer.Lts as lts
-use Rattle.clash_c.proofs.done.Reads as done-reads
-use Rattle.clash_c.proofs.refused.Reads as refused-reads
+use Rattle.replies.specs.Numbers.{numbersOf}
+use Rattle.replies.proofs.of_opening.Statement.{statement}
+use Rattle.replies.proofs.of_opening.Tie as tie
+use Rattle.replies.proofs.of_opening.Reads as reads
+use Rattle.replies.proofs.of_opening.Lts as lts
+use Rattle.replies.proofs.done.Reads as done-reads
+use Rattle.replies.proofs.refused.Reads as refused-reads
 
 enum-told : tie.Need-enum-told
 enum-told c = search needs
@@ -28,8 +30,8 @@ returns c =
 returns-2 : tie.Need-returns-2
 returns-2 c =
     let after-a : tie.After-a = search in
-    rw (c .refused .ensures .1) (c .refused .ensures .0 ∙ sym (ap openingOf (after-a .a .given .1)))
+    c .refused .ensures ∙ sym (ap (λ (x : Opening). numbersOf (openingOf x)) (after-a .a .given .1))
 
-pub open-answer-spec : {M : Type 1} → statement M
-open-answer-spec =
+pub of-opening-spec : {M : Type 1} → statement M
+of-opening-spec =
     tie.close (tie.spec enum-told done-requires enum-known-a refused-requires returns returns-2)

@@ -1,0 +1,66 @@
+-- Refusal 0 in the numbers of an answer is an accepted call: no refusal of the model has the number 0.
+use mathlib.Core.Path.{_≡_, refl}
+use mathlib.Core.Bool.{false}
+use Prim.Native.Nat.{ℕ, suc, _+_, _*_}
+use native.Mathlib.Omega.{arith}
+use lib.Dec.{leb, ltb, eqb}
+use lib.ListN.{getD}
+use Rattle.prelude.specs.Scan.{all}
+use Rattle.prelude.proofs.Tests.{by-test}
+use Rattle.model.specs.Sizes.{Sizes, sizesOk}
+use Rattle.model.specs.Policy.{Choice, Plan, erasedBy, Due, clean, due, dueOf, isWorn, lowestWorn}
+use Rattle.model.specs.Calls.{Answer, openDone, isRefused, Call, read, write, part, step, flush, State, Outcome, checked, readOutcome}
+use Rattle.model.specs.Calls.{writeOutcome, partOutcome, stepOutcome, flushOutcome, decide, Buffers, lentOk, openStore}
+use Rattle.replies.specs.Numbers.{numbersOf}
+
+-- the number says whether the call is refused
+abbrev pub Numbered : Answer → Type 0
+Numbered a = numbersOf a .refusal ≡ 0 → isRefused a ≡ false
+
+not-0 : {A : Type 0} (n : ℕ) → suc n ≡ 0 → A
+not-0 n e = absurd (omega arith)
+
+module _ (sz : Sizes) (k : State) where
+  checked-numbered : (n long : ℕ) (o : Outcome) → Numbered (o .answer) → Numbered (checked sz k n long o .answer)
+  unfolding checked
+  checked-numbered n long o g = by-test (eqb long (sz .S))
+      (λ e. rw (e, checked) (by-test (ltb n (sz .N * sz .K)) (λ e′. rw e′ g) (λ e′. rw e′ (not-0 4))))
+      (λ e. rw (e, checked) (not-0 1))
+
+  write-numbered : (n : ℕ) (p : Plan) → Numbered (writeOutcome sz k n p .answer)
+  unfolding writeOutcome
+  write-numbered n p = by-test (isWorn sz (k .wear) (erasedBy (k .directory) p))
+      (λ e. rw (e, writeOutcome) (not-0 5)) (λ e. rw (e, writeOutcome) (λ q. refl))
+
+  part-numbered : (first many : ℕ) (w : Outcome) → Numbered (w .answer) → Numbered (partOutcome sz k first many w .answer)
+  unfolding partOutcome
+  part-numbered first many w g = by-test (leb (first + many) (sz .S))
+      (λ e. rw (e, partOutcome) (by-test (eqb many 0) (λ e′. rw e′ (λ q. refl)) (λ e′. rw e′ g)))
+      (λ e. rw (e, partOutcome) (not-0 1))
+
+  step-numbered : (d : Due) → Numbered (stepOutcome sz k d .answer)
+  unfolding stepOutcome
+  step-numbered clean = λ q. refl
+  step-numbered (due b f) = by-test (isWorn sz (k .wear) b)
+      (λ e. rw (e, stepOutcome) (not-0 5)) (λ e. rw (e, stepOutcome) (λ q. refl))
+
+  flush-numbered : (pick : Choice) → Numbered (flushOutcome pick sz k .answer)
+  unfolding flushOutcome
+  flush-numbered pick = by-test (ltb (lowestWorn sz (k .directory) (k .wear)) (sz .N))
+      (λ e. rw (e, flushOutcome) (not-0 5)) (λ e. rw (e, flushOutcome) (λ q. refl))
+
+  pub decide-numbered : (pick : Choice) (c : Call ℕ) → Numbered (decide pick sz k c .answer)
+  unfolding decide readOutcome
+  decide-numbered pick (read n long) = checked-numbered n long (readOutcome sz k n) (λ q. refl)
+  decide-numbered pick (write n long) = checked-numbered n long _ (write-numbered n _)
+  decide-numbered pick (part n first many long) = checked-numbered n long _ (part-numbered first many _ (write-numbered n _))
+  decide-numbered pick step = step-numbered (dueOf pick sz (k .directory))
+  decide-numbered pick flush = flush-numbered pick
+
+pub opening-numbered : (sz : Sizes) (u : Buffers) → numbersOf (openStore sz u .answer) .refusal ≡ 0 → openStore sz u .answer ≡ openDone
+unfolding openStore
+opening-numbered sz u = by-test (sizesOk sz)
+    (λ e. rw (e, openStore) (by-test (lentOk sz u)
+    (λ e′. rw e′ (by-test (all (sz .N) (λ b. leb (getD (u .wear) b 0) (sz .W))) (λ e″. rw e″ (λ q. refl)) (λ e″. rw e″ (not-0 2))))
+    (λ e′. rw e′ (not-0 1))))
+    (λ e. rw (e, openStore) (not-0 0))

@@ -1,0 +1,118 @@
+// An answer in numbers, for C: document 01's number of a refusal, and what a call answers.
+use answer::Flush;
+use answer::Opening;
+use answer::Read;
+use answer::Refusal;
+use answer::Step;
+use answer::Write;
+use cache::VACANT;
+ghost use mathlib.Core.Path.{_≡_};
+ghost use Rattle.answer.specs.Numbers.{refusalOf, openingOf, readOf, writeOf, stepOf, flushOf};
+ghost use Rattle.replies.specs.Numbers.{accepted, turnedDown, numbersOf};
+
+// `refusal` is document 01's number, and 0 where the call is accepted. What a call does not answer is 0, and `block` is VACANT where no
+// block is meant.
+#[repr(C)]
+pub struct Answer {
+    pub refusal: u32,
+    // the way of a read or a write, 0 of a part write without bytes
+    pub way: u32,
+    // the block that a write erased, that a step rewrote, or that refusal 6 names
+    pub block: u32,
+    // blocks rewritten by a flush: 0 or 1 by a step
+    pub rewrites: u32,
+    // merge reads
+    pub merged: u32,
+}
+
+// What an opening answers.
+pub fn of_opening(a: Opening) -> Answer
+    ensures { λ r. ⌜ r ≡ numbersOf (openingOf a) ⌝ }
+{
+    match a {
+        Opening::Done => done(0, VACANT, 0, 0),
+        Opening::Refused(why) => refused(why),
+    }
+}
+
+// What a read answers.
+pub fn of_read(a: Read) -> Answer
+    ensures { λ r. ⌜ r ≡ numbersOf (readOf a) ⌝ }
+{
+    match a {
+        Read::Done { way } => done(way, VACANT, 0, 0),
+        Read::Refused(why) => refused(why),
+    }
+}
+
+// What a write answers, of a page or of part of one.
+pub fn of_write(a: Write) -> Answer
+    ensures { λ r. ⌜ r ≡ numbersOf (writeOf a) ⌝ }
+{
+    match a {
+        Write::Done { way } => done(way, VACANT, 0, 0),
+        Write::Rewrote { block, merged } => done(7, block.0, 0, merged),
+        Write::Refused(why) => refused(why),
+    }
+}
+
+// What a flush step answers.
+pub fn of_step(a: Step) -> Answer
+    ensures { λ r. ⌜ r ≡ numbersOf (stepOf a) ⌝ }
+{
+    match a {
+        Step::Done { block, merged } => done(0, block.0, 1, merged),
+        Step::Clean => done(0, VACANT, 0, 0),
+        Step::Refused(why) => refused(why),
+    }
+}
+
+// What a flush answers.
+pub fn of_flush(a: Flush) -> Answer
+    ensures { λ r. ⌜ r ≡ numbersOf (flushOf a) ⌝ }
+{
+    match a {
+        Flush::Done { rewrites, merged } => done(0, VACANT, rewrites, merged),
+        Flush::Refused(why) => refused(why),
+    }
+}
+
+// An accepted call.
+fn done(way: u32, block: u32, rewrites: u32, merged: u32) -> Answer
+    ensures { λ r. ⌜ r ≡ accepted way block rewrites merged ⌝ }
+{
+    Answer {
+        refusal: 0,
+        way,
+        block,
+        rewrites,
+        merged,
+    }
+}
+
+// A refused one.
+fn refused(why: Refusal) -> Answer
+    ensures { λ r. ⌜ r ≡ numbersOf (refusalOf why) ⌝ }
+{
+    match why {
+        Refusal::Size => turned_down(1, VACANT),
+        Refusal::Buffer => turned_down(2, VACANT),
+        Refusal::Overworn => turned_down(3, VACANT),
+        Refusal::Record => turned_down(4, VACANT),
+        Refusal::Page => turned_down(5, VACANT),
+        Refusal::Worn(b) => turned_down(6, b.0),
+    }
+}
+
+// A refusal by its number.
+fn turned_down(number: u32, block: u32) -> Answer
+    ensures { λ r. ⌜ r ≡ turnedDown number block ⌝ }
+{
+    Answer {
+        refusal: number,
+        way: 0,
+        block,
+        rewrites: 0,
+        merged: 0,
+    }
+}

@@ -1,4 +1,5 @@
 // The cache record's numbers by value: its sizes and its directory, which says what stands where.
+pub mod entry; // entry.rt: an entry of a list, and how it becomes a page or a block number
 mod lists; // lists.rt: the directory as lists of plain numbers, and back
 pub mod search; // search.rt: what a search of the slots may pass over
 

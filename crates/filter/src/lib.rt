@@ -1,5 +1,6 @@
 // A filter of page numbers: 4,096 bits in 64 words, one for each remainder of a number by 4,096. A number whose bit is clear
 // was not put in; one whose bit is set may have been.
+use address::PageNo;
 use cache::Sizes;
 use cache::VACANT;
 ghost use mathlib.Core.Path.{_≡_};
@@ -10,12 +11,12 @@ ghost use Rattle.cache.specs.View.{sizesOf};
 ghost use Rattle.filter.specs.Filter.{orAt, laidAt};
 ghost use Rattle.filter.specs.Passed.{FirstMet};
 
-// The numbers from x on that have a bit in v go in: v is shifted to its place, in one word and the next.
-pub fn lay(seen: &mut [u64; 64], x: u32, v: u64)
-    ensures { λ _. ⌜ now (seen .exit) ≡ laidAt (now (seen .entry)) x v ⌝ }
+// The pages from the first on that have a bit in v go in: v is shifted to its place, in one word and the next.
+pub fn lay(seen: &mut [u64; 64], first: PageNo, v: u64)
+    ensures { λ _. ⌜ now (seen .exit) ≡ laidAt (now (seen .entry)) (first .0) v ⌝ }
 {
-    let w = (x % 4096 / 64) as usize;
-    let r = x % 64;
+    let w = (first.0 % 4096 / 64) as usize;
+    let r = first.0 % 64;
     mark(seen, w, v << r);
     mark(seen, (w + 1) % 64, (v >> 1) >> (63 - r));
 }

@@ -27,6 +27,10 @@ spread : (a t u v : Bool) → (a || ((t && u) && v)) ≡ ((a || t) && ((a || u) 
 spread true t u v = refl
 spread false t u v = and-assoc t u v
 
+-- a number that the test of a frame finds nothing wrong with is a block of the store
+pub held-low : (n x : ℕ) (a b : Bool) → ((leb n x || a) || b) ≡ false → x < n
+held-low n x a b e = by-test (leb n x) (λ t. clash {b = true} refl (rw t at e)) (leb-false n x)
+
 -- ---- blocks that differ
 
 module _ (l : List ℕ) where
@@ -122,14 +126,13 @@ module _ (sz : Sizes) (d : Directory) where
       (λ t. let r : frameAt d f < 4096 = (rw (eqb-true g f t) at small) in absurd (omega arith))
       (λ t. h g o (let ne = eqb-false g f t in omega arith) ol small q)
 
-  pub laid-more : (f : ℕ) (seen : List ℕ) → length seen ≡ 64 → Laid sz d f seen
-      → Laid sz d (f + 1) (laidAt seen (frameAt d f % 4096 * sz .K) (validAt d f))
-  laid-more f seen long h g o l ol small q = by-test (eqb g f)
+  pub laid-more : (f : ℕ) (seen : List ℕ) (first : ℕ) → first ≡ frameAt d f * sz .K → length seen ≡ 64 → Laid sz d f seen
+      → Laid sz d (f + 1) (laidAt seen first (validAt d f))
+  laid-more f seen first is long h g o l ol small q = by-test (eqb g f)
       (λ t. let e = eqb-true g f t in
-      let s : frameAt d g ≡ frameAt d f % 4096 = ap (frameAt d) e ∙ (let r : frameAt d f < 4096 = (rw e at small) in omega arith) in
-      ap (λ (x : ℕ). inFilter (laidAt seen (frameAt d f % 4096 * sz .K) (validAt d f)) (x * sz .K + o)) s
-      ∙ laid-has seen (frameAt d f % 4096 * sz .K) (validAt d f) long o ol (rw e at q))
-      (λ t. laid-keeps seen (frameAt d f % 4096 * sz .K) (validAt d f) long (frameAt d g * sz .K + o)
+      ap (λ (x : ℕ). inFilter (laidAt seen first (validAt d f)) (x + o)) (ap (λ (x : ℕ). frameAt d x * sz .K) e ∙ sym is)
+      ∙ laid-has seen first (validAt d f) long o ol (rw e at q))
+      (λ t. laid-keeps seen first (validAt d f) long (frameAt d g * sz .K + o)
       (h g o (let ne = eqb-false g f t in omega arith) ol small q))
 
   -- ---- slots

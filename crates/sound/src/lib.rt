@@ -4,6 +4,7 @@ use address::PageNo;
 use cache::Directory;
 use cache::Sizes;
 use cache::VACANT;
+use cache::entry;
 ghost use mathlib.Core.Path.{_≡_};
 ghost use mathlib.Core.Bool.{not, _||_};
 ghost use mathlib.Core.List.{[]};
@@ -80,7 +81,8 @@ fn frames_ok(sizes: Sizes, frames: &[u32; 8], valid: &[u64; 8], seen: &mut [u64;
             if (sizes.blocks <= x) | (v == 0) | (full < v) {
                 return false;
             }
-            filter::lay(seen, x % 4096 * k, v);
+            let first = address::page_of(entry::block(x), 0, k);
+            filter::lay(seen, first, v);
         }
         f += 1;
     }
@@ -194,7 +196,7 @@ fn slot_ok(sizes: Sizes, slots: &[u32; 128], frames: &[u32; 8], valid: &[u64; 8]
 {
     let y = slots[j];
     let end = sizes.blocks * sizes.pages_per_block;
-    (y == VACANT) | ((y < end) & new_at(slots, j) & outside(sizes, frames, valid, PageNo(y)))
+    (y == VACANT) | ((y < end) & new_at(slots, j) & outside(sizes, frames, valid, entry::page(y)))
 }
 
 // Page n is valid in no frame below B.

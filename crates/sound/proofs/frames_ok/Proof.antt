@@ -1,12 +1,14 @@
-use mathlib.Core.Path.{_≡_, refl, sym, _∙_}
+use mathlib.Core.Path.{_≡_, refl, sym, ap, _∙_}
 use mathlib.Core.Logic.{inl, inr}
 use mathlib.Core.Bool.{true, false}
 use mathlib.Core.List.{[]}
-use Prim.Native.Nat.{_-_, _*_, _%_, _≤_}
+use Prim.Native.Nat.{_+_, _-_, _*_, _≤_, _<_}
 use native.Mathlib.Nat.{mul-le-mul}
 use native.Mathlib.Omega.{arith}
 use lib.ListN.{length, getD}
 use borrow.Author.Needs.{needs}
+use Rattle.address.specs.declared.PageNo.{PageNo}
+use Rattle.address.specs.declared.BlockNo.{BlockNo}
 use Rattle.prelude.specs.Scan.{all}
 use Rattle.prelude.proofs.Tests.{clash, not-t, not-f}
 use Rattle.prelude.proofs.Scan.{all-none, all-more, all-end, all-fails}
@@ -15,7 +17,7 @@ use Rattle.model.specs.Soundness.{frameOk}
 use Rattle.cache.specs.View.{sizesOf, numbers}
 use Rattle.sound.specs.Soundness.{Laid, FramesTested}
 use Rattle.filter.proofs.Marks.{laid-length}
-use Rattle.sound.proofs.Parts.{vacant-ok, vacant-with, held-test, laid-skip, laid-more}
+use Rattle.sound.proofs.Parts.{vacant-ok, vacant-with, held-test, held-low, laid-skip, laid-more}
 use Rattle.sound.proofs.frames_ok.Statement.{statement}
 use Rattle.sound.proofs.frames_ok.Tie as tie
 
@@ -77,13 +79,20 @@ returns-2 c =
     let after-first : tie.After-first Inv-loop μ-loop = search in
     no after-v (not-t (sym (held-test _ _ _ (else1 .if1 .left)) ∙ rw (after-first .first .ensures) at (c .if3 .taken)))
 
-mul-lay : tie.Need-mul-lay Inv-loop μ-loop
-mul-lay c =
+block-requires : tie.Need-block-requires Inv-loop μ-loop
+block-requires c κs = search needs
+
+page-of-requires : tie.Need-page-of-requires Inv-loop μ-loop
+page-of-requires c κs =
+    let else3 : tie.Else3 Inv-loop μ-loop = search in
     let at-loop : tie.At-loop Inv-loop μ-loop = search in
     let start : tie.Start Inv-loop μ-loop = search in
     let x = getD (start .args .frames .now) (at-loop .loop .f) 0 in
-    let lo : x % 4096 ≤ 4095 = omega arith in
-    let m = mul-le-mul lo (start .pre .0 .K-high) in
+    let low : x < start .args .sizes .blocks = held-low _ _ _ _ (else3 .if3 .left) in
+    let high = start .pre .0 .N-high in
+    let is : c .block .result .0 ≡ x = ap (λ (b : BlockNo). b .0) (c .block .ensures) in
+    let small : c .block .result .0 ≤ 4095 = omega arith in
+    let m = mul-le-mul small (start .pre .0 .K-high) in
     omega arith
 
 lay-requires : tie.Need-lay-requires Inv-loop μ-loop
@@ -111,12 +120,18 @@ loop-again c =
         sym (all-more (frameOk sz d) (at .f) (sym (at .inv .2)) (sym (vacant-ok sz d (at .f) (w .0 .taken) (w .1 .left)))),
         laid-skip sz d (at .f) (at .seen) (w .0 .taken) (at .inv .3),
       )
-      | inr w ↦ let ok : frameOk sz d (at .f) ≡ true = not-f (sym (held-test sz d (at .f) (w .0 .left))
-          ∙ rw (after-first .first .ensures) at (w .2 .left)) in rw (w .5 ∙ w .4 .ensures) (
+      | inr w ↦
+          let x = getD (a .frames .now) (at .f) 0 in
+          let ok : frameOk sz d (at .f) ≡ true = not-f (sym (held-test sz d (at .f) (w .0 .left))
+          ∙ rw (after-first .first .ensures) at (w .2 .left)) in
+          let plain : x * sz .K + 0 ≡ x * sz .K = omega arith in
+          let page-is : w .4 .result .0 ≡ x * sz .K = ap (λ (n : PageNo). n .0) (w .4 .ensures)
+          ∙ (ap (λ (b : BlockNo). b .0 * sz .K + 0) (w .3 .ensures) ∙ plain) in
+          rw (w .7 ∙ w .6 .ensures) (
             omega arith,
-            laid-length (at .seen) (getD (a .frames .now) (at .f) 0 % 4096 * sz .K) (getD (a .valid .now) (at .f) 0) (at .inv .1),
+            laid-length (at .seen) (w .4 .result .0) (getD (a .valid .now) (at .f) 0) (at .inv .1),
             sym (all-more (frameOk sz d) (at .f) (sym (at .inv .2)) (sym ok)),
-            laid-more sz d (at .f) (at .seen) (at .inv .1) (at .inv .3),
+            laid-more sz d (at .f) (at .seen) (w .4 .result .0) page-is (at .inv .1) (at .inv .3),
           )
     ]
 
@@ -145,7 +160,8 @@ frames-ok-spec =
     element-copy-out-v
     returns
     returns-2
-    mul-lay
+    block-requires
+    page-of-requires
     lay-requires
     add-f
     loop-less

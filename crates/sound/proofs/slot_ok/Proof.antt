@@ -22,18 +22,29 @@ mul-end c =
 new-at-requires : tie.Need-new-at-requires
 new-at-requires c κs = search needs
 
+page-requires : tie.Need-page-requires
+page-requires c κs = search needs
+
 outside-requires : tie.Need-outside-requires
 outside-requires c κs = search needs
 
 returns : tie.Need-returns
 unfolding inFrame
 returns c =
+    let after-page : tie.After-page = search in
     let after-new-at : tie.After-new-at = search in
     let start : tie.Start = search in
     let a = start .args in
-    rw (after-new-at .new-at .ensures, c .outside .ensures) (slot-compared (sizesOf (a .sizes))
+    rw (after-new-at .new-at .ensures, c .outside .ensures, after-page .page .ensures) (slot-compared (sizesOf (a .sizes))
     (numbers (a .slots .now) (a .frames .now) (a .valid .now) []) (a .j))
 
 pub slot-ok-spec : {M : Type 1} → statement M
 slot-ok-spec =
-    tie.close (tie.spec mul-y element-copy-out-y mul-end new-at-requires outside-requires returns)
+    tie.close (tie.spec
+    mul-y
+    element-copy-out-y
+    mul-end
+    new-at-requires
+    page-requires
+    outside-requires
+    returns)

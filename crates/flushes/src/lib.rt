@@ -1,5 +1,4 @@
 // A flush step and a flush, for a sound record and rightly sized buffers.
-use address::BlockNo;
 use answer::Flush;
 use answer::Refusal;
 use answer::Step;
@@ -80,8 +79,8 @@ pub fn flush(
         FlushCarried (sizesOf z) d u (flushOf r) d′ u′) ⌝ }
 {
     let worn = policy::flush::lowest_worn(z, slots, frames, wear);
-    if worn < z.blocks {
-        return Flush::Refused(Refusal::Worn(BlockNo(worn)));
+    if worn.0 < z.blocks {
+        return Flush::Refused(Refusal::Worn(worn));
     }
     clean_all(
         z,

@@ -1,9 +1,9 @@
 // The pages of a block in slots join its frame: ways 4, 5 and 7 of a write, and a flush step.
 use crate::numbers;
 use address::BlockNo;
-use address::PageNo;
 use cache::Sizes;
 use cache::VACANT;
+use cache::entry;
 ghost use mathlib.Core.Path.{_≡_};
 ghost use mathlib.Core.List.{[]};
 ghost use Prim.Native.Nat.{_<_, _^_};
@@ -73,7 +73,7 @@ fn take(
     while i < p {
         i = numbers::next_of(z, slots, b, i);
         if i < p {
-            let o = numbers::offset_in(PageNo(slots[i]), b, z.pages_per_block);
+            let o = numbers::offset_in(entry::page(slots[i]), b, z.pages_per_block);
             page::copy_page(frame, o as usize, pspace, i, s);
             v = bitmap::with(v, o);
             slots[i] = VACANT;
@@ -95,7 +95,7 @@ pub(crate) fn offsets(z: Sizes, slots: &[u32; 128], b: BlockNo, old: u64) -> u64
     while i < p {
         i = numbers::next_of(z, slots, b, i);
         if i < p {
-            let o = numbers::offset_in(PageNo(slots[i]), b, z.pages_per_block);
+            let o = numbers::offset_in(entry::page(slots[i]), b, z.pages_per_block);
             v = bitmap::with(v, o);
             i += 1;
         }

@@ -11,6 +11,7 @@ use borrow.Author.Tests.{ltb-true, ltb-false, lt-ltb, le-ltb}
 use Rattle.prelude.specs.Scan.{first, least}
 use Rattle.prelude.proofs.Tests.{by-test, clash, and-l, and-r, and-i}
 use Rattle.prelude.proofs.Scan.{first-is, first-or, first-least, least-hit, least-miss, least-le, least-is, least-top}
+use Rattle.address.specs.declared.BlockNo.{BlockNo}
 use Rattle.model.specs.Sizes.{Sizes, vacant, InLimits}
 use Rattle.model.specs.Directory.{Directory, slotAt, frameAt}
 use Rattle.model.specs.Soundness.{Sound}
@@ -19,6 +20,10 @@ use Rattle.model.proofs.Soundness.{K-pos}
 use Rattle.model.proofs.Lookup.{block-vacant, block-of, in-block, frame-is, no-frame, page-of, some-pages}
 use Rattle.model.proofs.Plan.{slot-block}
 use Rattle.policy.specs.Views.{wornInSlots, wornInFrames}
+
+-- equal blocks have equal numbers
+pub number : {a b : BlockNo} → a ≡ b → a .0 ≡ b .0
+number e = ap (λ (b : BlockNo). b .0) e
 
 -- ---- the lowest block in slots is the block of the least page number
 

@@ -1,15 +1,15 @@
 // What a flush step rewrites, and which block stops a flush.
 use crate::decision::Due;
 use address::BlockNo;
-use address::PageNo;
 use cache::Sizes;
 use cache::VACANT;
+use cache::entry;
 ghost use mathlib.Core.Path.{_≡_};
 ghost use mathlib.Core.List.{[]};
 ghost use Prim.Native.Nat.{_<_};
 ghost use lib.ListN.{length};
 ghost use Rattle.model.specs.Policy.{leastRecent, lowestInSlots, dueOf, isWorn, lowestWorn};
-ghost use Rattle.cache.specs.View.{sizesOf, numbers};
+ghost use Rattle.cache.specs.View.{blockNo, sizesOf, numbers};
 ghost use Rattle.policy.specs.Views.{dueView, oldestOccupied, wornInSlots, wornInFrames, DueOf, SlotsOf, OrderOf, SlotsWorn};
 ghost use Rattle.policy.specs.Views.{FramesWorn, CachedWorn};
 
@@ -22,11 +22,11 @@ pub fn due(z: Sizes, slots: &[u32; 128], frames: &[u32; 8], recency: &[u8; 8]) -
 {
     let f = oldest_occupied(z, frames, recency);
     if f < z.frames as usize {
-        return Due::Block(BlockNo(frames[f]), f);
+        return Due::Block(entry::block(frames[f]), f);
     }
     let b = lowest_in_slots(z, slots);
-    if b < z.blocks {
-        return Due::Block(BlockNo(b), 0);
+    if b.0 < z.blocks {
+        return Due::Block(b, 0);
     }
     Due::Clean
 }
@@ -48,10 +48,17 @@ fn oldest_occupied(z: Sizes, frames: &[u32; 8], recency: &[u8; 8]) -> usize
     i
 }
 
-// The lowest block with pages in slots, or the number of blocks where there is none: the block of the least page number.
-fn lowest_in_slots(z: Sizes, slots: &[u32; 128]) -> u32
+// What a search for a block gives where there is none: the number after the last block's.
+fn no_block(z: Sizes) -> BlockNo
+    ensures { λ r. ⌜ r ≡ blockNo (z .blocks) ⌝ }
+{
+    BlockNo(z.blocks)
+}
+
+// The lowest block with pages in slots, or no block: the block of the least page number.
+fn lowest_in_slots(z: Sizes, slots: &[u32; 128]) -> BlockNo
     requires { ⌜ SlotsOf (sizesOf z) (now slots) ⌝ }
-    ensures { λ r. ⌜ r ≡ lowestInSlots (sizesOf z) (numbers (now (slots .entry)) [] [] []) ⌝ }
+    ensures { λ r. ⌜ r .0 ≡ lowestInSlots (sizesOf z) (numbers (now (slots .entry)) [] [] []) ⌝ }
 {
     let end = z.slots as usize;
     let mut low = VACANT;
@@ -64,39 +71,38 @@ fn lowest_in_slots(z: Sizes, slots: &[u32; 128]) -> u32
         i += 1;
     }
     if low == VACANT {
-        return z.blocks;
+        return no_block(z);
     }
-    let b = address::block_of(PageNo(low), z.pages_per_block);
-    b.0
+    address::block_of(entry::page(low), z.pages_per_block)
 }
 
-// The lowest worn block with a page cached, or the number of blocks where there is none.
-pub fn lowest_worn(z: Sizes, slots: &[u32; 128], frames: &[u32; 8], wear: &[u32]) -> u32
+// The lowest worn block with a page cached, or no block: the number after the last block's.
+pub fn lowest_worn(z: Sizes, slots: &[u32; 128], frames: &[u32; 8], wear: &[u32]) -> BlockNo
     requires { ⌜ CachedWorn (sizesOf z) (now slots) (now frames) (now wear) ⌝ }
-    ensures { λ r. ⌜ r ≡ lowestWorn (sizesOf z) (numbers (now (slots .entry)) (now (frames .entry)) [] []) (now (wear .entry)) ⌝ }
+    ensures { λ r. ⌜ r .0 ≡ lowestWorn (sizesOf z) (numbers (now (slots .entry)) (now (frames .entry)) [] []) (now (wear .entry)) ⌝ }
 {
     let in_slots = worn_in_slots(z, slots, wear);
     let in_frames = worn_in_frames(z, frames, wear);
-    if in_frames < in_slots {
+    if in_frames.0 < in_slots.0 {
         return in_frames;
     }
     in_slots
 }
 
-// The lowest worn block with a page in a slot.
-fn worn_in_slots(z: Sizes, slots: &[u32; 128], wear: &[u32]) -> u32
+// The lowest worn block with a page in a slot, or no block.
+fn worn_in_slots(z: Sizes, slots: &[u32; 128], wear: &[u32]) -> BlockNo
     requires { ⌜ SlotsWorn (sizesOf z) (now slots) (now wear) ⌝ }
-    ensures { λ r. ⌜ r ≡ wornInSlots (sizesOf z) (numbers (now (slots .entry)) [] [] []) (now (wear .entry)) ⌝ }
+    ensures { λ r. ⌜ r .0 ≡ wornInSlots (sizesOf z) (numbers (now (slots .entry)) [] [] []) (now (wear .entry)) ⌝ }
 {
     let m = address::range::reciprocal(z.pages_per_block);
-    let mut low = z.blocks;
+    let mut low = no_block(z);
     let mut i = 0;
     while i < z.slots as usize {
         let x = slots[i];
         if x < VACANT {
-            let b = address::range::block_by(PageNo(x), z.pages_per_block, m);
-            if (b.0 < low) & is_worn(z, wear, b) {
-                low = b.0;
+            let b = address::range::block_by(entry::page(x), z.pages_per_block, m);
+            if (b.0 < low.0) & is_worn(z, wear, b) {
+                low = b;
             }
         }
         i += 1;
@@ -104,18 +110,18 @@ fn worn_in_slots(z: Sizes, slots: &[u32; 128], wear: &[u32]) -> u32
     low
 }
 
-// The lowest worn block with a frame.
-fn worn_in_frames(z: Sizes, frames: &[u32; 8], wear: &[u32]) -> u32
+// The lowest worn block with a frame, or no block.
+fn worn_in_frames(z: Sizes, frames: &[u32; 8], wear: &[u32]) -> BlockNo
     requires { ⌜ FramesWorn (sizesOf z) (now frames) (now wear) ⌝ }
-    ensures { λ r. ⌜ r ≡ wornInFrames (sizesOf z) (numbers [] (now (frames .entry)) [] []) (now (wear .entry)) ⌝ }
+    ensures { λ r. ⌜ r .0 ≡ wornInFrames (sizesOf z) (numbers [] (now (frames .entry)) [] []) (now (wear .entry)) ⌝ }
 {
-    let mut low = z.blocks;
+    let mut low = no_block(z);
     let mut f = 0;
     while f < z.frames as usize {
-        let b = BlockNo(frames[f]);
+        let b = entry::block(frames[f]);
         if b.0 < VACANT {
-            if (b.0 < low) & is_worn(z, wear, b) {
-                low = b.0;
+            if (b.0 < low.0) & is_worn(z, wear, b) {
+                low = b;
             }
         }
         f += 1;

@@ -3,10 +3,8 @@ use crate::decision::Plan;
 use crate::decision::Room;
 use crate::lookup;
 use crate::victim;
-use address::BlockNo;
 use address::PageNo;
 use cache::Sizes;
-use cache::VACANT;
 ghost use mathlib.Core.Path.{_≡_};
 ghost use Rattle.model.specs.Policy.{leastRecent, victim, evictionPlan, plan};
 ghost use Rattle.cache.specs.View.{sizesOf, numbers};
@@ -35,7 +33,7 @@ pub fn plan(
     if f < z.frames as usize {
         return Plan::FrameHit(f);
     }
-    let free = lookup::slot_of(z, slots, PageNo(VACANT));
+    let free = lookup::free_slot(z, slots);
     if free < z.slots as usize {
         return Plan::FreeSlot(free);
     }
@@ -62,7 +60,7 @@ pub fn eviction_plan(
     if own < z.frames as usize {
         return Room::Join(b, own);
     }
-    let free = lookup::frame_of(z, frames, BlockNo(VACANT));
+    let free = lookup::free_frame(z, frames);
     if free < z.frames as usize {
         return Room::Fill(b, free);
     }

@@ -1,9 +1,9 @@
 // What leaves to make room: a block leaves the slots, a frame's pages leave the frame.
 use crate::decision::Victim;
 use address::BlockNo;
-use address::PageNo;
 use cache::Sizes;
 use cache::VACANT;
+use cache::entry;
 ghost use mathlib.Core.Path.{_≡_};
 ghost use mathlib.Core.List.{[]};
 ghost use lib.Dec.{eqb};
@@ -50,7 +50,7 @@ fn highest_counted(z: Sizes, slots: &[u32; 128], counts: &mut [u8]) -> u32
     while i < end {
         let x = slots[i];
         if x < VACANT {
-            let b = address::range::block_by(PageNo(x), z.pages_per_block, m);
+            let b = address::range::block_by(entry::page(x), z.pages_per_block, m);
             let at = b.0 as usize;
             let pages = counts[at] + 1;
             counts[at] = pages;
@@ -110,7 +110,8 @@ pub fn evict_frame(z: Sizes, frames: &[u32; 8], recency: &[u8; 8], wear: &[u32])
     let mut i = 0;
     while i < z.frames as usize {
         let f = recency[i] as usize;
-        let at = frames[f] as usize;
+        let b = entry::block(frames[f]);
+        let at = b.0 as usize;
         if wear[at] < z.wear_limit {
             return f;
         }

@@ -5,6 +5,7 @@ use address::PageNo;
 use answer::Refusal;
 use answer::Write;
 use cache::Sizes;
+use cache::entry;
 use moves::join;
 ghost use Rattle.model.specs.Policy.{evict};
 ghost use Rattle.cache.specs.View.{sizesOf, numbers};
@@ -38,7 +39,7 @@ pub fn evict(
         let u′ = buffers (now (flash .exit)) (now (wear .exit)) (now (pspace .exit)) (now (bspace .exit)) in
         Wrote (sizesOf z) d u (n .0) (now (page .entry)) (evict (v .0) f) (writeOf r) d′ u′) ⌝ }
 {
-    let b = BlockNo(frames[f]);
+    let b = entry::block(frames[f]);
     let i = b.0 as usize;
     if z.wear_limit <= wear[i] {
         return Write::Refused(Refusal::Worn(b));

@@ -1,7 +1,6 @@
 // The page buffer goes over a slot's page or over a page of a frame, or enters a vacant slot.
 use address::PageNo;
 use cache::Sizes;
-use cache::VACANT;
 use moves::numbers;
 use policy::lookup;
 ghost use mathlib.Core.Path.{_≡_};
@@ -52,7 +51,7 @@ pub fn enter(
         Entered (sizesOf z) d f (now (pspace .entry)) (n .0) (now (page .entry)) d′ (now (pspace .exit))) ⌝ }
 {
     numbers::touch(z, recency, f);
-    let i = lookup::slot_of(z, slots, PageNo(VACANT));
+    let i = lookup::free_slot(z, slots);
     over_slot(z, pspace, i, page);
     slots[i] = n.0;
 }

@@ -2,6 +2,7 @@ use borrow.Author.Needs.{needs}
 use native.Mathlib.Omega.{arith}
 use mathlib.Core.Path.{_≡_, sym, ap, _∙_}
 use Prim.Native.Nat.{ℕ}
+use Rattle.address.specs.declared.BlockNo.{BlockNo}
 use Rattle.model.specs.Directory.{Directory, frameAt}
 use Rattle.model.specs.Policy.{leastRecent, occupied, inBlock, slotCount, lowestInSlots, dueOf, due}
 use Rattle.cache.specs.View.{sizesOf, numbers}
@@ -22,7 +23,7 @@ oldest c = c .oldest-occupied .ensures
 
 lowest : (c : tie.After-lowest-in-slots) →
     let start : tie.Start = search in
-    c .lowest-in-slots .result ≡ lowestInSlots (sizesOf (start .args .z)) (whole start)
+    c .lowest-in-slots .result .0 ≡ lowestInSlots (sizesOf (start .args .z)) (whole start)
 unfolding lowestInSlots slotCount inBlock
 lowest c = c .lowest-in-slots .ensures
 
@@ -32,19 +33,14 @@ oldest-occupied-requires c κs = record { slots = c .args .slots .now; valid = c
 cast-if1 : tie.Need-cast-if1
 cast-if1 c = search needs
 
-mul-t9 : tie.Need-mul-t9
-mul-t9 c = search needs
-
-element-copy-out-t12 : tie.Need-element-copy-out-t12
-element-copy-out-t12 c = search needs
-
 returns : tie.Need-returns
 unfolding dueOf leastRecent occupied lowestInSlots slotCount inBlock
 returns c =
     let after-oldest-occupied : tie.After-oldest-occupied = search in
     let start : tie.Start = search in
     let e = oldest after-oldest-occupied in
-    ap (λ (g : ℕ). due (frameAt (whole start) g) g) e ∙ sym (due-frame (sizesOf (start .args .z)) (whole start) (start .pre .sound)
+    ap (λ (b : BlockNo). due (b .0) (after-oldest-occupied .oldest-occupied .result)) (c .block .ensures)
+    ∙ ap (λ (g : ℕ). due (frameAt (whole start) g) g) e ∙ sym (due-frame (sizesOf (start .args .z)) (whole start) (start .pre .sound)
     (omega arith))
 
 lowest-in-slots-requires : tie.Need-lowest-in-slots-requires
@@ -72,14 +68,24 @@ returns-3 c =
     let b = lowest after-lowest-in-slots in
     sym (due-clean (sizesOf (start .args .z)) (whole start) (start .pre .sound) (omega arith) (omega arith))
 
+mul-block : tie.Need-mul-block
+mul-block c = search needs
+
+element-copy-out-block : tie.Need-element-copy-out-block
+element-copy-out-block c = search needs
+
+block-requires : tie.Need-block-requires
+block-requires c κs = search needs
+
 pub due-spec : {M : Type 1} → statement M
 due-spec =
     tie.close
     (tie.spec
     oldest-occupied-requires
     cast-if1
-    mul-t9
-    element-copy-out-t12
+    mul-block
+    element-copy-out-block
+    block-requires
     returns
     lowest-in-slots-requires
     returns-2

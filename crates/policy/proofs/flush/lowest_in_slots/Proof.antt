@@ -6,12 +6,11 @@ use mathlib.Core.Logic.{inl, inr}
 use Prim.Native.Nat.{ℕ, _-_, _≤_}
 use Rattle.prelude.specs.Scan.{least}
 use Rattle.prelude.proofs.Scan.{least-hit, least-miss}
-use Rattle.address.specs.declared.BlockNo.{BlockNo}
 use Rattle.model.specs.Sizes.{vacant}
 use Rattle.model.specs.Directory.{Directory, slotAt}
 use Rattle.model.specs.Policy.{inBlock, slotCount, lowestInSlots}
 use Rattle.cache.specs.View.{sizesOf, numbers}
-use Rattle.policy.proofs.Lowest.{lowest-none, lowest-some}
+use Rattle.policy.proofs.Lowest.{number, lowest-none, lowest-some}
 use Rattle.policy.proofs.flush.lowest_in_slots.Statement.{statement}
 use Rattle.policy.proofs.flush.lowest_in_slots.Tie as tie
 
@@ -71,9 +70,11 @@ loop-again c =
 returns : tie.Need-returns Inv-loop μ-loop
 unfolding lowestInSlots slotCount inBlock
 returns c =
+    let then2 : tie.Then2 Inv-loop μ-loop = search in
     let after-loop : tie.After-loop Inv-loop μ-loop = search in
     let start : tie.Start Inv-loop μ-loop = search in
-    lowest-none (sizesOf (start .args .z)) (whole start) (start .pre .sound) _ (all-slots after-loop) (c .if2 .taken)
+    number (c .no-block .ensures)
+    ∙ lowest-none (sizesOf (start .args .z)) (whole start) (start .pre .sound) _ (all-slots after-loop) (then2 .if2 .taken)
 
 block-of-requires : tie.Need-block-of-requires Inv-loop μ-loop
 block-of-requires c κs = search needs
@@ -81,11 +82,19 @@ block-of-requires c κs = search needs
 returns-2 : tie.Need-returns-2 Inv-loop μ-loop
 unfolding lowestInSlots slotCount inBlock
 returns-2 c =
+    let after-page : tie.After-page Inv-loop μ-loop = search in
     let else2 : tie.Else2 Inv-loop μ-loop = search in
     let after-loop : tie.After-loop Inv-loop μ-loop = search in
     let start : tie.Start Inv-loop μ-loop = search in
-    ap (λ (b : BlockNo). b .0) (c .block-of .ensures) ∙ lowest-some (sizesOf (start .args .z)) (whole start) (start .pre .sound) _
+    number (rw (after-page .page .ensures) at (c .block-of .ensures))
+    ∙ lowest-some (sizesOf (start .args .z)) (whole start) (start .pre .sound) _
     (all-slots after-loop) (else2 .if2 .left)
+
+no-block-requires : tie.Need-no-block-requires Inv-loop μ-loop
+no-block-requires c κs = search needs
+
+page-requires : tie.Need-page-requires Inv-loop μ-loop
+page-requires c κs = search needs
 
 pub lowest-in-slots-spec : {M : Type 1} → statement M
 lowest-in-slots-spec =
@@ -100,6 +109,8 @@ lowest-in-slots-spec =
     add-i
     loop-less
     loop-again
+    no-block-requires
     returns
+    page-requires
     block-of-requires
     returns-2)

@@ -14,13 +14,13 @@ whole c = numbers (c .args .slots .now) (c .args .frames .now) (c .pre .valid) (
 
 in-slots : (c : tie.After-worn-in-slots) →
     let start : tie.Start = search in
-    c .worn-in-slots .result ≡ wornInSlots (sizesOf (start .args .z)) (whole start) (start .args .wear .now)
+    c .worn-in-slots .result .0 ≡ wornInSlots (sizesOf (start .args .z)) (whole start) (start .args .wear .now)
 unfolding wornInSlots slotCount inBlock
 in-slots c = c .worn-in-slots .ensures
 
 in-frames : (c : tie.After-worn-in-frames) →
     let start : tie.Start = search in
-    c .worn-in-frames .result ≡ wornInFrames (sizesOf (start .args .z)) (whole start) (start .args .wear .now)
+    c .worn-in-frames .result .0 ≡ wornInFrames (sizesOf (start .args .z)) (whole start) (start .args .wear .now)
 unfolding wornInFrames frameOf
 in-frames c = c .worn-in-frames .ensures
 

@@ -1,7 +1,7 @@
 use borrow.Author.Needs.{needs}
 use native.Mathlib.Omega.{arith}
 use mathlib.Core.List.{List}
-use mathlib.Core.Path.{_≡_, refl, ap, _∙_}
+use mathlib.Core.Path.{_≡_, sym, ap, _∙_}
 use mathlib.Core.Logic.{inl, inr}
 use mathlib.Core.Bool.{Bool}
 use Prim.Native.Nat.{ℕ, _-_, _≤_}
@@ -15,7 +15,7 @@ use Rattle.model.specs.Policy.{frameOf}
 use Rattle.model.proofs.Plan.{frame-block}
 use Rattle.cache.specs.View.{sizesOf, numbers}
 use Rattle.policy.specs.Views.{wornInFrames}
-use Rattle.policy.proofs.Lowest.{worn-block, worn-hit, worn-miss, worn-skip, frames-lowest}
+use Rattle.policy.proofs.Lowest.{number, worn-block, worn-hit, worn-miss, worn-skip, frames-lowest}
 use Rattle.policy.proofs.flush.worn_in_frames.Statement.{statement}
 use Rattle.policy.proofs.flush.worn_in_frames.Tie as tie
 
@@ -26,7 +26,7 @@ abbrev taken : List ℕ → ℕ → Bool
 taken frames f = ltb (block frames f) vacant
 
 abbrev Inv-loop : tie.InvT-loop
-Inv-loop z frames wear low₀ f₀ low f = (f ≤ z .frames) × (low ≡ least f (worn-block (sizesOf z) wear (taken frames) (block frames))
+Inv-loop z frames wear low₀ f₀ low f = (f ≤ z .frames) × (low .0 ≡ least f (worn-block (sizesOf z) wear (taken frames) (block frames))
     (z .blocks))
 
 abbrev μ-loop : tie.MeasureT-loop
@@ -38,19 +38,22 @@ whole c = numbers (c .pre .slots) (c .args .frames .now) (c .pre .valid) (c .pre
 
 loop-holds : tie.Need-loop-holds Inv-loop μ-loop
 unfolding least
-loop-holds c = omega arith
+loop-holds c = (omega arith, number (c .no-block .ensures))
 
 cast-if1 : tie.Need-cast-if1 Inv-loop μ-loop
 cast-if1 c = search needs
 
-mul-t7 : tie.Need-mul-t7 Inv-loop μ-loop
-mul-t7 c = search needs
-
-element-copy-out-t11 : tie.Need-element-copy-out-t11 Inv-loop μ-loop
-element-copy-out-t11 c = search needs
+-- the frame's entry
+read : (c : tie.After-block Inv-loop μ-loop) →
+    let at-loop : tie.At-loop Inv-loop μ-loop = search in
+    let start : tie.Start Inv-loop μ-loop = search in
+    c .block .result .0 ≡ getD (start .args .frames .now) (at-loop .loop .f) 0
+read c = number (c .block .ensures)
 
 is-worn-requires : tie.Need-is-worn-requires Inv-loop μ-loop
 is-worn-requires c κs =
+    let after-block : tie.After-block Inv-loop μ-loop = search in
+    let is = read after-block in
     let then2 : tie.Then2 Inv-loop μ-loop = search in
     let at-loop : tie.At-loop Inv-loop μ-loop = search in
     let start : tie.Start Inv-loop μ-loop = search in
@@ -68,6 +71,8 @@ loop-less c = search needs
 
 loop-again : tie.Need-loop-again Inv-loop μ-loop
 loop-again c =
+    let after-block : tie.After-block Inv-loop μ-loop = search in
+    let is = read after-block in
     let at-loop : tie.At-loop Inv-loop μ-loop = search in
     let start : tie.Start Inv-loop μ-loop = search in
     let l = at-loop .loop in
@@ -77,19 +82,19 @@ loop-again c =
     elim (c .if2 .came) [
       | inl w ↦ (
         omega arith,
-        w .4 ∙ worn-hit sz (a .wear .now) (taken fs) (block fs) (l .f) (l .low) (l .inv .1) _
-            (lt-ltb (block fs (l .f)) vacant (w .0 .taken)) refl (rw (← (w .2 .ensures)) (w .3 .taken)),
+        number (w .5) ∙ worn-hit sz (a .wear .now) (taken fs) (block fs) (l .f) (l .low .0) (l .inv .1) _
+            (lt-ltb (block fs (l .f)) vacant (rw is at (w .0 .taken))) (sym is) (rw (← (w .3 .ensures)) (w .4 .taken)),
       )
       | inr v ↦ elim v [
         | inl w ↦ (
           omega arith,
-          w .4 ∙ worn-miss sz (a .wear .now) (taken fs) (block fs) (l .f) (l .low) (l .inv .1) _
-              (lt-ltb (block fs (l .f)) vacant (w .0 .taken)) refl (rw (← (w .2 .ensures)) (w .3 .left)),
+          number (w .5) ∙ worn-miss sz (a .wear .now) (taken fs) (block fs) (l .f) (l .low .0) (l .inv .1) _
+              (lt-ltb (block fs (l .f)) vacant (rw is at (w .0 .taken))) (sym is) (rw (← (w .3 .ensures)) (w .4 .left)),
         )
         | inr w ↦ (
           omega arith,
-          w .1 ∙ worn-skip sz (a .wear .now) (taken fs) (block fs) (l .f) (l .low) (l .inv .1)
-              (le-ltb (block fs (l .f)) vacant (w .0 .left)),
+          number (w .1) ∙ worn-skip sz (a .wear .now) (taken fs) (block fs) (l .f) (l .low .0) (l .inv .1)
+              (le-ltb (block fs (l .f)) vacant (rw is at (w .0 .left))),
         )
       ]
     ]
@@ -106,16 +111,30 @@ returns c =
     (a .z .blocks)) e
     ∙ frames-lowest (sizesOf (a .z)) (whole start) (start .pre .with-wear .sound) (a .wear .now)
 
+no-block-requires : tie.Need-no-block-requires Inv-loop μ-loop
+no-block-requires c κs = search needs
+
+mul-block : tie.Need-mul-block Inv-loop μ-loop
+mul-block c = search needs
+
+element-copy-out-block : tie.Need-element-copy-out-block Inv-loop μ-loop
+element-copy-out-block c = search needs
+
+block-requires : tie.Need-block-requires Inv-loop μ-loop
+block-requires c κs = search needs
+
 pub worn-in-frames-spec : {M : Type 1} → statement M
 worn-in-frames-spec =
     tie.close
     (tie.spec
     Inv-loop
     μ-loop
+    no-block-requires
     loop-holds
     cast-if1
-    mul-t7
-    element-copy-out-t11
+    mul-block
+    element-copy-out-block
+    block-requires
     is-worn-requires
     add-f
     loop-less

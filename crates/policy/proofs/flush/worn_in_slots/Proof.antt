@@ -17,7 +17,7 @@ use Rattle.cache.specs.declared.Sizes.{Sizes}
 use Rattle.cache.specs.View.{sizesOf, numbers}
 use Rattle.policy.specs.Views.{wornInSlots}
 use Rattle.policy.proofs.Held.{Held, held, page-lt}
-use Rattle.policy.proofs.Lowest.{worn-block, worn-hit, worn-miss, worn-skip, slots-lowest}
+use Rattle.policy.proofs.Lowest.{number, worn-block, worn-hit, worn-miss, worn-skip, slots-lowest}
 use Rattle.policy.proofs.flush.worn_in_slots.Statement.{statement}
 use Rattle.policy.proofs.flush.worn_in_slots.Tie as tie
 
@@ -28,7 +28,7 @@ abbrev block : Sizes → List ℕ → ℕ → ℕ
 block z slots i = getD slots i 0 / z .«pages_per_block»
 
 abbrev Inv-loop : tie.InvT-loop
-Inv-loop z slots wear m low₀ i₀ low i = (i ≤ z .slots) × (low ≡ least i (worn-block (sizesOf z) wear (taken slots) (block z slots))
+Inv-loop z slots wear m low₀ i₀ low i = (i ≤ z .slots) × (low .0 ≡ least i (worn-block (sizesOf z) wear (taken slots) (block z slots))
     (z .blocks))
 
 abbrev μ-loop : tie.MeasureT-loop
@@ -44,18 +44,19 @@ found : (c : tie.After-block-by Inv-loop μ-loop) →
     let start : tie.Start Inv-loop μ-loop = search in
     Held (sizesOf (start .args .z)) (whole start) (at-loop .loop .i) (c .block-by .result .0)
 found c =
+    let after-page : tie.After-page Inv-loop μ-loop = search in
     let then2 : tie.Then2 Inv-loop μ-loop = search in
     let at-loop : tie.At-loop Inv-loop μ-loop = search in
     let start : tie.Start Inv-loop μ-loop = search in
     held (start .args .z) (whole start) (start .pre .with-wear .sound) (at-loop .loop .i) _ (omega arith) (then2 .if2 .taken)
-    (c .block-by .ensures)
+    (rw (after-page .page .ensures) at (c .block-by .ensures))
 
 reciprocal-requires : tie.Need-reciprocal-requires Inv-loop μ-loop
 reciprocal-requires c κs = search needs
 
 loop-holds : tie.Need-loop-holds Inv-loop μ-loop
 unfolding least
-loop-holds c = omega arith
+loop-holds c = (omega arith, number (c .no-block .ensures))
 
 cast-if1 : tie.Need-cast-if1 Inv-loop μ-loop
 cast-if1 c = search needs
@@ -68,12 +69,13 @@ element-copy-out-x c = search needs
 
 block-by-requires : tie.Need-block-by-requires Inv-loop μ-loop
 block-by-requires c κs =
+    let then2 : tie.Then2 Inv-loop μ-loop = search in
     let at-loop : tie.At-loop Inv-loop μ-loop = search in
     let start : tie.Start Inv-loop μ-loop = search in
     let s = start .pre .with-wear .sound in (
       K-pos (sizesOf (start .args .z)) (s .limits),
       s .limits .K-high,
-      page-lt (start .args .z) (whole start) s (at-loop .loop .i) (omega arith) (c .if2 .taken),
+      rw (c .page .ensures) (page-lt (start .args .z) (whole start) s (at-loop .loop .i) (omega arith) (then2 .if2 .taken)),
     )
 
 is-worn-requires : tie.Need-is-worn-requires Inv-loop μ-loop
@@ -100,20 +102,26 @@ loop-again c =
     let sz = sizesOf (a .z) in
     let ss : List ℕ = a .slots .now in
     elim (c .if2 .came) [
-      | inl w ↦ let p = found (record { before = record { before = after-x; if2 = w .0 }; block-by = w .1 }) in (
+      | inl w ↦ let p = found (record {
+        before = record { before = record { before = after-x; if2 = w .0 }; page = w .1 };
+        block-by = w .2;
+      }) in (
         omega arith,
-        w .5 ∙ worn-hit sz (a .wear .now) (taken ss) (block (a .z) ss) (l .i) (l .low) (l .inv .1) _
-            (lt-ltb _ vacant (p .page)) (p .own) (rw (← (w .3 .ensures)) (w .4 .taken)),
+        number (w .7) ∙ worn-hit sz (a .wear .now) (taken ss) (block (a .z) ss) (l .i) (l .low .0) (l .inv .1) _
+            (lt-ltb _ vacant (p .page)) (p .own) (rw (← (w .5 .ensures)) (w .6 .taken)),
       )
       | inr v ↦ elim v [
-        | inl w ↦ let p = found (record { before = record { before = after-x; if2 = w .0 }; block-by = w .1 }) in (
+        | inl w ↦ let p = found (record {
+          before = record { before = record { before = after-x; if2 = w .0 }; page = w .1 };
+          block-by = w .2;
+        }) in (
           omega arith,
-          w .5 ∙ worn-miss sz (a .wear .now) (taken ss) (block (a .z) ss) (l .i) (l .low) (l .inv .1) _
-              (lt-ltb _ vacant (p .page)) (p .own) (rw (← (w .3 .ensures)) (w .4 .left)),
+          number (w .7) ∙ worn-miss sz (a .wear .now) (taken ss) (block (a .z) ss) (l .i) (l .low .0) (l .inv .1) _
+              (lt-ltb _ vacant (p .page)) (p .own) (rw (← (w .5 .ensures)) (w .6 .left)),
         )
         | inr w ↦ (
           omega arith,
-          w .1 ∙ worn-skip sz (a .wear .now) (taken ss) (block (a .z) ss) (l .i) (l .low) (l .inv .1)
+          number (w .1) ∙ worn-skip sz (a .wear .now) (taken ss) (block (a .z) ss) (l .i) (l .low .0) (l .inv .1)
               (le-ltb _ vacant (w .0 .left)),
         )
       ]
@@ -131,6 +139,12 @@ returns c =
     (a .z .blocks)) e
     ∙ slots-lowest (sizesOf (a .z)) (whole start) (start .pre .with-wear .sound) (a .wear .now)
 
+no-block-requires : tie.Need-no-block-requires Inv-loop μ-loop
+no-block-requires c κs = search needs
+
+page-requires : tie.Need-page-requires Inv-loop μ-loop
+page-requires c κs = search needs
+
 pub worn-in-slots-spec : {M : Type 1} → statement M
 worn-in-slots-spec =
     tie.close
@@ -138,10 +152,12 @@ worn-in-slots-spec =
     Inv-loop
     μ-loop
     reciprocal-requires
+    no-block-requires
     loop-holds
     cast-if1
     mul-x
     element-copy-out-x
+    page-requires
     block-by-requires
     is-worn-requires
     add-i

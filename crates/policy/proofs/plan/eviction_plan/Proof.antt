@@ -41,11 +41,11 @@ unfolding frameOf
 own-is c = c .frame-of .ensures
 
 -- the vacant frame
-free-is : (c : tie.After-frame-of2) →
+free-is : (c : tie.After-free-frame) →
     let start : tie.Start = search in
-    c .frame-of2 .result ≡ frameOf (sizes start) (directory start) vacant
+    c .free-frame .result ≡ frameOf (sizes start) (directory start) vacant
 unfolding frameOf
-free-is c = c .frame-of2 .ensures
+free-is c = c .free-frame .ensures
 
 -- the fewest valid pages
 fewest-is : (c : tie.After-fewest-valid) →
@@ -88,20 +88,20 @@ returns c =
     let b = after-victim .victim .result .block .0 in
     rw (← (block-is after-victim)) (ap (join b) own ∙ sym (plan-4 leastRecent (sizes s) (directory s) (s .args .wear .now) b (omega arith)))
 
-frame-of-requires-2 : tie.Need-frame-of-requires-2
-frame-of-requires-2 c κs = search needs
+free-frame-requires : tie.Need-free-frame-requires
+free-frame-requires c κs = search needs
 
 cast-if2 : tie.Need-cast-if2
 cast-if2 c = search needs
 
 returns-2 : tie.Need-returns-2
 returns-2 c =
-    let after-frame-of2 : tie.After-frame-of2 = search in
+    let after-free-frame : tie.After-free-frame = search in
     let after-frame-of : tie.After-frame-of = search in
     let after-victim : tie.After-victim = search in
     let s : tie.Start = search in
     let own = own-is after-frame-of in
-    let free = free-is after-frame-of2 in
+    let free = free-is after-free-frame in
     let b = after-victim .victim .result .block .0 in
     rw (← (block-is after-victim)) (ap (fill b) free ∙ sym (plan-5 leastRecent (sizes s) (directory s) (s .args .wear .now) b (omega arith)
     (omega arith)))
@@ -127,12 +127,12 @@ least-recent-with-requires c κs =
 returns-3 : tie.Need-returns-3
 returns-3 c =
     let after-fewest-valid : tie.After-fewest-valid = search in
-    let after-frame-of2 : tie.After-frame-of2 = search in
+    let after-free-frame : tie.After-free-frame = search in
     let after-frame-of : tie.After-frame-of = search in
     let after-victim : tie.After-victim = search in
     let s : tie.Start = search in
     let own = own-is after-frame-of in
-    let free = free-is after-frame-of2 in
+    let free = free-is after-free-frame in
     let few = fewest-is after-fewest-valid in
     let p = pages-is after-victim in
     let b = after-victim .victim .result .block .0 in
@@ -141,10 +141,10 @@ returns-3 c =
 
 evict-frame-requires : tie.Need-evict-frame-requires
 evict-frame-requires c κs =
-    let after-frame-of2 : tie.After-frame-of2 = search in
+    let after-free-frame : tie.After-free-frame = search in
     let s : tie.Start = search in
     let q = s .pre in
-    let free = free-is after-frame-of2 in
+    let free = free-is after-free-frame in
     record {
       slots = _;
       valid = _;
@@ -156,12 +156,12 @@ evict-frame-requires c κs =
 returns-4 : tie.Need-returns-4
 returns-4 c =
     let after-fewest-valid : tie.After-fewest-valid = search in
-    let after-frame-of2 : tie.After-frame-of2 = search in
+    let after-free-frame : tie.After-free-frame = search in
     let after-frame-of : tie.After-frame-of = search in
     let after-victim : tie.After-victim = search in
     let s : tie.Start = search in
     let own = own-is after-frame-of in
-    let free = free-is after-frame-of2 in
+    let free = free-is after-free-frame in
     let few = fewest-is after-fewest-valid in
     let p = pages-is after-victim in
     let b = after-victim .victim .result .block .0 in
@@ -176,7 +176,7 @@ eviction-plan-spec =
     frame-of-requires
     cast-if1
     returns
-    frame-of-requires-2
+    free-frame-requires
     cast-if2
     returns-2
     fewest-valid-requires

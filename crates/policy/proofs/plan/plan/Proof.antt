@@ -28,11 +28,11 @@ frame-is : (c : tie.After-frame-with) →
 unfolding frameWith inFrame
 frame-is c = c .frame-with .ensures
 
-free-is : (c : tie.After-slot-of2) →
+free-is : (c : tie.After-free-slot) →
     let start : tie.Start = search in
-    c .slot-of2 .result ≡ slotOf (sizes start) (directory start) vacant
+    c .free-slot .result ≡ slotOf (sizes start) (directory start) vacant
 unfolding slotOf
-free-is c = c .slot-of2 .ensures
+free-is c = c .free-slot .ensures
 
 slot-of-requires : tie.Need-slot-of-requires
 slot-of-requires c κs = search needs
@@ -62,21 +62,21 @@ returns-2 c =
     let f = frame-is after-frame-with in
     ap frameHit f ∙ sym (plan-2 leastRecent (sizes s) (directory s) (s .args .wear .now) (s .args .n .0) (omega arith) (omega arith))
 
-slot-of-requires-2 : tie.Need-slot-of-requires-2
-slot-of-requires-2 c κs = search needs
+free-slot-requires : tie.Need-free-slot-requires
+free-slot-requires c κs = search needs
 
 cast-if3 : tie.Need-cast-if3
 cast-if3 c = search needs
 
 returns-3 : tie.Need-returns-3
 returns-3 c =
-    let after-slot-of2 : tie.After-slot-of2 = search in
+    let after-free-slot : tie.After-free-slot = search in
     let after-frame-with : tie.After-frame-with = search in
     let after-slot-of : tie.After-slot-of = search in
     let s : tie.Start = search in
     let e = slot-is after-slot-of in
     let f = frame-is after-frame-with in
-    let g = free-is after-slot-of2 in
+    let g = free-is after-free-slot in
     ap freeSlot g ∙ sym (plan-3 leastRecent (sizes s) (directory s) (s .args .wear .now) (s .args .n .0) (omega arith) (omega arith)
     (omega arith))
 
@@ -85,13 +85,13 @@ eviction-plan-requires c κs = search needs
 
 returns-4 : tie.Need-returns-4
 returns-4 c =
-    let after-slot-of2 : tie.After-slot-of2 = search in
+    let after-free-slot : tie.After-free-slot = search in
     let after-frame-with : tie.After-frame-with = search in
     let after-slot-of : tie.After-slot-of = search in
     let s : tie.Start = search in
     let e = slot-is after-slot-of in
     let f = frame-is after-frame-with in
-    let g = free-is after-slot-of2 in
+    let g = free-is after-free-slot in
     rw (plan-full leastRecent (sizes s) (directory s) (s .args .wear .now) (s .args .n .0) (omega arith) (omega arith) (omega arith))
     (c .eviction-plan .ensures)
 
@@ -105,7 +105,7 @@ plan-spec =
     frame-with-requires
     cast-if2
     returns-2
-    slot-of-requires-2
+    free-slot-requires
     cast-if3
     returns-3
     eviction-plan-requires

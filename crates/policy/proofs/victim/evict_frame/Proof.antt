@@ -11,6 +11,7 @@ use Rattle.prelude.proofs.Scan.{Missed}
 use Rattle.model.specs.Policy.{leastRecent, evictable, anyEvictable, evictFrame}
 use Rattle.cache.specs.declared.Sizes.{Sizes}
 use Rattle.cache.specs.View.{sizesOf, numbers}
+use Rattle.policy.proofs.Lowest.{number}
 use Rattle.policy.proofs.Oldest.{evict-at, evict-none}
 use Rattle.policy.proofs.victim.evict_frame.Statement.{statement}
 use Rattle.policy.proofs.victim.evict_frame.Tie as tie
@@ -60,26 +61,40 @@ cast-f c =
     let k = frame-lt then1 in
     record { fits = omega arith }
 
-mul-at : tie.Need-mul-at Inv-loop μ-loop
-mul-at c =
+mul-block : tie.Need-mul-block Inv-loop μ-loop
+mul-block c =
     let then1 : tie.Then1 Inv-loop μ-loop = search in
     let k = frame-lt then1 in
     omega arith
 
-element-copy-out-at : tie.Need-element-copy-out-at Inv-loop μ-loop
-element-copy-out-at c =
+element-copy-out-block : tie.Need-element-copy-out-block Inv-loop μ-loop
+element-copy-out-block c =
     let then1 : tie.Then1 Inv-loop μ-loop = search in
     let k = frame-lt then1 in
     omega arith
+
+block-requires : tie.Need-block-requires Inv-loop μ-loop
+block-requires c κs = search needs
+
+-- the frame's entry
+read : (c : tie.After-block Inv-loop μ-loop) →
+    let then1 : tie.Then1 Inv-loop μ-loop = search in
+    let at-loop : tie.At-loop Inv-loop μ-loop = search in
+    c .block .result .0 ≡ getD (start then1 .args .frames .now) (getD (start then1 .args .recency .now) (at-loop .loop .i) 0) 0
+read c = number (c .block .ensures)
 
 cast-at : tie.Need-cast-at Inv-loop μ-loop
 cast-at c =
+    let after-block : tie.After-block Inv-loop μ-loop = search in
+    let is = read after-block in
     let then1 : tie.Then1 Inv-loop μ-loop = search in
     let k = block-lt then1 in
     record { fits = omega arith }
 
 mul-if2 : tie.Need-mul-if2 Inv-loop μ-loop
 mul-if2 c =
+    let after-block : tie.After-block Inv-loop μ-loop = search in
+    let is = read after-block in
     let then1 : tie.Then1 Inv-loop μ-loop = search in
     let k = block-lt then1 in
     let l = start then1 .pre .sound .limits .N-high in
@@ -87,6 +102,8 @@ mul-if2 c =
 
 shared-slice-read-if2 : tie.Need-shared-slice-read-if2 Inv-loop μ-loop
 shared-slice-read-if2 c =
+    let after-block : tie.After-block Inv-loop μ-loop = search in
+    let is = read after-block in
     let then1 : tie.Then1 Inv-loop μ-loop = search in
     let k = block-lt then1 in
     let l = start then1 .pre .wear-length in
@@ -95,12 +112,13 @@ shared-slice-read-if2 c =
 returns : tie.Need-returns Inv-loop μ-loop
 unfolding evictable anyEvictable evictFrame leastRecent
 returns c =
+    let after-block : tie.After-block Inv-loop μ-loop = search in
     let at : tie.Then1 Inv-loop μ-loop = search in
     let at-loop : tie.At-loop Inv-loop μ-loop = search in
     let l = at-loop .loop in
     let a = start at .args in
     evict-at (sizesOf (a .z)) _ (start at .pre .sound) (a .wear .now) (l .i) (omega arith) (l .inv .1)
-    (lt-ltb _ (sizesOf (a .z) .W) (let t = c .if2 .taken in omega arith))
+    (lt-ltb _ (sizesOf (a .z) .W) (rw (read after-block) at (c .if2 .taken)))
 
 add-i : tie.Need-add-i Inv-loop μ-loop
 add-i c = search needs
@@ -111,11 +129,12 @@ loop-less c = search needs
 loop-again : tie.Need-loop-again Inv-loop μ-loop
 unfolding evictable
 loop-again c =
+    let after-block : tie.After-block Inv-loop μ-loop = search in
     let at : tie.Then1 Inv-loop μ-loop = search in
     let at-loop : tie.At-loop Inv-loop μ-loop = search in
     let l = at-loop .loop in
     let a = start at .args in
-    (omega arith, below-more _ (l .i) (l .inv .1) (le-ltb _ (sizesOf (a .z) .W) (let t = c .if2 .left in omega arith)))
+    (omega arith, below-more _ (l .i) (l .inv .1) (le-ltb _ (sizesOf (a .z) .W) (rw (read after-block) at (c .if2 .left))))
 
 element-copy-out-result : tie.Need-element-copy-out-result Inv-loop μ-loop
 element-copy-out-result c = search needs
@@ -147,8 +166,9 @@ evict-frame-spec =
     cast-if1
     element-copy-out-f
     cast-f
-    mul-at
-    element-copy-out-at
+    mul-block
+    element-copy-out-block
+    block-requires
     cast-at
     mul-if2
     shared-slice-read-if2

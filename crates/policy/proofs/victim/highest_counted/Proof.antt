@@ -28,10 +28,12 @@ found : (c : tie.After-block-by Inv-loop μ-loop) →
     let start : tie.Start Inv-loop μ-loop = search in
     Held (sizesOf (start .args .z)) (numbers (start .args .slots .now) [] [] []) (at-loop .loop .i) (c .block-by .result .0)
 found c =
+    let after-page : tie.After-page Inv-loop μ-loop = search in
     let then1 : tie.Then1 Inv-loop μ-loop = search in
     let at-loop : tie.At-loop Inv-loop μ-loop = search in
     let start : tie.Start Inv-loop μ-loop = search in
-    let h = held (start .args .z) _ (start .pre .0 .sound) (at-loop .loop .i) _ (omega arith) (then1 .if1 .taken) (c .block-by .ensures) in
+    let h = held (start .args .z) _ (start .pre .0 .sound) (at-loop .loop .i) _ (omega arith) (then1 .if1 .taken)
+    (rw (after-page .page .ensures) at (c .block-by .ensures)) in
     record { page = h .page; own = h .own; low = h .low }
 
 -- the table has an entry for it
@@ -77,12 +79,13 @@ element-copy-out-x c = search needs
 
 block-by-requires : tie.Need-block-by-requires Inv-loop μ-loop
 block-by-requires c κs =
+    let then1 : tie.Then1 Inv-loop μ-loop = search in
     let at-loop : tie.At-loop Inv-loop μ-loop = search in
     let start : tie.Start Inv-loop μ-loop = search in
     let s = start .pre .0 .sound in (
       K-pos (sizesOf (start .args .z)) (s .limits),
       s .limits .K-high,
-      page-lt (start .args .z) _ s (at-loop .loop .i) (omega arith) (c .if1 .taken),
+      rw (c .page .ensures) (page-lt (start .args .z) _ s (at-loop .loop .i) (omega arith) (then1 .if1 .taken)),
     )
 
 cast-at : tie.Need-cast-at Inv-loop μ-loop
@@ -140,18 +143,24 @@ loop-again c =
     let sz = sizesOf (start .args .z) in
     let d = numbers (start .args .slots .now) [] [] [] in
     elim (c .if1 .came) [
-      | inl w ↦ let p = found (record { before = record { before = after-x; if1 = w .0 }; block-by = w .1 }) in (
+      | inl w ↦ let p = found (record {
+        before = record { before = record { before = after-x; if1 = w .0 }; page = w .1 };
+        block-by = w .2;
+      }) in (
         omega arith,
-        ap length (w .6) ∙ length-set (l .counts) _ _
+        ap length (w .7) ∙ length-set (l .counts) _ _
             ∙ l .inv .1,
-        rw (w .6, w .7) (counted-taken sz d (l .i) (l .counts) (l .lead) (l .inv .2) _ _ p refl (w .5 .taken)),
+        rw (w .7, w .8) (counted-taken sz d (l .i) (l .counts) (l .lead) (l .inv .2) _ _ p refl (w .6 .taken)),
       )
       | inr v ↦ elim v [
-        | inl w ↦ let p = found (record { before = record { before = after-x; if1 = w .0 }; block-by = w .1 }) in (
+        | inl w ↦ let p = found (record {
+          before = record { before = record { before = after-x; if1 = w .0 }; page = w .1 };
+          block-by = w .2;
+        }) in (
           omega arith,
-          ap length (w .6) ∙ length-set (l .counts) _ _
+          ap length (w .7) ∙ length-set (l .counts) _ _
               ∙ l .inv .1,
-          rw (w .6, w .7) (counted-kept sz d (l .i) (l .counts) (l .lead) (l .inv .2) _ _ p refl (w .5 .left)),
+          rw (w .7, w .8) (counted-kept sz d (l .i) (l .counts) (l .lead) (l .inv .2) _ _ p refl (w .6 .left)),
         )
         | inr w ↦ (
           omega arith,
@@ -173,6 +182,9 @@ returns c =
     let e : l .i ≡ start .args .z .slots = omega arith in
     counted-all _ _ (start .pre .0 .sound .limits) (l .counts) (l .lead) (rw e at (l .inv .2))
 
+page-requires : tie.Need-page-requires Inv-loop μ-loop
+page-requires c κs = search needs
+
 pub highest-counted-spec : {M : Type 1} → statement M
 highest-counted-spec =
     tie.close
@@ -184,6 +196,7 @@ highest-counted-spec =
     loop-holds
     mul-x
     element-copy-out-x
+    page-requires
     block-by-requires
     cast-at
     slice-read-pages

@@ -11,27 +11,27 @@ touch-requires c κs =
     let q = start .pre in
     listed _ _ _ (q .sound) (q .frame-lt)
 
-slot-of-requires : tie.Need-slot-of-requires
-slot-of-requires c κs = search needs
+free-slot-requires : tie.Need-free-slot-requires
+free-slot-requires c κs = search needs
 
 over-slot-requires : tie.Need-over-slot-requires
 over-slot-requires c κs =
-    let after-slot-of : tie.After-slot-of = search in
+    let after-free-slot : tie.After-free-slot = search in
     let start : tie.Start = search in
-    over _ _ _ _ _ (start .pre) _ (after-slot-of .slot-of .ensures)
+    over _ _ _ _ _ (start .pre) _ (after-free-slot .free-slot .ensures)
 
 mul-slots : tie.Need-mul-slots
 mul-slots c =
-    let after-slot-of : tie.After-slot-of = search in
+    let after-free-slot : tie.After-free-slot = search in
     let start : tie.Start = search in
-    let l = slot-small _ _ _ _ _ (start .pre) _ (after-slot-of .slot-of .ensures) in
+    let l = slot-small _ _ _ _ _ (start .pre) _ (after-free-slot .free-slot .ensures) in
     record { fits = omega arith }
 
 element-write-slots : tie.Need-element-write-slots
 element-write-slots c =
-    let after-slot-of : tie.After-slot-of = search in
+    let after-free-slot : tie.After-free-slot = search in
     let start : tie.Start = search in
-    slot-small _ _ _ _ _ (start .pre) _ (after-slot-of .slot-of .ensures)
+    slot-small _ _ _ _ _ (start .pre) _ (after-free-slot .free-slot .ensures)
 
 same-length : tie.Need-same-length
 same-length c = search needs
@@ -39,10 +39,10 @@ same-length c = search needs
 returns : tie.Need-returns
 returns c =
     let after-over-slot : tie.After-over-slot = search in
-    let after-slot-of : tie.After-slot-of = search in
+    let after-free-slot : tie.After-free-slot = search in
     let after-touch : tie.After-touch = search in
     let start : tie.Start = search in
-    enter-is _ _ _ _ _ (start .pre) _ (after-slot-of .slot-of .ensures) _ _ _ (after-touch .touch .ensures)
+    enter-is _ _ _ _ _ (start .pre) _ (after-free-slot .free-slot .ensures) _ _ _ (after-touch .touch .ensures)
     (after-over-slot .over-slot .ensures)
 
 pub enter-spec : {M : Type 1} → statement M
@@ -50,7 +50,7 @@ enter-spec =
     tie.close
     (tie.spec
     touch-requires
-    slot-of-requires
+    free-slot-requires
     over-slot-requires
     mul-slots
     element-write-slots

@@ -8,14 +8,14 @@ use borrow.Author.Tests.{eq-eqb, ne-eqb}
 use Rattle.prelude.proofs.Scan.{Missed, first-is}
 use Rattle.model.specs.Policy.{slotOf}
 use Rattle.cache.proofs.Among.{among-one}
-use Rattle.policy.proofs.lookup.slot_of.Statement.{statement}
-use Rattle.policy.proofs.lookup.slot_of.Tie as tie
+use Rattle.policy.proofs.lookup.slot_entry.Statement.{statement}
+use Rattle.policy.proofs.lookup.slot_entry.Tie as tie
 
 abbrev Inv-loop : tie.InvT-loop
-Inv-loop slots n end i₀ i = Missed (λ j. eqb (getD slots j 0) (n .0)) i
+Inv-loop slots x end i₀ i = Missed (λ j. eqb (getD slots j 0) x) i
 
 abbrev μ-loop : tie.MeasureT-loop
-μ-loop slots n end i₀ i = end - i
+μ-loop slots x end i₀ i = end - i
 
 cast-end : tie.Need-cast-end Inv-loop μ-loop
 cast-end c = search needs
@@ -58,8 +58,8 @@ returns-2 c =
     let l = at-loop .loop in
     first-is _ _ _ (omega arith) (λ j b. l .inv j (omega arith)) (λ k. absurd (omega arith))
 
-pub slot-of-spec : {M : Type 1} → statement M
-slot-of-spec =
+pub slot-entry-spec : {M : Type 1} → statement M
+slot-entry-spec =
     tie.close
     (tie.spec
     Inv-loop

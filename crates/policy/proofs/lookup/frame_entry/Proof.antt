@@ -7,14 +7,14 @@ use borrow.Author.Count.{below-none, below-more}
 use borrow.Author.Tests.{eq-eqb, ne-eqb}
 use Rattle.prelude.proofs.Scan.{Missed, first-is}
 use Rattle.model.specs.Policy.{frameOf}
-use Rattle.policy.proofs.lookup.frame_of.Statement.{statement}
-use Rattle.policy.proofs.lookup.frame_of.Tie as tie
+use Rattle.policy.proofs.lookup.frame_entry.Statement.{statement}
+use Rattle.policy.proofs.lookup.frame_entry.Tie as tie
 
 abbrev Inv-loop : tie.InvT-loop
-Inv-loop frames b end f₀ f = (f ≤ end) × Missed (λ g. eqb (getD frames g 0) (b .0)) f
+Inv-loop frames x end f₀ f = (f ≤ end) × Missed (λ g. eqb (getD frames g 0) x) f
 
 abbrev μ-loop : tie.MeasureT-loop
-μ-loop frames b end f₀ f = end - f
+μ-loop frames x end f₀ f = end - f
 
 cast-end : tie.Need-cast-end Inv-loop μ-loop
 cast-end c = search needs
@@ -54,8 +54,8 @@ returns-2 c =
     let l = at-loop .loop in
     first-is _ _ (l .f) (l .inv .0) (l .inv .1) (λ k. absurd (omega arith))
 
-pub frame-of-spec : {M : Type 1} → statement M
-frame-of-spec =
+pub frame-entry-spec : {M : Type 1} → statement M
+frame-entry-spec =
     tie.close
     (tie.spec
     Inv-loop

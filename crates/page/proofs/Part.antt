@@ -6,7 +6,7 @@ use native.Mathlib.Omega.{arith}
 use lib.ListN.{length}
 use borrow.Rule.Slice.PartMut.{putMid, midOf, post-is}
 use Rattle.prelude.specs.Pages.{pageAt, putPage, runAt, laid}
-use Rattle.prelude.proofs.Pages.{ends-before, length-pageAt, page-of-block, put-in-block}
+use Rattle.prelude.proofs.Pages.{ends-before, length-pageAt, put-in-block}
 
 -- the part lent
 abbrev pub part : {A : Type 0} → ℕ → List A → ℕ → List A
@@ -29,9 +29,6 @@ module _ {A : Type 0} (s : ℕ) (l : List A) (i : ℕ) where
 module _ {A : Type 0} (s k : ℕ) (l : List A) (f o : ℕ) (inside : o < k) (fits : f * (k * s) + k * s ≤ length l) where
   pub in-part : o * s + s ≤ length (part (k * s) l f)
   in-part = rw (got (k * s) l f, length-pageAt (k * s) l f fits) (ends-before s inside)
-
-  pub got-in : pageAt s (part (k * s) l f) o ≡ pageAt s l (f * k + o)
-  got-in = rw (got (k * s) l f) (page-of-block s k l f o inside)
 
   pub put-in : (x pg : List A) → x ≡ putPage s (part (k * s) l f) o pg → putPart (k * s) l f x ≡ putPage s l (f * k + o) pg
   put-in x pg e = put (k * s) l f x ∙ ap (putPage (k * s) l f) (e ∙ ap (λ (y : List A). putPage s y o pg) (got (k * s) l f))

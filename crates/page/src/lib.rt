@@ -63,36 +63,6 @@ pub fn copy_in_block(run: &mut [u8], f: usize, k: usize, o: usize, src: &[u8], s
     copy_page(&mut run[a..e], o, src, si, s);
 }
 
-// The page at offset o of block f of run and page yi of y change places.
-pub fn exchange_in_block(
-    run: &mut [u8],
-    f: usize,
-    k: usize,
-    o: usize,
-    y: &mut [u8],
-    yi: usize,
-    s: usize,
-)
-    requires { ⌜ (o < k) × HasPage (k * s) (now run) f × HasPage s (now y) yi ⌝ }
-    ensures { λ _. ⌜ Exchanged s (now (run .entry)) (f * k + o) (now (y .entry)) yi (now (run .exit)) (now (y .exit)) ⌝ }
-{
-    let size = k * s;
-    let a = f * size;
-    let e = a + size;
-    exchange(&mut run[a..e], o, y, yi, s);
-}
-
-// The page at offset o of block f of run becomes s times the byte b.
-pub fn fill_in_block(run: &mut [u8], f: usize, k: usize, o: usize, s: usize, b: u8)
-    requires { ⌜ (o < k) × HasPage (k * s) (now run) f ⌝ }
-    ensures { λ _. ⌜ now (run .exit) ≡ putPage s (now (run .entry)) (f * k + o) (replicate s b) ⌝ }
-{
-    let size = k * s;
-    let a = f * size;
-    let e = a + size;
-    fill_page(&mut run[a..e], o, s, b);
-}
-
 // Lays src into dst, from index i on.
 pub fn lay(dst: &mut [u8], i: usize, src: &[u8])
     requires { ⌜ (length (now src) ≤ 2048) × (i + length (now src) ≤ length (now dst)) ⌝ }

@@ -1,10 +1,47 @@
 use native.Mathlib.Omega.{arith}
 use borrow.Author.Needs.{needs}
-use mathlib.Core.Path.{_∙_}
-use Rattle.writes.proofs.Entering.{joins, join-enters, join-entered, exchange-enters, exchange-entered}
+use mathlib.Core.Path.{_≡_}
+use mathlib.Core.List.{List}
+use Prim.Native.Nat.{ℕ}
+use Rattle.model.specs.Sizes.{Sizes}
+use Rattle.model.specs.Directory.{Directory}
+use Rattle.model.specs.Moves.{joined}
+use Rattle.cache.specs.View.{sizesOf, numbers}
+use Rattle.moves.specs.Spaces.{Joins, Joined}
+use Rattle.writes.specs.Enter.{Joining, Enters, Entered}
+use Rattle.writes.proofs.Entering.{JoinEntered, joins, join-enters, join-entered, exchange-enters, exchange-entered}
 use Rattle.writes.proofs.Ways.{way-4, way-5, way-6, room-holds, by-room}
 use Rattle.writes.proofs.full.write.Statement.{statement}
 use Rattle.writes.proofs.full.write.Tie as tie
+
+abbrev sizes : tie.Start → Sizes
+sizes s = sizesOf (s .args .z)
+
+-- the directory as the call began
+abbrev lent : tie.Start → Directory
+lent s = let a = s .args in numbers (a .slots .now) (a .frames .now) (a .valid .now) (a .recency .now)
+
+-- ---- what ways 4 and 5 share: the victim's pages join a frame, and the page enters a slot
+
+module _ (s : tie.Start) (v f : ℕ) (g : Joining (sizes s) (lent s) v f) where
+  may-join : Joins (sizes s) (lent s) v f (s .args .pspace .now) (s .args .bspace .now)
+  may-join =
+      let q = s .pre .ready in
+      joins _ _ _ _ _ _ (s .args .page .now) (q .sound) (g .victim-lt) (g .frame-lt) (q .fits .pspace-length) (q .fits .bspace-length)
+
+  may-enter : (d : Directory) → d ≡ joined (sizes s) (lent s) v f → Enters (sizes s) d f (s .args .pspace .now) (s .args .page .now)
+  may-enter d e =
+      let q = s .pre in
+      join-enters _ _ _ _ _ (s .args .bspace .now) _ (q .ready .sound) g (q .ready .fits .pspace-length) (q .page-length) d e
+
+  has-joined : (d d′ : Directory) (pspace′ bspace′ : List ℕ)
+      → Joined (sizes s) (lent s) v f (s .args .pspace .now) (s .args .bspace .now) d bspace′
+      → Entered (sizes s) d f (s .args .pspace .now) (s .args .n .0) (s .args .page .now) d′ pspace′
+      → JoinEntered (sizes s) (lent s) v f (s .args .pspace .now) (s .args .bspace .now) (s .args .n .0) (s .args .page .now) d′ pspace′
+      bspace′
+  has-joined d d′ pspace′ bspace′ j e = join-entered _ _ _ _ _ _ _ (s .pre .ready .sound) _ d d′ pspace′ bspace′ j e
+
+-- ---- way 4
 
 enum-known-room : tie.Need-enum-known-room
 enum-known-room c = search needs
@@ -13,19 +50,14 @@ join-requires : tie.Need-join-requires
 join-requires c κs =
     let after-room : tie.After-room = search in
     let start : tie.Start = search in
-    let q = start .pre in
-    let g = room-holds _ _ _ (start .args .n .0) _ _ _ q (after-room .room .given .1) in
-    joins _ _ _ _ _ _ (start .args .page .now) (q .ready .sound) (g .victim-lt) (g .frame-lt) (q .ready .fits .pspace-length)
-    (q .ready .fits .bspace-length)
+    may-join start _ _ (room-holds _ _ _ (start .args .n .0) _ _ _ (start .pre) (after-room .room .given .1))
 
 enter-requires : tie.Need-enter-requires
 enter-requires c κs =
     let after-join : tie.After-join = search in
     let after-room : tie.After-room = search in
     let start : tie.Start = search in
-    let q = start .pre in
-    let g = room-holds _ _ _ (start .args .n .0) _ _ _ q (after-room .room .given .1) in
-    join-enters _ _ _ _ _ (start .args .bspace .now) _ (q .ready .sound) g (q .ready .fits .pspace-length) (q .page-length) _
+    may-enter start _ _ (room-holds _ _ _ (start .args .n .0) _ _ _ (start .pre) (after-room .room .given .1)) _
     (after-join .join .ensures .directory)
 
 same-length : tie.Need-same-length
@@ -40,9 +72,12 @@ returns c =
     let after-join : tie.After-join = search in
     let after-room : tie.After-room = search in
     let start : tie.Start = search in
-    let q = start .pre in
-    by-room _ _ _ _ _ _ _ q (after-room .room .given .1) (way-4 _ _ _ _ _ _ _ _ _ _ _ _ _
-    (join-entered _ _ _ _ _ _ _ (q .ready .sound) _ _ _ _ _ (after-join .join .ensures) (after-enter .enter .ensures)))
+    let is = after-room .room .given .1 in
+    let g = room-holds _ _ _ (start .args .n .0) _ _ _ (start .pre) is in
+    by-room _ _ _ _ _ _ _ (start .pre) is (way-4 _ _ _ _ _ _ _ _ _ _ _ _ _
+    (has-joined start _ _ g _ _ _ _ (after-join .join .ensures) (after-enter .enter .ensures)))
+
+-- ---- way 5
 
 enum-known-room-2 : tie.Need-enum-known-room-2
 enum-known-room-2 c = search needs
@@ -51,19 +86,14 @@ join-requires-2 : tie.Need-join-requires-2
 join-requires-2 c κs =
     let after-room2 : tie.After-room2 = search in
     let start : tie.Start = search in
-    let q = start .pre in
-    let g = room-holds _ _ _ (start .args .n .0) _ _ _ q (after-room2 .room2 .given .1) in
-    joins _ _ _ _ _ _ (start .args .page .now) (q .ready .sound) (g .victim-lt) (g .frame-lt) (q .ready .fits .pspace-length)
-    (q .ready .fits .bspace-length)
+    may-join start _ _ (room-holds _ _ _ (start .args .n .0) _ _ _ (start .pre) (after-room2 .room2 .given .1))
 
 enter-requires-2 : tie.Need-enter-requires-2
 enter-requires-2 c κs =
     let after-join2 : tie.After-join2 = search in
     let after-room2 : tie.After-room2 = search in
     let start : tie.Start = search in
-    let q = start .pre in
-    let g = room-holds _ _ _ (start .args .n .0) _ _ _ q (after-room2 .room2 .given .1) in
-    join-enters _ _ _ _ _ (start .args .bspace .now) _ (q .ready .sound) g (q .ready .fits .pspace-length) (q .page-length) _
+    may-enter start _ _ (room-holds _ _ _ (start .args .n .0) _ _ _ (start .pre) (after-room2 .room2 .given .1)) _
     (after-join2 .join2 .ensures .directory)
 
 same-length-3 : tie.Need-same-length-3
@@ -78,9 +108,12 @@ returns-2 c =
     let after-join2 : tie.After-join2 = search in
     let after-room2 : tie.After-room2 = search in
     let start : tie.Start = search in
-    let q = start .pre in
-    by-room _ _ _ _ _ _ _ q (after-room2 .room2 .given .1) (way-5 _ _ _ _ _ _ _ _ _ _ _ _ _
-    (join-entered _ _ _ _ _ _ _ (q .ready .sound) _ _ _ _ _ (after-join2 .join2 .ensures) (after-enter2 .enter2 .ensures)))
+    let is = after-room2 .room2 .given .1 in
+    let g = room-holds _ _ _ (start .args .n .0) _ _ _ (start .pre) is in
+    by-room _ _ _ _ _ _ _ (start .pre) is (way-5 _ _ _ _ _ _ _ _ _ _ _ _ _
+    (has-joined start _ _ g _ _ _ _ (after-join2 .join2 .ensures) (after-enter2 .enter2 .ensures)))
+
+-- ---- way 6
 
 enum-known-room-3 : tie.Need-enum-known-room-3
 enum-known-room-3 c = search needs
@@ -122,6 +155,8 @@ returns-3 c =
     let q = start .pre in
     by-room _ _ _ _ _ _ _ q (after-room3 .room3 .given .1) (way-6 _ _ _ _ _ _ _ _ _ _ _ _ _
     (exchange-entered _ _ _ _ _ _ _ (q .ready .sound) _ _ _ _ _ _ (after-exchange .exchange .ensures) (after-enter3 .enter3 .ensures)))
+
+-- ---- way 7
 
 enum-known-room-4 : tie.Need-enum-known-room-4
 enum-known-room-4 c = search needs

@@ -9,6 +9,7 @@ use Rattle.prelude.proofs.Scan.{from-hit, from-miss, from-end}
 use Rattle.bitmap.proofs.next.Statement.{statement}
 use Rattle.bitmap.proofs.next.Tie as tie
 
+-- the offsets from at to o are none of those looked for, so the answer from o on is the answer from at on
 abbrev Inv-loop : tie.InvT-loop
 Inv-loop v w at k o₀ o = (o ≤ k) × (firstFrom at (k - at) (bitWithout v w) ≡ firstFrom o (k - o) (bitWithout v w))
 

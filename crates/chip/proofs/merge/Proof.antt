@@ -10,6 +10,7 @@ use Rattle.chip.proofs.Blocks.{facing-on, number-fits, run-in-flash, ru
 use Rattle.chip.proofs.merge.Statement.{statement}
 use Rattle.chip.proofs.merge.Tie as tie
 
+-- the offsets below o that are not valid have been read into the stretch, which is as long as before
 abbrev Inv-loop : tie.InvT-loop
 Inv-loop z flash b stretch₀ v s o₀ stretch o =
     Facing (sizesOf z) (b .0) flash stretch × MergedTo (sizesOf z) (b .0) flash stretch₀ v o stretch

@@ -9,6 +9,7 @@ use Rattle.chip.proofs.Blocks.{programmed-none, programmed-turn, progra
 use Rattle.chip.proofs.program_block.Statement.{statement}
 use Rattle.chip.proofs.program_block.Tie as tie
 
+-- the pages below done are programmed from the stretch, and flash is as long as before
 abbrev Inv-loop : tie.InvT-loop
 Inv-loop z flash₀ b stretch s size done₀ flash done =
     Facing (sizesOf z) (b .0) flash stretch × ProgrammedTo (sizesOf z) (b .0) flash₀ stretch done flash × (done ≤ z .«pages_per_block»)

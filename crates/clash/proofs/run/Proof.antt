@@ -11,6 +11,7 @@ use Rattle.clash.proofs.Running.{Running, next, ends, goes-on, falls, s
 use Rattle.clash.proofs.run.Statement.{statement}
 use Rattle.clash.proofs.run.Tie as tie
 
+-- done bytes of the script's output are written, and what the walk prints from here on is the rest of it
 abbrev Inv-loop : tie.InvT-loop
 Inv-loop script flash₀ wear₀ pspace₀ bspace₀ page₀ out₀ w₀ done₀ flash wear pspace bspace page out w done = Running script w done
     (buffers flash wear pspace bspace) page out

@@ -11,6 +11,7 @@ use Rattle.filter.proofs.Marks.{putIn, passed-none, passed-vacant, pass
 use Rattle.filter.proofs.first_met.Statement.{statement}
 use Rattle.filter.proofs.first_met.Tie as tie
 
+-- the slots from i on, before j, are passed: none was met, and the filter has their page numbers
 abbrev Inv-loop : tie.InvT-loop
 Inv-loop slots seen₀ i p end j₀ seen j = (j ≤ p) × Passed end slots i j seen₀ seen
 

@@ -11,6 +11,7 @@ use Rattle.flushes.proofs.Flushing.{Underway, fits-kept, begins, flush-
 use Rattle.flushes.proofs.clean_all.Statement.{statement}
 use Rattle.flushes.proofs.clean_all.Tie as tie
 
+-- the steps done and those still due are together the whole flush, in numbers and in pages, and no cached block is worn
 abbrev Inv-loop : tie.InvT-loop
 Inv-loop z slots₀ frames₀ valid₀ recency flash₀ wear₀ pspace bspace₀ rewrites₀ merged₀ slots frames valid flash wear bspace rewrites
     merged =

@@ -1,6 +1,5 @@
 use native.Mathlib.Omega.{arith}
 use borrow.Author.Needs.{needs}
-use mathlib.Core.Path.{sym, _∙_}
 use Rattle.script.specs.View.{meant}
 use Rattle.interpret.proofs.Front.{held-as, front-le, front-long, parts-within, lent-parts, line-carried}
 use Rattle.interpret.proofs.line.Statement.{statement}

@@ -6,6 +6,7 @@ use Rattle.page.proofs.Overlay.{overlay, overlay-zero, overlay-step, ov
 use Rattle.page.proofs.exchange_bytes.Statement.{statement}
 use Rattle.page.proofs.exchange_bytes.Tie as tie
 
+-- the first i bytes of x and y have changed places, the rest are as before
 abbrev Inv-loop : tie.InvT-loop
 Inv-loop x₀ y₀ n i₀ x y i =
     (i ≤ length x₀) × ((length x ≡ length x₀) × ((length y ≡ length y₀) × ((x ≡ overlay i y₀ x₀) × (y ≡ overlay i x₀ y₀))))

@@ -8,6 +8,7 @@ use Rattle.page.proofs.Overlay.{overlay, overlay-zero, overlay-piece, o
 use Rattle.page.proofs.move_run.Statement.{statement}
 use Rattle.page.proofs.move_run.Tie as tie
 
+-- the first i bytes of dst are those of src, the rest as before
 abbrev Inv-loop : tie.InvT-loop
 Inv-loop dst₀ src n i₀ dst i = (dst ≡ overlay i src dst₀) × (length dst ≡ length dst₀) × (i ≤ n)
 

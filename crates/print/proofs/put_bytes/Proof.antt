@@ -8,6 +8,7 @@ use Rattle.print.proofs.Put.{put-none, put-more}
 use Rattle.print.proofs.put_bytes.Statement.{statement}
 use Rattle.print.proofs.put_bytes.Tie as tie
 
+-- the first i bytes of src stand in out from at on
 abbrev Inv-loop : tie.InvT-loop
 Inv-loop out₀ at src n i₀ out i = (i ≤ length src) × ((length out ≡ length out₀) × (out ≡ putAt out₀ at (take i src)))
 

@@ -13,6 +13,7 @@ use Rattle.print.proofs.Put.{printed-none, printed-one, printed-then, p
 use Rattle.print.proofs.put_numbers.Statement.{statement}
 use Rattle.print.proofs.put_numbers.Tie as tie
 
+-- the first i numbers are printed, each after a space, and next is the place after them
 abbrev Inv-loop : tie.InvT-loop
 Inv-loop out₀ at numbers next₀ i₀ out next i = (i ≤ length numbers)
     × ((length out ≡ length out₀) × Printed (11 * i) (spaced (map decimal (take i numbers))) out₀ at out next)

@@ -3,6 +3,7 @@ use Prim.Native.Nat.{_-_}
 use Rattle.records.proofs.with_blocks.Statement.{statement}
 use Rattle.records.proofs.with_blocks.Tie as tie
 
+-- nothing is asked of the records that programs run on: only that the loop ends
 abbrev Inv-loop : tie.InvT-loop
 Inv-loop s r₀ f₀ r f = Unit {0}
 

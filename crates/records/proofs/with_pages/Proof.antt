@@ -3,6 +3,7 @@ use Prim.Native.Nat.{_-_}
 use Rattle.records.proofs.with_pages.Statement.{statement}
 use Rattle.records.proofs.with_pages.Tie as tie
 
+-- nothing is asked of the records that programs run on: only that the loop ends
 abbrev Inv-loop : tie.InvT-loop
 Inv-loop a e start step r₀ n₀ i₀ r n i = Unit {0}
 

@@ -9,6 +9,7 @@ use Rattle.script.proofs.Words.{end-hit, end-miss, end-end}
 use Rattle.script.proofs.end_of.Statement.{statement}
 use Rattle.script.proofs.end_of.Tie as tie
 
+-- byte b does not stand between at and i, so the end from i on is the end from at on
 abbrev Inv-loop : tie.InvT-loop
 Inv-loop s at b i₀ i = (i ≤ length s) × (endOf b s at ≡ endOf b s i)
 

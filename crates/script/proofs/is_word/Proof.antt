@@ -8,6 +8,7 @@ use Rattle.script.proofs.Words.{same-long, same-hit, same-miss, same-en
 use Rattle.script.proofs.is_word.Statement.{statement}
 use Rattle.script.proofs.is_word.Tie as tie
 
+-- the first i bytes agree, so the words are the same if what is left of them is
 abbrev Inv-loop : tie.InvT-loop
 Inv-loop w word n i₀ i = (i ≤ length w) × (same w word ≡ same (drop i w) (drop i word))
 

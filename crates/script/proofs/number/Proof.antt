@@ -12,6 +12,7 @@ use Rattle.script.proofs.Value.{number-facts, number-is}
 use Rattle.script.proofs.number.Statement.{statement}
 use Rattle.script.proofs.number.Tie as tie
 
+-- the first i bytes are digits, v is their value, and the rest continues from it
 abbrev Inv-loop : tie.InvT-loop
 Inv-loop w n v₀ i₀ v i = (i ≤ length w) × ((v ≤ 4294967295) × ((valueOf w ≡ valueFrom v (drop i w))
     × ((j : ℕ) → j < i → isDigit (getD w j 0) ≡ true)))

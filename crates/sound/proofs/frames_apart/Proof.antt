@@ -10,6 +10,7 @@ use Rattle.sound.proofs.Parts.{Compared, compared-none, compared-vacant
 use Rattle.sound.proofs.frames_apart.Statement.{statement}
 use Rattle.sound.proofs.frames_apart.Tie as tie
 
+-- the frames before f are compared, with ok as the answer, and met has the remainders of their blocks
 abbrev Inv-loop : tie.InvT-loop
 Inv-loop frames b met₀ ok₀ f₀ met ok f = (f ≤ b) × Compared frames f met ok
 

@@ -21,6 +21,7 @@ use Rattle.sound.proofs.Parts.{vacant-ok, vacant-with, held-test, held-
 use Rattle.sound.proofs.frames_ok.Statement.{statement}
 use Rattle.sound.proofs.frames_ok.Tie as tie
 
+-- the frames before f are as they should be, and the filter has their valid pages
 abbrev Inv-loop : tie.InvT-loop
 Inv-loop sizes frames valid seen₀ k b full f₀ seen f = let d = numbers [] frames valid [] in
     (f ≤ b) × (length seen ≡ 64) × (all f (frameOk (sizesOf sizes) d) ≡ true) × Laid (sizesOf sizes) d f seen

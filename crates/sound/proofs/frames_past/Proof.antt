@@ -14,6 +14,7 @@ use Rattle.model.specs.Soundness.{framePast}
 use Rattle.sound.proofs.frames_past.Statement.{statement}
 use Rattle.sound.proofs.frames_past.Tie as tie
 
+-- ok says whether the frames past B, before f, are vacant with no bits and their own index in the order
 abbrev Inv-loop : tie.InvT-loop
 Inv-loop frames valid recency ok₀ f₀ ok f = (f₀ ≤ f) × ((f ≤ 8)
     × (ok ≡ all f (λ g. ltb g f₀ || (eqb (getD frames g 0) vacant && eqb (getD valid g 0) 0 && eqb (getD recency g 0) g))))

@@ -10,6 +10,7 @@ use Rattle.prelude.proofs.Scan.{all-none, all-more, all-end}
 use Rattle.sound.proofs.new_at.Statement.{statement}
 use Rattle.sound.proofs.new_at.Tie as tie
 
+-- ok says whether none of the first i entries is entry j
 abbrev Inv-loop : tie.InvT-loop
 Inv-loop entries j y ok₀ i₀ ok i = (i ≤ j) × (ok ≡ all i (λ e. not (eqb (getD entries e 0) y)))
 

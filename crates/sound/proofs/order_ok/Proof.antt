@@ -8,6 +8,7 @@ use Rattle.sound.proofs.Order.{Entered, entered-none, entered-more, ord
 use Rattle.sound.proofs.order_ok.Statement.{statement}
 use Rattle.sound.proofs.order_ok.Tie as tie
 
+-- listed has the first i entries of the order and nothing else, all of them below B
 abbrev Inv-loop : tie.InvT-loop
 Inv-loop sizes recency b listed₀ i₀ listed i = (i ≤ b) × Entered b (λ e. getD recency e 0) i listed
 

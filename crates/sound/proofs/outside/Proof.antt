@@ -13,6 +13,7 @@ use Rattle.model.specs.Directory.{inFrame}
 use Rattle.sound.proofs.outside.Statement.{statement}
 use Rattle.sound.proofs.outside.Tie as tie
 
+-- ok says whether none of the frames before f has the page valid
 abbrev Inv-loop : tie.InvT-loop
 Inv-loop frames valid k b block offset ok₀ f₀ ok f = (f ≤ b) × (ok
     ≡ all f (λ g. not (eqb (getD frames g 0) (block .0) && bit (getD valid g 0) offset)))

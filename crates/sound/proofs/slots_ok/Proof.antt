@@ -10,6 +10,7 @@ use Rattle.sound.proofs.Parts.{Tested, tested-more, tested-passed}
 use Rattle.sound.proofs.slots_ok.Statement.{statement}
 use Rattle.sound.proofs.slots_ok.Tie as tie
 
+-- the slots before j are as they should be, and the filter has their pages beside the frames' valid pages
 abbrev Inv-loop : tie.InvT-loop
 Inv-loop sizes slots frames valid seen₀ p j₀ seen j = (j ≤ p) × Tested (sizesOf sizes) (numbers slots frames valid []) j seen
 

@@ -14,6 +14,7 @@ use Rattle.model.specs.Soundness.{slotPast}
 use Rattle.sound.proofs.slots_past.Statement.{statement}
 use Rattle.sound.proofs.slots_past.Tie as tie
 
+-- ok says whether the slots past P, before j, are vacant
 abbrev Inv-loop : tie.InvT-loop
 Inv-loop slots ok₀ j₀ ok j = (j₀ ≤ j) × ((j ≤ 128) × (ok ≡ all j (λ i. ltb i j₀ || eqb (getD slots i 0) vacant)))
 

@@ -1,6 +1,6 @@
 use borrow.Author.Needs.{needs}
 use native.Mathlib.Omega.{arith}
-use mathlib.Core.Path.{_≡_, refl, _∙_}
+use mathlib.Core.Path.{_≡_, refl}
 use mathlib.Core.Logic.{_⊎_, inl, inr}
 use Prim.Native.Nat.{_-_, _<_}
 use lib.ListN.{length}
@@ -11,6 +11,7 @@ use Rattle.walk.proofs.Onward.{more-true, more-false, memory-kept, onwa
 use Rattle.walk.proofs.run.Statement.{statement}
 use Rattle.walk.proofs.run.Tie as tie
 
+-- what is printed and what is left to print are together what they were at the start, and a line was walked if one could be
 abbrev Inv-loop : tie.InvT-loop
 Inv-loop script flash₀ wear₀ pspace₀ bspace₀ page₀ out₀ r₀ flash wear pspace bspace page out r =
     Memory (buffers flash wear pspace bspace) page × ((length out ≡ length out₀)

@@ -5,6 +5,7 @@ use Rattle.address.proofs.Steps.{in-range, one-after, block-le}
 use Rattle.address.proofs.range.block_after.Statement.{statement}
 use Rattle.address.proofs.range.block_after.Tie as tie
 
+-- so far: b is a block that begins at n or before it, and last is its last page
 abbrev Inv-loop : tie.InvT-loop
 Inv-loop n k b₀ last₀ b last = (last ≡ b * k + (k - 1)) × (b * k ≤ n .0)
 

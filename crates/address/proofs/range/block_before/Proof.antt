@@ -6,6 +6,7 @@ use Rattle.address.proofs.Steps.{in-range, one-before}
 use Rattle.address.proofs.range.block_before.Statement.{statement}
 use Rattle.address.proofs.range.block_before.Tie as tie
 
+-- so far: first is the first page of block b, and n lies before the block's end
 abbrev Inv-loop : tie.InvT-loop
 Inv-loop n k b₀ first₀ b first = (first ≡ b * k) × (b < 262144) × (n .0 < first + k)
 

@@ -7,6 +7,7 @@ use Rattle.page.proofs.Overlay.{overlay, overlay-zero, overlay-step, overlay-al
 use Rattle.perform.proofs.memory.clear.Statement.{statement}
 use Rattle.perform.proofs.memory.clear.Tie as tie
 
+-- the first i numbers are 0, the rest as before
 abbrev Inv-loop : tie.InvT-loop
 Inv-loop numbers₀ n i₀ numbers i = (i ≤ length numbers₀) × ((length numbers ≡ length numbers₀)
     × (numbers ≡ overlay i (replicate (length numbers₀) 0) numbers₀))

@@ -6,6 +6,7 @@ use Rattle.page.proofs.Overlay.{overlay, overlay-zero, overlay-step, overlay-al
 use Rattle.perform.proofs.memory.fill.Statement.{statement}
 use Rattle.perform.proofs.memory.fill.Tie as tie
 
+-- the first i bytes are b, the rest as before
 abbrev Inv-loop : tie.InvT-loop
 Inv-loop bytes₀ b n i₀ bytes i = (i ≤ length bytes₀) × ((length bytes ≡ length bytes₀)
     × (bytes ≡ overlay i (replicate (length bytes₀) b) bytes₀))

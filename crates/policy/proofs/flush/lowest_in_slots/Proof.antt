@@ -14,6 +14,7 @@ use Rattle.policy.proofs.Lowest.{number, lowest-none, lowest-some}
 use Rattle.policy.proofs.flush.lowest_in_slots.Statement.{statement}
 use Rattle.policy.proofs.flush.lowest_in_slots.Tie as tie
 
+-- low is the least entry of the slots before i
 abbrev Inv-loop : tie.InvT-loop
 Inv-loop z slots end low₀ i₀ low i = (i ≤ end) × (low ≡ least i (slotAt (numbers slots [] [] [])) vacant)
 

@@ -20,6 +20,7 @@ use Rattle.policy.proofs.flush.oldest_occupied.Tie as tie
 abbrev passes : List ℕ → List ℕ → ℕ → Bool
 passes frames recency j = occupied (numbers [] frames [] recency) (getD recency j 0)
 
+-- the first i frames of the order are vacant
 abbrev Inv-loop : tie.InvT-loop
 Inv-loop frames recency end i₀ i = (i ≤ end) × Missed (passes frames recency) i
 

@@ -25,6 +25,7 @@ block frames f = getD frames f 0
 abbrev taken : List ℕ → ℕ → Bool
 taken frames f = ltb (block frames f) vacant
 
+-- low is the lowest worn block of the frames before f, or no block
 abbrev Inv-loop : tie.InvT-loop
 Inv-loop z frames wear low₀ f₀ low f = (f ≤ z .frames) × (low .0 ≡ least f (worn-block (sizesOf z) wear (taken frames) (block frames))
     (z .blocks))

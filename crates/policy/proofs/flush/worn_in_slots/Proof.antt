@@ -27,6 +27,7 @@ taken slots i = ltb (getD slots i 0) vacant
 abbrev block : Sizes → List ℕ → ℕ → ℕ
 block z slots i = getD slots i 0 / z .«pages_per_block»
 
+-- low is the lowest worn block with a page in a slot before i, or no block
 abbrev Inv-loop : tie.InvT-loop
 Inv-loop z slots wear m low₀ i₀ low i = (i ≤ z .slots) × (low .0 ≡ least i (worn-block (sizesOf z) wear (taken slots) (block z slots))
     (z .blocks))

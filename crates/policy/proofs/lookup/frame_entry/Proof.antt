@@ -10,6 +10,7 @@ use Rattle.model.specs.Policy.{frameOf}
 use Rattle.policy.proofs.lookup.frame_entry.Statement.{statement}
 use Rattle.policy.proofs.lookup.frame_entry.Tie as tie
 
+-- no frame before f has the entry x
 abbrev Inv-loop : tie.InvT-loop
 Inv-loop frames x end f₀ f = (f ≤ end) × Missed (λ g. eqb (getD frames g 0) x) f
 

@@ -22,6 +22,7 @@ use Rattle.policy.proofs.lookup.frame_with.Tie as tie
 abbrev holds : List ℕ → List ℕ → ℕ → ℕ → ℕ → Bool
 holds frames valid b o f = eqb (getD frames f 0) b && bit (getD valid f 0) o
 
+-- no frame before f has the page valid
 abbrev Inv-loop : tie.InvT-loop
 Inv-loop frames valid end b o f₀ f = (f ≤ end) × Missed (holds frames valid (b .0) o) f
 

@@ -11,6 +11,7 @@ use Rattle.cache.proofs.Among.{among-one}
 use Rattle.policy.proofs.lookup.slot_entry.Statement.{statement}
 use Rattle.policy.proofs.lookup.slot_entry.Tie as tie
 
+-- no slot before i has the entry x
 abbrev Inv-loop : tie.InvT-loop
 Inv-loop slots x end i₀ i = Missed (λ j. eqb (getD slots j 0) x) i
 

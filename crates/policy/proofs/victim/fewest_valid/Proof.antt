@@ -16,6 +16,7 @@ use Rattle.policy.proofs.victim.fewest_valid.Tie as tie
 abbrev pages : Sizes → List ℕ → ℕ → ℕ
 pages z valid = validCount (sizesOf z) (numbers [] [] valid [])
 
+-- fewest is the least number of valid pages among the frames before f
 abbrev Inv-loop : tie.InvT-loop
 Inv-loop z valid fewest₀ f₀ fewest f = (f ≤ z .frames) × (fewest ≡ least f (pages z valid) (suc (z .«pages_per_block»)))
 

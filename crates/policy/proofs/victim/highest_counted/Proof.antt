@@ -15,6 +15,7 @@ use Rattle.policy.proofs.Counts.{Counted, counted-none, counted-vacant,
 use Rattle.policy.proofs.victim.highest_counted.Statement.{statement}
 use Rattle.policy.proofs.victim.highest_counted.Tie as tie
 
+-- the table counts the pages of each block in the slots before i, and lead is the highest rank met
 abbrev Inv-loop : tie.InvT-loop
 Inv-loop z slots counts₀ end m lead₀ i₀ counts lead i = (i ≤ end) × (length counts ≡ length counts₀)
     × Counted (sizesOf z) (numbers slots [] [] []) i counts lead

@@ -24,6 +24,7 @@ pages z valid recency i = validCount (sizesOf z) (numbers [] [] valid []) (getD 
 abbrev passes : Sizes → List ℕ → List ℕ → ℕ → ℕ → Bool
 passes z valid recency v i = eqb (pages z valid recency i) v
 
+-- none of the first i frames of the order has v valid pages
 abbrev Inv-loop : tie.InvT-loop
 Inv-loop z valid recency v i₀ i = (i ≤ z .frames) × Missed (passes z valid recency v) i
 

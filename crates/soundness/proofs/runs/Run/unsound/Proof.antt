@@ -3,6 +3,7 @@ use Prim.Native.Nat.{_-_}
 use Rattle.soundness.proofs.runs.Run.unsound.Statement.{statement}
 use Rattle.soundness.proofs.runs.Run.unsound.Tie as tie
 
+-- nothing is asked of a count that a test prints: only that the loop ends
 abbrev Inv-loop : tie.InvT-loop
 Inv-loop x s d to count₀ i₀ count i = Unit {0}
 

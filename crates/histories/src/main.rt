@@ -11,9 +11,11 @@ fn main() {
     scripts();
     report::heading(b"script A against a wrong expectation");
     check(b"script-a.in", b"wrong.out");
-    report::heading(b"calls on a sound record, and with an entry spoilt");
+    report::heading(b"calls on a sound record");
+    spoilt::none();
+    report::heading(b"records with an entry spoilt, by every call");
     spoilt::entries();
-    report::heading(b"calls on a record with a size beyond its limits");
+    report::heading(b"records with a size beyond its limits, by every call");
     spoilt::sizes();
 }
 

@@ -61,7 +61,7 @@ fn line(s: &[u8], at: usize)
     text(&s[at..e]);
 }
 
-// A case of the calls: how many must be refused 4, with nothing changed, and how many were.
+// How many calls, or records, must be refused 4, with nothing changed, and how many were.
 pub fn tally(name: &[u8], expected: u64, got: u64) {
     text(name);
     text(b": expected ");

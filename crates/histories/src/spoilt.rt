@@ -1,4 +1,4 @@
-// The four calls on records that are not sound: each answers refusal 4, and changes nothing.
+// The calls on records that are not sound: each answers refusal 4, and changes nothing.
 use crate::report;
 use address::PageNo;
 use answer::Flush;
@@ -14,6 +14,9 @@ use records::with;
 use store::Cache;
 ghost use Prim.Native.Nat.{_≤_};
 
+// How many calls there are on a record: each has a function below, and a place in `refusals`.
+const CALLS: u64 = 5;
+
 // A sound record of S = 1, K = 4, N = 8, P = 3, B = 2, W = 9: pages 24 to 26 in its slots, all pages of blocks 0 and 1 in its
 // frames.
 fn sound() -> Cache {
@@ -24,9 +27,13 @@ fn sound() -> Cache {
     }
 }
 
-// The sound record, and each of its entries spoilt alone.
-pub fn entries() {
+// The calls on the sound record.
+pub fn none() {
     report::tally(b"as it is", 0, refusals(sound()));
+}
+
+// Each entry of the sound record spoilt alone.
+pub fn entries() {
     slots();
     frames();
     order();
@@ -34,39 +41,39 @@ pub fn entries() {
 }
 
 fn slots() {
-    each(b"page 24, in slot 0, again", 1, 3, Entry::Slot(24), 8);
-    each(b"page 0, valid in frame 0", 0, 3, Entry::Slot(0), 12);
-    each(b"page N * K", 0, 3, Entry::Slot(32), 12);
-    each(b"page vacant less 1", 0, 3, Entry::Slot(4294967294), 12);
+    each(b"page 24, in slot 0, again", 1, 3, Entry::Slot(24), 2);
+    each(b"page 0, valid in frame 0", 0, 3, Entry::Slot(0), 3);
+    each(b"page N * K", 0, 3, Entry::Slot(32), 3);
+    each(b"page vacant less 1", 0, 3, Entry::Slot(4294967294), 3);
 }
 
 fn frames() {
-    each(b"block 0, in frame 0, again", 1, 2, Entry::Frame(0), 4);
-    each(b"block 6, of pages in slots", 0, 2, Entry::Frame(6), 8);
-    each(b"block N", 0, 2, Entry::Frame(8), 8);
-    each(b"vacant with valid pages", 0, 2, Entry::Frame(VACANT), 8);
-    each(b"no valid page", 0, 2, Entry::Valid(0), 8);
-    each(b"valid bit at K", 0, 2, Entry::Valid(17), 8);
+    each(b"block 0, in frame 0, again", 1, 2, Entry::Frame(0), 1);
+    each(b"block 6, of pages in slots", 0, 2, Entry::Frame(6), 2);
+    each(b"block N", 0, 2, Entry::Frame(8), 2);
+    each(b"vacant with valid pages", 0, 2, Entry::Frame(VACANT), 2);
+    each(b"no valid page", 0, 2, Entry::Valid(0), 2);
+    each(b"valid bit at K", 0, 2, Entry::Valid(17), 2);
     each(
         b"valid bit at 63",
         0,
         2,
         Entry::Valid(9223372036854775809),
-        8,
+        2,
     );
 }
 
 fn order() {
-    each(b"frame 0 again in the order", 1, 2, Entry::Order(0), 4);
-    each(b"frame B in the order", 0, 2, Entry::Order(2), 8);
-    each(b"frame 255 in the order", 0, 2, Entry::Order(255), 8);
+    each(b"frame 0 again in the order", 1, 2, Entry::Order(0), 1);
+    each(b"frame B in the order", 0, 2, Entry::Order(2), 2);
+    each(b"frame 255 in the order", 0, 2, Entry::Order(255), 2);
 }
 
 fn past() {
-    each(b"a page past P", 3, 128, Entry::Slot(30), 500);
-    each(b"a block past B", 2, 8, Entry::Frame(5), 24);
-    each(b"a valid page past B", 2, 8, Entry::Valid(1), 24);
-    each(b"another frame past B", 2, 8, Entry::Order(0), 24);
+    each(b"a page past P", 3, 128, Entry::Slot(30), 125);
+    each(b"a block past B", 2, 8, Entry::Frame(5), 6);
+    each(b"a valid page past B", 2, 8, Entry::Valid(1), 6);
+    each(b"another frame past B", 2, 8, Entry::Order(0), 6);
 }
 
 // Each size short of its limit, and past it.
@@ -91,7 +98,7 @@ fn sized(name: &[u8], s: u32, k: u32, n: u32, p: u32, b: u32, w: u32) {
         sizes: records::sizes(s, k, n, p, b, w),
         directory: Directory::vacant(),
     };
-    report::tally(name, 4, refusals(c));
+    report::tally(name, 1, one(refused(c)));
 }
 
 // The entries from one index to another, each alone replaced by x.
@@ -99,7 +106,7 @@ fn each(name: &[u8], from: usize, to: usize, x: Entry, expected: u64) {
     report::tally(name, expected, spoilt(from, to, x));
 }
 
-// How many calls on these records are refused.
+// How many of these records every call refuses.
 fn spoilt(from: usize, to: usize, x: Entry) -> u64 {
     let c = sound();
     let s = c.sizes;
@@ -111,15 +118,20 @@ fn spoilt(from: usize, to: usize, x: Entry) -> u64 {
             sizes: s,
             directory: with(d, i, x),
         };
-        count = std::num::wrapping_add_u64(count, refusals(record));
+        count = std::num::wrapping_add_u64(count, one(refused(record)));
         i += 1;
     }
     count
 }
 
-// How many of the four calls on a record are refused.
+// Whether every call refuses a record.
+fn refused(c: Cache) -> bool {
+    refusals(c) == CALLS
+}
+
+// How many of the calls refuse a record.
 fn refusals(c: Cache) -> u64 {
-    one(reads(c)) + one(writes(c)) + one(steps(c)) + one(flushes(c))
+    one(reads(c)) + one(writes(c)) + one(parts(c)) + one(steps(c)) + one(flushes(c))
 }
 
 fn one(yes: bool) -> u64
@@ -165,6 +177,32 @@ fn writes(c: Cache) -> bool {
         return false;
     };
     is_record(why) & same(c, next) & untouched(flash, wear, pspace, bspace)
+}
+
+// Whether a part write is.
+fn parts(c: Cache) -> bool {
+    let mut flash = [1u8; 32];
+    let mut wear = [2u32; 8];
+    let mut pspace = [3u8; 3];
+    let mut bspace = [4u8; 8];
+    let bytes = [6u8; 1];
+    let mut page = [5u8; 1];
+    let r = c.write_part(
+        &mut flash,
+        &mut wear,
+        &mut pspace,
+        &mut bspace,
+        PageNo(24),
+        0,
+        &bytes,
+        &mut page,
+    );
+    let next = r.cache;
+    let answer = r.answer;
+    let Write::Refused(why) = answer else {
+        return false;
+    };
+    is_record(why) & same(c, next) & untouched(flash, wear, pspace, bspace) & (page[0] == 5)
 }
 
 // Whether a flush step is.

@@ -18,8 +18,11 @@ loop-holds c = search needs
 with-requires : tie.Need-with-requires Inv-loop μ-loop
 with-requires c κs = search needs
 
-refusals-requires : tie.Need-refusals-requires Inv-loop μ-loop
-refusals-requires c κs = search needs
+refused-requires : tie.Need-refused-requires Inv-loop μ-loop
+refused-requires c κs = search needs
+
+one-requires : tie.Need-one-requires Inv-loop μ-loop
+one-requires c κs = search needs
 
 wrapping-add-u64-requires : tie.Need-wrapping-add-u64-requires Inv-loop μ-loop
 wrapping-add-u64-requires c κs = search needs
@@ -45,7 +48,8 @@ spoilt-spec =
     sound-requires
     loop-holds
     with-requires
-    refusals-requires
+    refused-requires
+    one-requires
     wrapping-add-u64-requires
     add-i
     loop-less

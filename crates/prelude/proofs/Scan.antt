@@ -372,7 +372,7 @@ pub record Leads (n : ℕ) (g : ℕ → ℕ) (r : ℕ) : Type 0 where
   pub le : (j : ℕ) → j < n → g j ≤ g r
   pub lt : (j : ℕ) → j < r → g j < g r
 
-argmax-first : (n : ℕ) (g : ℕ → ℕ) (i : ℕ) → i < argmax n g → g i < g (argmax n g)
+pub argmax-first : (n : ℕ) (g : ℕ → ℕ) (i : ℕ) → i < argmax n g → g i < g (argmax n g)
 unfolding argmax
 argmax-first zero g i = λ l. absurd (omega arith)
 argmax-first (suc n) g i = by-test (ltb (g (argmax n g)) (g n))

@@ -16,6 +16,10 @@ by-test false f g = g refl
 pub clash : {X : Type 0} {b : Bool} → b ≡ true → b ≡ false → X
 clash {b} p q = absurd (let z : _≡_ {A = ℕ} 0 1 = (ap (λ c. cond c 0 1) (sym p ∙ q)) in omega arith)
 
+-- a test that does not pass
+pub fails : (b : Bool) → (b ≡ true → ⊥) → b ≡ false
+fails b h = by-test b (λ e. absurd (h e)) (λ e. e)
+
 pub and-l : (a b : Bool) → (a && b) ≡ true → a ≡ true
 and-l true b h = refl
 and-l false b h = h

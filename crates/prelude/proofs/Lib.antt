@@ -3,3 +3,4 @@ pub mod Scan
 pub mod Tab
 pub mod Bits
 pub mod Pages
+pub mod Rules

@@ -14,3 +14,5 @@ pub mod AuditClauses
 pub mod AuditTable
 pub mod Calls
 pub mod ScriptA
+pub mod RulesWords
+pub mod RulesRecord

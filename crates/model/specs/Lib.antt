@@ -5,3 +5,5 @@ pub mod Policy
 pub mod Moves
 pub mod Calls
 pub mod Lists
+pub mod RulesWords
+pub mod RulesRecord

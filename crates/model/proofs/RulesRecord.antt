@@ -1,0 +1,228 @@
+-- The laws of the record and of opening hold: each test is turned into facts and back, and the refusals follow the tests' order.
+use mathlib.Core.Path.{_≡_, refl, sym, ap, _∙_}
+use mathlib.Core.Logic.{_⊎_, inl, inr}
+use mathlib.Core.Bool.{Bool, true, false}
+use Prim.Native.Nat.{ℕ, zero, suc, _+_, _-_, _*_, _/_, _%_, _^_, _≤_, _<_}
+use native.Mathlib.Nat.{pow-suc, mod-lt, div-add-mod'}
+use native.Mathlib.Omega.{arith}
+use lib.Dec.{leb, ltb, eqb}
+use lib.ListN.{length, getD, getD-replicate, length-replicate}
+use lib.Pow.{pow-pos, shr-shr}
+use lib.Arith.{digits-lt}
+use borrow.Author.Tests.{le-leb, lt-leb, ltb-true, ltb-false, eqb-true, eqb-false, eq-eqb}
+use Rattle.prelude.specs.Bits.{bit}
+use Rattle.prelude.proofs.Tests.{by-test, clash, fails, each, every-of}
+use Rattle.prelude.proofs.Scan.{all-of, all-fails, listed-at, listed-once}
+use Rattle.prelude.proofs.Tab.{length-tab, getD-tab}
+use Rattle.prelude.proofs.Bits.{bit-zero, bit-pos, bits-some, bit-high}
+use Rattle.model.specs.Sizes.{Sizes, vacant, sizesOk}
+use Rattle.model.specs.Directory.{Directory, slotAt, frameAt, validAt, recencyAt, vacantDirectory, blankCache}
+use Rattle.model.specs.Soundness.{sound, Sound}
+use Rattle.model.specs.Calls.{Buffers, lentOk, openStore}
+use Rattle.model.specs.RulesRecord.{VacantRule, WithinLimits, SizesRule, RightLengths, LengthsRule, SoundBy, SoundRule, AllVacant}
+use Rattle.model.specs.RulesRecord.{StartRule, BlankRule, BlankUnsoundRule, OpeningSizeRule, OpeningBufferRule, OpeningOverwornRule}
+use Rattle.model.specs.RulesRecord.{OpeningDoneRule}
+use Rattle.model.proofs.Soundness.{limits-of, limits-test, sound-facts, facts-sound, pages-small}
+use Rattle.model.proofs.Lookup.{page-div, page-mod, page-split, block-lt, offset-lt, frame-has, has-frame, block-vacant}
+
+-- ---- sizes
+
+pub vacant-rule : VacantRule
+vacant-rule = refl
+
+pub sizes-rule : SizesRule
+sizes-rule sz = (
+  (λ h. let l = limits-of sz h in record {
+    S-is = (l .S-low, l .S-high);
+    K-is = (l .K-low, l .K-high);
+    N-is = (l .N-low, l .N-high);
+    P-is = (l .P-low, l .P-high);
+    B-is = (l .B-low, l .B-high);
+    W-is = (l .W-low, l .W-high);
+  }),
+  (λ l. limits-test sz (record {
+    S-low = l .S-is .0;
+    S-high = l .S-is .1;
+    K-low = l .K-is .0;
+    K-high = l .K-is .1;
+    N-low = l .N-is .0;
+    N-high = l .N-is .1;
+    P-low = l .P-is .0;
+    P-high = l .P-is .1;
+    B-low = l .B-is .0;
+    B-high = l .B-is .1;
+    W-low = l .W-is .0;
+    W-high = l .W-is .1;
+  })),
+)
+
+pub lengths-rule : LengthsRule
+unfolding lentOk
+lengths-rule sz u = (
+  (λ h. let e = each _ h in record {
+    flash-is = eqb-true _ _ (e .0);
+    wear-is = eqb-true _ _ (e .1 .0);
+    pspace-is =
+        eqb-true _ _ (e .1 .1 .0);
+    bspace-is = eqb-true _ _ (e .1 .1 .1 .0);
+  }),
+  (λ l. every-of _ (eq-eqb _ _ (l .flash-is), (eq-eqb _ _ (l .wear-is), (eq-eqb _ _ (l .pspace-is), (eq-eqb _ _ (l .bspace-is), tt))))),
+)
+
+-- ---- when a record is sound
+
+-- a number without a bit at k or above is below 2 ^ k
+small-pow : (x : ℕ) → x < 2 ^ x
+small-pow zero = pow-pos 0
+small-pow (suc x) = rw pow-suc (let h = small-pow x in omega arith)
+
+high-part : (m k : ℕ) → 2 ^ k ≤ m → 0 < m / 2 ^ k
+high-part m k h = by-test (eqb (m / 2 ^ k) 0)
+    (λ e. absurd (let q : 0 * 2 ^ k + m % 2 ^ k ≡ m = (rw (eqb-true (m / 2 ^ k) 0 e) at (div-add-mod' m (2 ^ k))) in
+    let r = mod-lt m (pow-pos k) in omega arith))
+    (λ e. let ne = eqb-false (m / 2 ^ k) 0 e in omega arith)
+
+none-above : (k m : ℕ) → ((o : ℕ) → k ≤ o → bit m o ≡ false) → m < 2 ^ k
+unfolding bit
+none-above k m h = by-test (ltb m (2 ^ k)) (λ e. ltb-true m (2 ^ k) e)
+    (λ e. let l = ltb-false m (2 ^ k) e in let t = bits-some (m / 2 ^ k) (m / 2 ^ k) (high-part m k l) (small-pow (m / 2 ^ k)) in
+    let o = t .0 in
+    clash (ap (λ (x : ℕ). eqb (x % 2) 1) (sym (shr-shr m k o)) ∙ t .2) (h (k + o) (omega arith)))
+
+none-at-all : (m : ℕ) → ((o : ℕ) → bit m o ≡ false) → m ≡ 0
+none-at-all m h = let l = none-above 0 m (λ o k. h o) in omega arith
+
+module _ (sz : Sizes) (d : Directory) where
+  said : Sound sz d → SoundBy sz d
+  said s = record {
+    sizes-are = sizes-rule sz .0 (limits-test sz (s .limits));
+    slots-are = s .shape .slots-length;
+    frames-are = s .shape .frames-length;
+    valid-are = s .shape .valid-length;
+    order-is = s .shape .recency-length;
+    slot-in = s .entries .slot-in;
+    frame-in = λ f l. elim (s .entries .frame-in f l) [
+      | inl e ↦ inl (e .0, λ o. ap (λ (x : ℕ). bit x o) (e .1) ∙ bit-zero o)
+      | inr e ↦ inr (
+        e .0,
+        (let t = bits-some (sz .K) (validAt d f) (e .1) (e .2) in
+            (t .0, t .2)),
+        λ o k. bit-high (sz .K) (validAt d f) o (e .2) k,
+      )
+    ];
+    slots-differ = λ i j il jl e. by-test (ltb (slotAt d i) vacant)
+        (λ t. absurd (let q = s .entries .slots-apart i j (omega arith) jl (ltb-true _ vacant t) e in omega arith))
+        (λ t. let g = ltb-false (slotAt d i) vacant t in elim
+        (s .entries .slot-in i (omega arith)) [ inl q ↦ q | inr q ↦ absurd (let p = pages-small sz (s .limits) in omega arith) ]);
+    frames-differ = λ f g fl gl e. by-test (ltb (frameAt d f) vacant)
+        (λ t. absurd (let q = s .entries .frames-apart f g (omega arith) gl (ltb-true _ vacant t) e in omega arith))
+        (λ t. let v = ltb-false (frameAt d f) vacant t in elim
+        (s .entries .frame-in f (omega arith)) [
+          | inl q ↦ q .0
+          | inr q ↦ absurd (let p = block-vacant sz (s .limits) (frameAt d f) (q .0) in
+              omega arith)
+        ]);
+    cached-once = λ i f b o il fl bl ol e k h. s .entries .once i f il fl
+        (elim (s .entries .slot-in i il) [
+          | inl q ↦ absurd (let p = pages-small sz (s .limits) in
+              let w = page-below b o bl ol in omega arith)
+          | inr q ↦ (let p = pages-small sz (s .limits) in omega arith)
+        ])
+        (has-frame sz d (slotAt d i) f (k ∙ sym (ap (λ (x : ℕ). x / sz .K) e
+        ∙ page-div sz (s .limits) b o ol)) (ap (λ (x : ℕ). bit (validAt d f) x) (ap (λ (x : ℕ). x % sz .K) e
+        ∙ page-mod sz (s .limits) b o ol) ∙ h));
+    order-has = s .listed .recency-has;
+    order-once = listed-once (sz .B) (recencyAt d) (s .listed .recency-has);
+    slots-past = s .past .slot-past;
+    frames-past = s .past .frame-past;
+  }
+    where
+      page-below : (b o : ℕ) → b < sz .N → o < sz .K → b * sz .K + o < sz .N * sz .K
+      page-below b o bl ol = digits-lt bl ol
+
+  meant : SoundBy sz d → Sound sz d
+  meant s =
+      let limits = limits-of sz (sizes-rule sz .1 (s .sizes-are)) in
+      record {
+        limits = limits;
+        shape = record {
+          slots-length = s .slots-are;
+          frames-length = s .frames-are;
+          valid-length = s .valid-are;
+          recency-length =
+              s .order-is;
+        };
+        entries = record {
+          slot-in = s .slot-in;
+          slots-apart = two (sz .P) (slotAt d) (s .slots-differ);
+          frame-in = λ f l. elim (s .frame-in f l) [
+            | inl e ↦ inl (e .0, none-at-all (validAt d f) (e .1))
+            | inr e ↦ inr (e .0, bit-pos (validAt d f) (e .1 .0) (e .1 .1), none-above (sz .K) (validAt d f) (e .2))
+          ];
+          frames-apart = two (sz .B) (frameAt d) (s .frames-differ);
+          once = λ i f il fl v q. let h = frame-has sz d (slotAt d i) f q in elim (s .slot-in i il) [
+            | inl e ↦ omega arith
+            | inr e ↦ s .cached-once i f (slotAt d i / sz .K) (slotAt d i % sz .K) il fl (block-lt sz limits (slotAt d i) e)
+                (offset-lt sz limits (slotAt d i))
+                (sym (page-split sz limits (slotAt d i) (slotAt d i / sz .K) refl)) (h .0) (h .1)
+          ];
+        };
+        listed = record { recency-lt = λ i l. listed-at (sz .B) (recencyAt d) (s .order-has) i l .0; recency-has = s .order-has };
+        past = record { slot-past = s .slots-past; frame-past = s .frames-past };
+      }
+    where
+      two : (n : ℕ) (g : ℕ → ℕ) → ((i j : ℕ) → i < j → j < n → g i ≡ g j → g i ≡ vacant) → (i j : ℕ) → i < n → j < n → g i < vacant
+          → g i ≡ g j → i ≡ j
+      two n g h i j il jl v e = by-test (ltb i j)
+          (λ t. absurd (let q = h i j (ltb-true i j t) jl e in omega arith))
+          (λ t. by-test (ltb j i)
+          (λ u. absurd (let q = h j i (ltb-true j i u) il (sym e) in omega arith))
+          (λ u. let x = ltb-false i j t in let y = ltb-false j i u in omega arith))
+
+pub sound-rule : SoundRule
+sound-rule sz d = ((λ h. said sz d (sound-facts sz d h)), (λ s. facts-sound sz d (meant sz d s)))
+
+-- ---- the blank record, and opening
+
+pub start-rule : StartRule
+unfolding vacantDirectory
+start-rule = record {
+  slots-are = length-replicate 128 vacant;
+  frames-are = length-replicate 8 vacant;
+  valid-are = length-replicate {A = ℕ} 8 0;
+  order-is = length-tab 8 _;
+  slot-is = λ i l. getD-replicate 128 i vacant 0 l;
+  frame-is = λ f l. getD-replicate 8 f vacant 0 l;
+  valid-is = λ f l. getD-replicate 8 f 0 0 l;
+  order-at = λ f l. getD-tab 8 (λ i. i) 0 f l;
+}
+
+pub blank-rule : BlankRule
+unfolding blankCache
+blank-rule = (refl, start-rule)
+
+pub blank-unsound-rule : BlankUnsoundRule
+unfolding blankCache
+blank-unsound-rule = by-test (sound (blankCache .sizes) (blankCache .directory))
+    (λ h. absurd (let k = sound-rule (blankCache .sizes) (blankCache .directory) .0 h .sizes-are .K-is .0 in omega arith)) (λ h. h)
+
+pub opening-size-rule : OpeningSizeRule
+unfolding openStore
+opening-size-rule sz u h = let e = fails (sizesOk sz) (λ t. h (sizes-rule sz .0 t)) in (rw (e, openStore), rw (e, openStore))
+
+pub opening-buffer-rule : OpeningBufferRule
+unfolding openStore
+opening-buffer-rule sz u l h = let a = sizes-rule sz .1 l in let e = fails (lentOk sz u) (λ t. h (lengths-rule sz u .0 t)) in
+    (rw (a, openStore) (rw e), rw (a, openStore) (rw e))
+
+pub opening-overworn-rule : OpeningOverwornRule
+unfolding openStore
+opening-overworn-rule sz u l r b bl h = let a = sizes-rule sz .1 l in let e = lengths-rule sz u .1 r in
+    let c = all-fails (sz .N) (λ i. leb (getD (u .wear) i 0) (sz .W)) b bl (lt-leb (getD (u .wear) b 0) (sz .W) h) in
+    (rw (a, openStore) (rw e (rw c)), rw (a, openStore) (rw e (rw c)))
+
+pub opening-done-rule : OpeningDoneRule
+unfolding openStore
+opening-done-rule sz u l r h = let a = sizes-rule sz .1 l in let e = lengths-rule sz u .1 r in
+    let c = all-of (sz .N) (λ i. leb (getD (u .wear) i 0) (sz .W)) (λ b bl. le-leb _ _ (h b bl)) in
+    (rw (a, openStore) (rw e (rw c)), rw (a, openStore) (rw e (rw c)), rw (a, openStore) (rw e (rw c start-rule)))

@@ -1,0 +1,129 @@
+-- The rules of document 01 said a second time, as laws over what stands in the record, in the paper's order.
+-- Part 1: chip, page space, block space; the cache record; opening.
+use mathlib.Core.Path.{_≡_}
+use mathlib.Core.Logic.{_⊎_}
+use mathlib.Core.Bool.{true, false}
+use Prim.Native.Nat.{ℕ, _+_, _*_, _≤_, _<_}
+use lib.ListN.{length, getD}
+use Rattle.prelude.specs.Bits.{bit}
+use Rattle.model.specs.Sizes.{Sizes, vacant, sizesOk}
+use Rattle.model.specs.Directory.{Directory, slotAt, frameAt, validAt, recencyAt, vacantDirectory, blankCache}
+use Rattle.model.specs.Soundness.{sound}
+use Rattle.model.specs.Calls.{openDone, refused, Buffers, lentOk, openStore}
+use Rattle.model.specs.RulesWords.{_⇔_}
+
+-- ---- sizes and buffers
+
+-- Vacant is 4,294,967,295.
+abbrev pub VacantRule : Type 0
+VacantRule = vacant ≡ 4294967295
+
+-- Page bytes S 1 to 2,048; pages per block K 2 to 64; flash blocks N 1 to 4,096; page places P 1 to 128; block frames B 1 to 8; wear limit
+-- W 1 to 1,000,000.
+pub record WithinLimits (sz : Sizes) : Type 0 where
+  pub S-is : (1 ≤ sz .S) × (sz .S ≤ 2048)
+  pub K-is : (2 ≤ sz .K) × (sz .K ≤ 64)
+  pub N-is : (1 ≤ sz .N) × (sz .N ≤ 4096)
+  pub P-is : (1 ≤ sz .P) × (sz .P ≤ 128)
+  pub B-is : (1 ≤ sz .B) × (sz .B ≤ 8)
+  pub W-is : (1 ≤ sz .W) × (sz .W ≤ 1000000)
+
+-- The test of the sizes passes exactly within these limits.
+abbrev pub SizesRule : Type 0
+SizesRule = (sz : Sizes) → (sizesOk sz ≡ true) ⇔ WithinLimits sz
+
+-- Lent buffers: flash of N×K×S bytes, wear of N numbers, p-space of P×S bytes, b-space of B×K×S bytes.
+pub record RightLengths (sz : Sizes) (u : Buffers) : Type 0 where
+  pub flash-is : length (u .flash) ≡ sz .N * sz .K * sz .S
+  pub wear-is : length (u .wear) ≡ sz .N
+  pub pspace-is : length (u .pspace) ≡ sz .P * sz .S
+  pub bspace-is : length (u .bspace) ≡ sz .B * sz .K * sz .S
+
+-- The test of the buffers passes exactly at these lengths.
+abbrev pub LengthsRule : Type 0
+LengthsRule = (sz : Sizes) (u : Buffers) → (lentOk sz u ≡ true) ⇔ RightLengths sz u
+
+-- ---- when a record is sound
+
+-- A record is sound if:
+pub record SoundBy (sz : Sizes) (d : Directory) : Type 0 where
+  -- sizes and W are as opening's refusal 1 demands;
+  pub sizes-are : WithinLimits sz
+  -- it has 128 slots and 8 frames, each frame with a set of valid pages and an order entry;
+  pub slots-are : length (d .slots) ≡ 128
+  pub frames-are : length (d .frames) ≡ 8
+  pub valid-are : length (d .valid) ≡ 8
+  pub order-is : length (d .recency) ≡ 8
+  -- each of the first P slots is vacant or holds a page number below N×K;
+  pub slot-in : (i : ℕ) → i < sz .P → (slotAt d i ≡ 4294967295) ⊎ (slotAt d i < sz .N * sz .K)
+  -- each of the first B frames is vacant with no valid bit, or holds a block number below N, at least one valid bit and none at K or above;
+  pub frame-in : (f : ℕ) → f < sz .B
+      → ((frameAt d f ≡ 4294967295) × ((o : ℕ) → bit (validAt d f) o ≡ false))
+      ⊎ ((frameAt d f < sz .N) × ((o : ℕ) × (bit (validAt d f) o ≡ true)) × ((o : ℕ) → sz .K ≤ o → bit (validAt d f) o ≡ false))
+  -- no page number stands in two slots,
+  pub slots-differ : (i j : ℕ) → i < j → j < sz .P → slotAt d i ≡ slotAt d j → slotAt d i ≡ 4294967295
+  -- no block in two frames,
+  pub frames-differ : (f g : ℕ) → f < g → g < sz .B → frameAt d f ≡ frameAt d g → frameAt d f ≡ 4294967295
+  -- no page both in a slot and valid in a frame (page b×K+o is the one at offset o of block b);
+  pub cached-once : (i f b o : ℕ) → i < sz .P → f < sz .B → b < sz .N → o < sz .K
+      → slotAt d i ≡ b * sz .K + o → frameAt d f ≡ b → bit (validAt d f) o ≡ true → ⊥
+  -- the order lists 0 to B-1 once each.
+  pub order-has : (f : ℕ) → f < sz .B → (i : ℕ) × (i < sz .B) × (recencyAt d i ≡ f)
+  pub order-once : (i j : ℕ) → i < sz .B → j < sz .B → recencyAt d i ≡ recencyAt d j → i ≡ j
+  -- Entries past P and B are vacant, their bits 0, and their order entry is their own index.
+  pub slots-past : (i : ℕ) → sz .P ≤ i → i < 128 → slotAt d i ≡ 4294967295
+  pub frames-past : (f : ℕ) → sz .B ≤ f → f < 8 → (frameAt d f ≡ 4294967295) × (validAt d f ≡ 0) × (recencyAt d f ≡ f)
+
+-- The test of a record passes exactly where all of this holds.
+abbrev pub SoundRule : Type 0
+SoundRule = (sz : Sizes) (d : Directory) → (sound sz d ≡ true) ⇔ SoundBy sz d
+
+-- ---- the blank record
+
+-- All vacant: every slot and frame is vacant, no page is valid, each order entry is its own index.
+pub record AllVacant (d : Directory) : Type 0 where
+  pub slots-are : length (d .slots) ≡ 128
+  pub frames-are : length (d .frames) ≡ 8
+  pub valid-are : length (d .valid) ≡ 8
+  pub order-is : length (d .recency) ≡ 8
+  pub slot-is : (i : ℕ) → i < 128 → slotAt d i ≡ 4294967295
+  pub frame-is : (f : ℕ) → f < 8 → frameAt d f ≡ 4294967295
+  pub valid-is : (f : ℕ) → f < 8 → validAt d f ≡ 0
+  pub order-at : (f : ℕ) → f < 8 → recencyAt d f ≡ f
+
+-- The record that an accepted opening starts from is all vacant.
+abbrev pub StartRule : Type 0
+StartRule = AllVacant vacantDirectory
+
+-- The blank record has sizes and W 0, and all of it is vacant.
+abbrev pub BlankRule : Type 0
+BlankRule = (blankCache .sizes ≡ record { S = 0; K = 0; N = 0; P = 0; B = 0; W = 0 }) × AllVacant (blankCache .directory)
+
+-- It is unsound, so that each call before an opening is refused 4.
+abbrev pub BlankUnsoundRule : Type 0
+BlankUnsoundRule = sound (blankCache .sizes) (blankCache .directory) ≡ false
+
+-- ---- opening: 1, then 2, then 3
+
+-- an opening that is turned down for cause r hands back the blank record
+abbrev pub OpeningRefused : Sizes → Buffers → ℕ → Type 0
+OpeningRefused sz u r = (openStore sz u .answer ≡ refused r 4294967295) × (openStore sz u .cache ≡ blankCache)
+
+-- Opening refuses 1 when a size or W is beyond its limits.
+abbrev pub OpeningSizeRule : Type 0
+OpeningSizeRule = (sz : Sizes) (u : Buffers) → (WithinLimits sz → ⊥) → OpeningRefused sz u 1
+
+-- Then 2 when a lent buffer has another length.
+abbrev pub OpeningBufferRule : Type 0
+OpeningBufferRule = (sz : Sizes) (u : Buffers) → WithinLimits sz → (RightLengths sz u → ⊥) → OpeningRefused sz u 2
+
+-- Then 3 when a wear entry is above W.
+abbrev pub OpeningOverwornRule : Type 0
+OpeningOverwornRule = (sz : Sizes) (u : Buffers) → WithinLimits sz → RightLengths sz u
+    → (b : ℕ) → b < sz .N → sz .W < getD (u .wear) b 0 → OpeningRefused sz u 3
+
+-- Else it gives a record with the sizes set, all vacant. No buffer is among what it gives: it changes none.
+abbrev pub OpeningDoneRule : Type 0
+OpeningDoneRule = (sz : Sizes) (u : Buffers) → WithinLimits sz → RightLengths sz u
+    → ((b : ℕ) → b < sz .N → getD (u .wear) b 0 ≤ sz .W)
+    → (openStore sz u .answer ≡ openDone) × (openStore sz u .cache .sizes ≡ sz) × AllVacant (openStore sz u .cache .directory)

@@ -16,3 +16,5 @@ pub mod Calls
 pub mod ScriptA
 pub mod RulesWords
 pub mod RulesRecord
+pub mod RulesMoves
+pub mod RulesFixed

@@ -7,3 +7,4 @@ pub mod Calls
 pub mod Lists
 pub mod RulesWords
 pub mod RulesRecord
+pub mod RulesMoves

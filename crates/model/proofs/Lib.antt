@@ -18,3 +18,5 @@ pub mod RulesWords
 pub mod RulesRecord
 pub mod RulesMoves
 pub mod RulesFixed
+pub mod RulesPolicy
+pub mod RulesWays

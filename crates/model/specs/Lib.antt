@@ -8,3 +8,4 @@ pub mod Lists
 pub mod RulesWords
 pub mod RulesRecord
 pub mod RulesMoves
+pub mod RulesPolicy

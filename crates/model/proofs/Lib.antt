@@ -20,3 +20,4 @@ pub mod RulesMoves
 pub mod RulesFixed
 pub mod RulesPolicy
 pub mod RulesWays
+pub mod RulesWrites

@@ -9,3 +9,4 @@ pub mod RulesWords
 pub mod RulesRecord
 pub mod RulesMoves
 pub mod RulesPolicy
+pub mod RulesWrites

@@ -18,6 +18,7 @@ use Rattle.model.specs.Policy.{inSlots, frameWith, slotCount, readWay, C
 use Rattle.model.specs.Moves.{wornBy, joined, readDirectory, written, stepped}
 use Rattle.model.specs.Calls.{stepDone, stepClean, flushDone, isRefused, Call, read, write, part, step, flush, State, Outcome, checked, readOutcome, writeOutcome, partOutcome, stepOutcome, Tally, steps, flushOutcome, decide, Page, lentOk, Store, Result, stateOf, told, carriedOut, call}
 use Rattle.model.specs.Lists.{Picks}
+use Rattle.model.specs.RulesCalls.{StepsUntilClean}
 use Rattle.model.proofs.Soundness.{sound-facts, facts-sound}
 use Rattle.model.proofs.Lookup.{block-vacant}
 use Rattle.model.proofs.Kept.{touched-sound}
@@ -178,12 +179,6 @@ module _ (pick : Choice) (picks : Picks pick) (s : Store) (c : Call Page) (h : s
 
 -- ---- a flush is steps until clean
 
--- r steps from state k, none refused, with m merge reads in all, lead to state e, where the next step is clean
-abbrev pub StepsTo : Choice → Sizes → ℕ → State → ℕ → State → Type 0
-StepsTo pick sz zero k m e = (decide pick sz k step .answer ≡ stepClean) × (m ≡ 0) × (k ≡ e)
-StepsTo pick sz (suc r) k m e =
-    (b : ℕ) × (first : ℕ) × (rest : ℕ) × (decide pick sz k step .answer ≡ stepDone b first) × (m ≡ first + rest) × StepsTo pick sz r (decide pick sz k step .state) rest e
-
 module _ (pick : Choice) (picks : Picks pick) (sz : Sizes) where
   empty-clean : (d : Directory) → Empty sz d → dueOf pick sz d ≡ clean
   unfolding dueOf occupied lowestInSlots
@@ -203,7 +198,7 @@ module _ (pick : Choice) (picks : Picks pick) (sz : Sizes) where
   due-answer k b f e l = rw e (by-test (ltb b vacant) (λ q. rw (q, lt-leb (sz .W) (getD (k .wear) b 0) l, stepOutcome)) (λ q. rw (q, stepOutcome)))
 
   abbrev Run : Tally → Tally → Type 0
-  Run t t′ = (r : ℕ) × (m : ℕ) × (t′ .rewrites ≡ r + t .rewrites) × (t′ .merges ≡ m + t .merges) × StepsTo pick sz r (t .state) m (t′ .state)
+  Run t t′ = (r : ℕ) × (m : ℕ) × (t′ .rewrites ≡ r + t .rewrites) × (t′ .merges ≡ m + t .merges) × StepsUntilClean pick sz r (t .state) m (t′ .state)
 
   run-none : (t : Tally) → Empty sz (t .state .directory) → Run t t
   run-none t e = (0, 0, omega arith, omega arith, (clean-answer (t .state) e, refl, refl))
@@ -229,7 +224,7 @@ module _ (pick : Choice) (picks : Picks pick) (sz : Sizes) where
 -- an accepted flush is as many steps as blocks are cached, and answers their number and the sum of their merge reads
 pub flush-is-steps : (pick : Choice) → Picks pick → (sz : Sizes) (k : State) → Sound sz (k .directory) → length (k .wear) ≡ sz .N
     → (r m : ℕ) → flushOutcome pick sz k .answer ≡ flushDone r m
-    → (r ≡ count (sz .N) (cached sz (k .directory))) × StepsTo pick sz r k m (flushOutcome pick sz k .state)
+    → (r ≡ count (sz .N) (cached sz (k .directory))) × StepsUntilClean pick sz r k m (flushOutcome pick sz k .state)
 unfolding flushOutcome
 flush-is-steps pick picks sz k s wl r m = by-test (ltb (lowestWorn sz (k .directory) (k .wear)) (sz .N))
     (λ e. rw (e, flushOutcome) (λ h. clash refl (ap isRefused h)))

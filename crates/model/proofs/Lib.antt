@@ -21,3 +21,5 @@ pub mod RulesFixed
 pub mod RulesPolicy
 pub mod RulesWays
 pub mod RulesWrites
+pub mod RulesCalls
+pub mod RulesBytes

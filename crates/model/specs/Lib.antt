@@ -10,3 +10,4 @@ pub mod RulesRecord
 pub mod RulesMoves
 pub mod RulesPolicy
 pub mod RulesWrites
+pub mod RulesCalls

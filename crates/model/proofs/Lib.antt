@@ -23,3 +23,4 @@ pub mod RulesWays
 pub mod RulesWrites
 pub mod RulesCalls
 pub mod RulesBytes
+pub mod RulesLists

@@ -11,3 +11,4 @@ pub mod RulesMoves
 pub mod RulesPolicy
 pub mod RulesWrites
 pub mod RulesCalls
+pub mod RulesLists

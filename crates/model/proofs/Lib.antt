@@ -24,3 +24,4 @@ pub mod RulesWrites
 pub mod RulesCalls
 pub mod RulesBytes
 pub mod RulesLists
+pub mod RulesDemand3

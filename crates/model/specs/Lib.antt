@@ -12,3 +12,4 @@ pub mod RulesPolicy
 pub mod RulesWrites
 pub mod RulesCalls
 pub mod RulesLists
+pub mod RulesDemand3

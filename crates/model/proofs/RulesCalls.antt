@@ -4,14 +4,14 @@ use mathlib.Core.Bool.{true, false, not, _&&_}
 use mathlib.Core.List.{[]}
 use Prim.Native.Nat.{ℕ, zero, suc, _+_, _*_, _≤_, _<_}
 use native.Mathlib.Omega.{arith}
-use lib.Dec.{eqb}
+use lib.Dec.{leb, ltb, eqb}
 use lib.Arith.{digits-lt}
 use lib.ListN.{length, getD}
 use borrow.Author.Tests.{lt-ltb, le-ltb, le-leb, lt-leb, eq-eqb, ne-eqb}
 use Rattle.prelude.specs.Scan.{count}
-use Rattle.prelude.proofs.Tests.{clash, fails}
+use Rattle.prelude.proofs.Tests.{by-test, clash, fails}
 use Rattle.prelude.proofs.Scan.{count-le}
-use Rattle.prelude.proofs.Pages.{page-at}
+use Rattle.prelude.proofs.Pages.{page-at, flat-pages}
 use Rattle.model.specs.Sizes.{Sizes, vacant}
 use Rattle.model.specs.Directory.{Directory, frameAt}
 use Rattle.model.specs.Soundness.{sound, Sound}
@@ -19,21 +19,17 @@ use Rattle.model.specs.Policy.{Choice, Plan, plan, wayOf, slotHit, frame
 use Rattle.model.specs.Policy.{cached, isWorn, lowestWorn}
 use Rattle.model.specs.Moves.{Memory, wornBy, stepped, steppedPages, written}
 use Rattle.model.specs.Calls.{Answer, openDone, readDone, writeDone, stepDone, stepClean, flushDone, refused, isRefused, Call, read}
-use Rattle.model.specs.Calls.{write, part}
-use Rattle.model.specs.Calls.{step, flush, State, Outcome, checked, readOutcome, writeOutcome, partOutcome, stepOutcome, steps}
-use Rattle.model.specs.Calls.{flushOutcome, decide}
-use Rattle.model.specs.Calls.{stepsPages, Page, combined, callPages, lentOk, Store, zeroPage, memoryOf, stateOf, told, carriedOut}
-use Rattle.model.specs.Calls.{call}
+use Rattle.model.specs.Calls.{write, part, step, flush, State, Outcome, checked, readOutcome, writeOutcome, partOutcome, stepOutcome}
+use Rattle.model.specs.Calls.{steps, flushOutcome, decide, stepsPages, Page, combined, callPages, lentOk, Store, zeroPage, memoryOf}
+use Rattle.model.specs.Calls.{stateOf, told, carriedOut, lentBuffer, buffersOf, call}
 use Rattle.model.specs.Lists.{Picks}
-use Rattle.model.specs.RulesCalls.{RefusedRule, LentRule, MemoryRule, ToldRule, RefusesRecordRule, RefusesBufferRule, Good}
-use Rattle.model.specs.RulesCalls.{RefusesThenRule}
-use Rattle.model.specs.RulesCalls.{AcceptsRule, FillsReadRule, FillsWriteRule, FillsPartRule, FillsNothingRule, RefusesLengthRule}
-use Rattle.model.specs.RulesCalls.{RefusesPageRule, AnswersReadRule, AnswersWriteRule, AnswersEvictRule, RefusesWornRule}
-use Rattle.model.specs.RulesCalls.{RefusesReachRule}
-use Rattle.model.specs.RulesCalls.{AnswersNothingRule, AnswersPartRule, AnswersCleanRule, AnswersStepRule, RefusesStepRule}
-use Rattle.model.specs.RulesCalls.{RefusesFlushRule}
-use Rattle.model.specs.RulesCalls.{AnswersFlushRule, PagesReadRule, PagesWriteRule, PagesPartRule, PagesNothingRule, PagesStepRule}
-use Rattle.model.specs.RulesCalls.{PagesCleanRule, PagesUntilClean, PagesFlushRule}
+use Rattle.model.specs.RulesCalls.{RefusedRule, MemoryRule, ToldRule, RefusesRecordRule, RefusesBufferRule, Good, RefusesThenRule}
+use Rattle.model.specs.RulesCalls.{AcceptsRule, KeepsPageRule, FillsReadRule, FillsWriteRule, FillsPartRule, FillsNothingRule}
+use Rattle.model.specs.RulesCalls.{RefusesLengthRule, RefusesPageRule, AnswersReadRule, AnswersWriteRule, AnswersEvictRule}
+use Rattle.model.specs.RulesCalls.{RefusesWornRule, RefusesReachRule, AnswersNothingRule, AnswersPartRule, AnswersCleanRule}
+use Rattle.model.specs.RulesCalls.{AnswersStepRule, RefusesStepRule, RefusesFlushRule, AnswersFlushRule, ReadKeepsRule}
+use Rattle.model.specs.RulesCalls.{NothingKeepsRule, CleanKeepsRule, PagesWriteRule, PagesPartRule, PagesStepRule, PagesUntilClean}
+use Rattle.model.specs.RulesCalls.{PagesFlushRule}
 use Rattle.model.proofs.Soundness.{sound-facts}
 use Rattle.model.proofs.Lookup.{block-vacant}
 use Rattle.model.proofs.Steps.{due-elim, cached-less, stepped-sound}
@@ -56,9 +52,6 @@ refused-rule a = (by-answer a, λ h. ap isRefused (h .2))
     by-answer (flushDone r m) h = clash h refl
     by-answer (refused r b) h = (r, b, refl)
 
-pub lent-rule : LentRule
-lent-rule n first x page = (refl, refl, refl)
-
 pub memory-rule : MemoryRule
 unfolding memoryOf
 memory-rule sz u z = (
@@ -67,21 +60,67 @@ memory-rule sz u z = (
   (λ g o gl ol. page-at (sz .S) (sz .B * sz .K) (u .bspace) z (g * sz .K + o) (digits-lt gl ol)),
 )
 
+-- no two constructors are one
+apart : {X : Type 0} → _≡_ {A = ℕ} 0 1 → X
+apart e = absurd (omega arith)
+
 pub told-rule : ToldRule
-told-rule n first x page = (refl, refl, refl, refl, refl)
+told-rule c = (
+  (λ n l. (reads c n l, λ h. ap told (h .1) ∙ ap (read n) (h .2))),
+  (λ n l. (writes c n l, λ h. ap told (h .1) ∙ ap (write n) (h .2))),
+  (λ n first k l. (parts c n first k l, λ h. ap told (h .2) ∙ rw (h .3, h .4))),
+  (steps-only c, ap told),
+  (flushes c, ap told),
+)
+  where
+    reads : (c : Call Page) (n l : ℕ) → told c ≡ read n l → (x : Page) × (c ≡ read n x) × (length x ≡ l)
+    reads (read m y) n l e = (y, cc, cc)
+    reads (write m y) n l e = apart cc
+    reads (part m at y buffer) n l e = apart cc
+    reads step n l e = apart cc
+    reads flush n l e = apart cc
+
+    writes : (c : Call Page) (n l : ℕ) → told c ≡ write n l → (x : Page) × (c ≡ write n x) × (length x ≡ l)
+    writes (read m y) n l e = apart cc
+    writes (write m y) n l e = (y, cc, cc)
+    writes (part m at y buffer) n l e = apart cc
+    writes step n l e = apart cc
+    writes flush n l e = apart cc
+
+    parts : (c : Call Page) (n first k l : ℕ) → told c ≡ part n first k l
+        → (x page : Page) × (c ≡ part n first x page) × (length x ≡ k) × (length page ≡ l)
+    parts (read m y) n first k l e = apart cc
+    parts (write m y) n first k l e = apart cc
+    parts (part m at y buffer) n first k l e = (y, buffer, cc, cc, cc)
+    parts step n first k l e = apart cc
+    parts flush n first k l e = apart cc
+
+    steps-only : (c : Call Page) → told c ≡ step → c ≡ step
+    steps-only (read m y) e = apart cc
+    steps-only (write m y) e = apart cc
+    steps-only (part m at y buffer) e = apart cc
+    steps-only step e = refl
+    steps-only flush e = apart cc
+
+    flushes : (c : Call Page) → told c ≡ flush → c ≡ flush
+    flushes (read m y) e = apart cc
+    flushes (write m y) e = apart cc
+    flushes (part m at y buffer) e = apart cc
+    flushes step e = apart cc
+    flushes flush e = refl
 
 -- ---- 4 and 2: the record, and the lent buffers
 
 pub refuses-record-rule : RefusesRecordRule
 unfolding call
 refuses-record-rule pick s c h = let sz = s .cache .sizes in let d = s .cache .directory in
-    let e = fails (sound sz d) (λ t. h (sound-rule sz d .0 t)) in (rw (e, call), rw (e, call), rw (e, call))
+    let e = fails (sound sz d) (λ t. h (sound-rule sz d .0 t)) in (rw (e, call), rw (e, call))
 
 pub refuses-buffer-rule : RefusesBufferRule
 unfolding call
 refuses-buffer-rule pick s c a h = let sz = s .cache .sizes in let d = sound-rule sz (s .cache .directory) .1 a in
     let e = fails (lentOk sz (s .lent)) (λ t. h (lengths-rule sz (s .lent) .0 t)) in
-    (rw (d, call) (rw e), rw (d, call) (rw e), rw (d, call) (rw e))
+    (rw (d, call) (rw e), rw (d, call) (rw e))
 
 module _ (pick : Choice) (s : Store) (c : Call Page) (g : Good s) where
   abbrev says : Outcome
@@ -96,10 +135,10 @@ module _ (pick : Choice) (s : Store) (c : Call Page) (g : Good s) where
 pub refuses-then-rule : RefusesThenRule
 unfolding carriedOut
 refuses-then-rule pick s c g r b h = let e : isRefused (says pick s c g .answer) ≡ true = ap isRefused h in
-    rw (goes-on pick s c g) (rw (e, carriedOut) (h, refl, refl))
+    rw (goes-on pick s c g) (rw (e, carriedOut) (h, refl))
 
 pub accepts-rule : AcceptsRule
-unfolding carriedOut Rattle.model.specs.Calls.buffersOf
+unfolding carriedOut buffersOf
 accepts-rule pick s c g e = rw (goes-on pick s c g) (rw (e, carriedOut) (record {
   answer-is = refl;
   sizes-stay = refl;
@@ -109,6 +148,23 @@ accepts-rule pick s c g e = rw (goes-on pick s c g) (rw (e, carriedOut) (record 
   pspace-is = refl;
   bspace-is = refl;
 }))
+
+-- a call that is turned down gives the page buffer as lent, by whichever test
+turned-down-page : (pick : Choice) (s : Store) (c : Call Page) → isRefused (call pick s c .answer) ≡ true
+    → call pick s c .page ≡ lentBuffer c
+unfolding call carriedOut
+turned-down-page pick s c = let sz = s .cache .sizes in let o = decide pick sz (stateOf s) (told c) in
+    by-test (sound sz (s .cache .directory))
+    (λ a. by-test (lentOk sz (s .lent))
+    (λ b. by-test (isRefused (o .answer))
+    (λ e. rw (a, call) (rw b (rw (e, carriedOut) (λ h. refl))))
+    (λ e. rw (a, call) (rw b (rw (e, carriedOut) (λ h. clash h e)))))
+    (λ b. rw (a, call) (rw b (λ h. refl))))
+    (λ a. rw (a, call) (λ h. refl))
+
+pub keeps-page-rule : KeepsPageRule
+keeps-page-rule pick s n first x page =
+    (turned-down-page pick s (read n x), turned-down-page pick s (write n x), turned-down-page pick s (part n first x page))
 
 pub fills-read-rule : FillsReadRule
 unfolding carriedOut
@@ -237,9 +293,47 @@ answers-flush-rule pick picks sz k ok wl low =
 
 -- ---- the pages of an accepted call
 
-pub pages-read-rule : PagesReadRule
-unfolding callPages
-pages-read-rule pick sz z k m n x = refl
+-- buffers cut into pages and joined again are the buffers
+module _ (pick : Choice) (s : Store) (g : Good s) where
+  abbrev sizes : Sizes
+  sizes = s .cache .sizes
+
+  joined-again : buffersOf (memoryOf sizes (s .lent)) (s .lent .wear) ≡ s .lent
+  unfolding buffersOf memoryOf
+  joined-again = let l = g .1 in rw (
+    flat-pages (sizes .S) (sizes .N * sizes .K) (s .lent .flash) (l .flash-is),
+    flat-pages (sizes .S) (sizes .P) (s .lent .pspace) (l .pspace-is),
+    flat-pages (sizes .S) (sizes .B * sizes .K) (s .lent .bspace) (l .bspace-is),
+  )
+
+  -- so a call that changes no page and no wear changes no buffer
+  keeps : (c : Call Page) → callPages pick sizes (zeroPage sizes) (stateOf s) (memoryOf sizes (s .lent)) c ≡ memoryOf sizes (s .lent)
+      → decide pick sizes (stateOf s) (told c) .state .wear ≡ s .lent .wear → call pick s c .store .lent ≡ s .lent
+  unfolding carriedOut
+  keeps c p w = rw (goes-on pick s c g) (by-test (isRefused (decide pick sizes (stateOf s) (told c) .answer))
+      (λ e. rw (e, carriedOut))
+      (λ e. rw (e, carriedOut) (rw (p, w) joined-again)))
+
+-- the wear stays whether the checks pass or not
+checked-wear : (sz : Sizes) (k : State) (n long : ℕ) (o : Outcome) → o .state .wear ≡ k .wear → checked sz k n long o .state .wear ≡ k .wear
+unfolding checked
+checked-wear sz k n long o h = by-test (eqb long (sz .S))
+    (λ a. rw (a, checked) (by-test (ltb n (sz .N * sz .K)) (λ b. rw b h) (λ b. rw b)))
+    (λ a. rw (a, checked))
+
+pub read-keeps-rule : ReadKeepsRule
+unfolding callPages decide readOutcome
+read-keeps-rule pick s g n x = keeps pick s g (read n x) refl (checked-wear (s .cache .sizes) (stateOf s) n (length x) _ refl)
+
+pub nothing-keeps-rule : NothingKeepsRule
+unfolding callPages decide partOutcome
+nothing-keeps-rule pick s g n first page = let sz = s .cache .sizes in let k = stateOf s in
+    keeps pick s g (part n first [] page) refl (checked-wear sz k n (length page) _
+    (by-test (leb (first + 0) (sz .S)) (λ a. rw (a, partOutcome)) (λ a. rw (a, partOutcome))))
+
+pub clean-keeps-rule : CleanKeepsRule
+unfolding callPages decide stepOutcome steppedPages
+clean-keeps-rule pick s g e = keeps pick s g step (rw e) (rw e)
 
 pub pages-write-rule : PagesWriteRule
 unfolding callPages
@@ -249,17 +343,9 @@ pub pages-part-rule : PagesPartRule
 unfolding callPages combined
 pages-part-rule pick sz z k m n first x page l = rw (ne-eqb (length x) 0 (λ q. absurd (omega arith)), callPages)
 
-pub pages-nothing-rule : PagesNothingRule
-unfolding callPages
-pages-nothing-rule pick sz z k m n first page = refl
-
 pub pages-step-rule : PagesStepRule
 unfolding callPages
 pages-step-rule pick sz z k m b f e = rw e
-
-pub pages-clean-rule : PagesCleanRule
-unfolding callPages steppedPages
-pages-clean-rule pick sz z k m e = rw e
 
 -- as many steps as blocks are cached, and then nothing is due
 steps-to : (pick : Choice) → Picks pick → (sz : Sizes) (z : Page) (c : ℕ) (d : Directory) (m : Memory Page) → Sound sz d

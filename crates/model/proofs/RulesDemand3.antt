@@ -20,8 +20,7 @@ use Rattle.model.specs.Policy.{Choice}
 use Rattle.model.specs.Calls.{read, part, Page, Buffers, Store}
 use Rattle.model.specs.Lists.{Chosen, Picks, AllPick, Reference, timesCached, Claim}
 use Rattle.model.specs.RulesDemand3.{storeAfter, besideAfter, Reached, AnswersAlike, ReadsArray, PartsArray, SlotsOnce, FramesOnce}
-use Rattle.model.specs.RulesDemand3.{NotBoth}
-use Rattle.model.specs.RulesDemand3.{FlashBlock, FlashPage, WearBook, FlushedArray}
+use Rattle.model.specs.RulesDemand3.{NotBoth, FlashBlock, FlashPage, WearBook, FlushedArray}
 use Rattle.model.proofs.Opening.{open-accepted}
 use Rattle.model.proofs.Demand3.{demand-3}
 use Rattle.model.proofs.RulesLists.{times-cached-rule, block-pages-rule}

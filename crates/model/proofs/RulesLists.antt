@@ -19,10 +19,8 @@ use Rattle.model.specs.Directory.{slotAt, inFrame}
 use Rattle.model.specs.Calls.{Call, read, write, part, step, flush, isRefused, Page}
 use Rattle.model.specs.Lists.{arrayAfter, logAfter, beforeAfter, isFlush, fed, opened, timesCached, blockPages}
 use Rattle.model.specs.RulesLists.{StartsArrayRule, StartsBookRule, StartsLogRule, StartsBeforeRule, StartsFlushedRule, BookToldRule}
-use Rattle.model.specs.RulesLists.{BookRule}
-use Rattle.model.specs.RulesLists.{RefusedCallRule, NoWriteRule, NoBytesRule, WritePutsRule, PartPutsRule, BeforeGrownRule}
-use Rattle.model.specs.RulesLists.{BeforeStaysRule}
-use Rattle.model.specs.RulesLists.{FlushedRule, TimesCachedRule, BlockPagesRule}
+use Rattle.model.specs.RulesLists.{BookRule, RefusedCallRule, NoWriteRule, NoBytesRule, WritePutsRule, PartPutsRule, BeforeGrownRule}
+use Rattle.model.specs.RulesLists.{BeforeStaysRule, FlushedRule, TimesCachedRule, BlockPagesRule}
 use Rattle.model.proofs.Soundness.{limits-of}
 use Rattle.model.proofs.Lookup.{page-div, page-mod}
 use Rattle.model.proofs.RulesRecord.{start-rule}
@@ -52,7 +50,7 @@ starts-flushed-rule sz u = refl
 -- ---- what a call adds
 
 pub book-told-rule : BookToldRule
-book-told-rule sz r t = refl
+book-told-rule sz r r′ t t′ b c q = rw (b, c, q)
 
 pub book-rule : BookRule
 unfolding fed

@@ -20,9 +20,8 @@ use Rattle.model.specs.Moves.{exchangedPages, stepped, steppedPages, rea
 use Rattle.model.specs.RulesWords.{FirstVacant}
 use Rattle.model.specs.RulesMoves.{MostRecent}
 use Rattle.model.specs.RulesWrites.{Read1Rule, Read2Rule, Read3Rule, Entered, EnteredPages, PutInSlot, Writes1Rule, Writes2Rule}
-use Rattle.model.specs.RulesWrites.{Writes3Rule}
-use Rattle.model.specs.RulesWrites.{Writes4Rule, Writes4PagesRule, Writes5Rule, Writes6Rule, Writes6PagesRule, Writes7Rule}
-use Rattle.model.specs.RulesWrites.{Writes7PagesRule}
+use Rattle.model.specs.RulesWrites.{Writes3Rule, Writes4Rule, Writes4PagesRule, Writes5Rule, Writes6Rule, Writes6PagesRule}
+use Rattle.model.specs.RulesWrites.{Writes7Rule, Writes7PagesRule}
 use Rattle.model.proofs.Soundness.{sound-facts, facts-sound}
 use Rattle.model.proofs.Lookup.{page-mod, block-vacant, in-slots}
 use Rattle.model.proofs.Steps.{ready-frame, stepped-sound}

@@ -14,7 +14,7 @@ use Rattle.model.specs.Policy.{Choice, readWay, Plan, plan, wayOf, evict
 use Rattle.model.specs.Moves.{Memory, wornBy, readDirectory, written, stepped, readPage, writtenPages, steppedPages}
 use Rattle.model.specs.Calls.{Answer, readDone, writeDone, stepDone, stepClean, flushDone, refused, isRefused, Call, read, write}
 use Rattle.model.specs.Calls.{part, step, flush, State, Outcome, decide, Page, callPages, Buffers, Store, Result, zeroPage, memoryOf}
-use Rattle.model.specs.Calls.{stateOf, told, lentBuffer, call}
+use Rattle.model.specs.Calls.{stateOf, told, call}
 use Rattle.model.specs.Lists.{Picks}
 use Rattle.model.specs.RulesWords.{_⇔_, Cached, missingPages}
 use Rattle.model.specs.RulesRecord.{RightLengths, SoundBy}
@@ -25,11 +25,6 @@ use Rattle.model.specs.RulesRecord.{RightLengths, SoundBy}
 abbrev pub RefusedRule : Type 0
 RefusedRule = (a : Answer) → (isRefused a ≡ true) ⇔ ((r : ℕ) × (b : ℕ) × (a ≡ refused r b))
 
--- The page buffer lent to a call.
-abbrev pub LentRule : Type 0
-LentRule = (n first : ℕ) (x page : Page)
-    → (lentBuffer (read n x) ≡ x) × (lentBuffer (write n x) ≡ x) × (lentBuffer (part n first x page) ≡ page)
-
 -- A buffer is a run of pages of S bytes each.
 abbrev pub MemoryRule : Type 0
 MemoryRule = (sz : Sizes) (u : Buffers) (z : Page)
@@ -37,28 +32,31 @@ MemoryRule = (sz : Sizes) (u : Buffers) (z : Page)
     × ((i : ℕ) → i < sz .P → getD (memoryOf sz u .pspace) i z ≡ pageAt (sz .S) (u .pspace) i)
     × ((g o : ℕ) → g < sz .B → o < sz .K → getD (memoryOf sz u .bspace) (g * sz .K + o) z ≡ pageAt (sz .S) (u .bspace) (g * sz .K + o))
 
--- What the rewrite book is told of each call: its arguments, and of page buffer and bytes their number.
+-- What the rewrite book is told of a call: its arguments, and of page buffer and bytes their number. It is told q by these calls alone.
 abbrev pub ToldRule : Type 0
-ToldRule = (n first : ℕ) (x page : Page)
-    → (told (read n x) ≡ read n (length x)) × (told (write n x) ≡ write n (length x))
-    × (told (part n first x page) ≡ part n first (length x) (length page)) × (told step ≡ step) × (told flush ≡ flush)
+ToldRule = (c : Call Page)
+    → ((n l : ℕ) → (told c ≡ read n l) ⇔ ((x : Page) × (c ≡ read n x) × (length x ≡ l)))
+    × ((n l : ℕ) → (told c ≡ write n l) ⇔ ((x : Page) × (c ≡ write n x) × (length x ≡ l)))
+    × ((n first k l : ℕ) → (told c ≡ part n first k l)
+    ⇔ ((x page : Page) × (c ≡ part n first x page) × (length x ≡ k) × (length page ≡ l)))
+    × ((told c ≡ step) ⇔ (c ≡ step)) × ((told c ≡ flush) ⇔ (c ≡ flush))
 
 -- ---- 4 and 2: the record, and the lent buffers
 
--- a call that is turned down hands record, buffers and page buffer back
-abbrev pub Untouched : Store → Call Page → ℕ → ℕ → Result → Type 0
-Untouched s c r b q = (q .answer ≡ refused r b) × (q .store ≡ s) × (q .page ≡ lentBuffer c)
+-- a call that is turned down hands record and buffers back
+abbrev pub TurnedBack : Store → ℕ → ℕ → Result → Type 0
+TurnedBack s r b q = (q .answer ≡ refused r b) × (q .store ≡ s)
 
 -- First 4: the record is not sound.
 abbrev pub RefusesRecordRule : Type 0
 RefusesRecordRule = (pick : Choice) (s : Store) (c : Call Page)
-    → (SoundBy (s .cache .sizes) (s .cache .directory) → ⊥) → Untouched s c 4 4294967295 (call pick s c)
+    → (SoundBy (s .cache .sizes) (s .cache .directory) → ⊥) → TurnedBack s 4 4294967295 (call pick s c)
 
 -- Then 2: a lent buffer has another length than it should.
 abbrev pub RefusesBufferRule : Type 0
 RefusesBufferRule = (pick : Choice) (s : Store) (c : Call Page)
     → SoundBy (s .cache .sizes) (s .cache .directory) → (RightLengths (s .cache .sizes) (s .lent) → ⊥)
-    → Untouched s c 2 4294967295 (call pick s c)
+    → TurnedBack s 2 4294967295 (call pick s c)
 
 -- the record is sound and the buffers have their lengths, as every law below asks
 abbrev pub Good : Store → Type 0
@@ -67,7 +65,7 @@ Good s = SoundBy (s .cache .sizes) (s .cache .directory) × RightLengths (s .cac
 -- Then the refusals below, by the call's arguments, the record and the wear alone; any of them leaves everything as it was.
 abbrev pub RefusesThenRule : Type 0
 RefusesThenRule = (pick : Choice) (s : Store) (c : Call Page) → Good s → (r b : ℕ)
-    → decide pick (s .cache .sizes) (stateOf s) (told c) .answer ≡ refused r b → Untouched s c r b (call pick s c)
+    → decide pick (s .cache .sizes) (stateOf s) (told c) .answer ≡ refused r b → TurnedBack s r b (call pick s c)
 
 -- what an accepted call leaves of p-space, b-space and flash, as pages
 abbrev pub pagesThen : Choice → Store → Call Page → Memory Page
@@ -103,6 +101,13 @@ BytesRule = (pick : Choice) (s : Store) (c : Call Page) → Good s → let sz = 
 -- the page that a read of n is given
 abbrev pub pageRead : Store → ℕ → Page
 pageRead s n = readPage (zeroPage (s .cache .sizes)) (s .cache .sizes) (s .cache .directory) (memoryOf (s .cache .sizes) (s .lent)) n
+
+-- A refused call leaves the page buffer as it is lent.
+abbrev pub KeepsPageRule : Type 0
+KeepsPageRule = (pick : Choice) (s : Store) (n first : ℕ) (x page : Page)
+    → (isRefused (call pick s (read n x) .answer) ≡ true → call pick s (read n x) .page ≡ x)
+    × (isRefused (call pick s (write n x) .answer) ≡ true → call pick s (write n x) .page ≡ x)
+    × (isRefused (call pick s (part n first x page) .answer) ≡ true → call pick s (part n first x page) .page ≡ page)
 
 -- An accepted read fills the page buffer with the page.
 abbrev pub FillsReadRule : Type 0
@@ -232,10 +237,19 @@ AnswersFlushRule = (pick : Choice) → Picks pick → (sz : Sizes) (k : State) �
 
 -- ---- the pages of an accepted call
 
--- A read changes no page.
-abbrev pub PagesReadRule : Type 0
-PagesReadRule = (pick : Choice) (sz : Sizes) (z : Page) (k : State) (m : Memory Page) (n : ℕ) (x : Page)
-    → callPages pick sz z k m (read n x) ≡ m
+-- A read changes no lent buffer,
+abbrev pub ReadKeepsRule : Type 0
+ReadKeepsRule = (pick : Choice) (s : Store) → Good s → (n : ℕ) (x : Page) → call pick s (read n x) .store .lent ≡ s .lent
+
+-- nor does a part write without bytes,
+abbrev pub NothingKeepsRule : Type 0
+NothingKeepsRule = (pick : Choice) (s : Store) → Good s → (n first : ℕ) (page : Page)
+    → call pick s (part n first [] page) .store .lent ≡ s .lent
+
+-- nor a step with nothing due.
+abbrev pub CleanKeepsRule : Type 0
+CleanKeepsRule = (pick : Choice) (s : Store) → Good s → dueOf pick (s .cache .sizes) (s .cache .directory) ≡ clean
+    → call pick s step .store .lent ≡ s .lent
 
 -- A write changes those of its way, with the bytes lent.
 abbrev pub PagesWriteRule : Type 0
@@ -247,20 +261,10 @@ abbrev pub PagesPartRule : Type 0
 PagesPartRule = (pick : Choice) (sz : Sizes) (z : Page) (k : State) (m : Memory Page) (n first : ℕ) (x page : Page) → 0 < length x
     → callPages pick sz z k m (part n first x page) ≡ callPages pick sz z k m (write n (laid first x (readPage z sz (k .directory) m n)))
 
--- With no bytes it changes none.
-abbrev pub PagesNothingRule : Type 0
-PagesNothingRule = (pick : Choice) (sz : Sizes) (z : Page) (k : State) (m : Memory Page) (n first : ℕ) (page : Page)
-    → callPages pick sz z k m (part n first [] page) ≡ m
-
--- A step changes those of its block and frame;
+-- A step changes those of its block and frame.
 abbrev pub PagesStepRule : Type 0
 PagesStepRule = (pick : Choice) (sz : Sizes) (z : Page) (k : State) (m : Memory Page) (b f : ℕ)
     → dueOf pick sz (k .directory) ≡ due b f → callPages pick sz z k m step ≡ steppedPages z sz (k .directory) m (due b f)
-
--- a clean one none.
-abbrev pub PagesCleanRule : Type 0
-PagesCleanRule = (pick : Choice) (sz : Sizes) (z : Page) (k : State) (m : Memory Page)
-    → dueOf pick sz (k .directory) ≡ clean → callPages pick sz z k m step ≡ m
 
 -- r steps take the pages m to q, with nothing due after them
 abbrev pub PagesUntilClean : Choice → Sizes → Page → ℕ → Directory → Memory Page → Memory Page → Type 0

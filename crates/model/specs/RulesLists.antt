@@ -11,7 +11,7 @@ use Rattle.prelude.specs.Bits.{bit}
 use Rattle.prelude.specs.Pages.{pageAt, laid}
 use Rattle.model.specs.Sizes.{Sizes, sizesOk}
 use Rattle.model.specs.Directory.{Directory, slotAt, frameAt, validAt}
-use Rattle.model.specs.Calls.{Call, read, write, part, step, flush, isRefused, Outcome, decide, Page, Buffers, told}
+use Rattle.model.specs.Calls.{Call, read, write, part, step, flush, isRefused, Outcome, Page, Buffers, told}
 use Rattle.model.specs.Lists.{Chosen, Accepted, Reference, bookSays, fed, opened, timesCached, blockPages}
 use Rattle.model.specs.RulesWords.{_⇔_}
 use Rattle.model.specs.RulesRecord.{AllVacant}
@@ -42,9 +42,11 @@ StartsFlushedRule = (sz : Sizes) (u : Buffers) → opened sz u .flushed ≡ fals
 
 -- ---- what a call adds; r is what stood beside the store before it, o what the book makes of it
 
--- The book is fed the calls' arguments and the page buffer's length, of a part write's bytes their number, and nothing else.
+-- The book is fed the calls' arguments and the page buffer's length, of a part write's bytes their number, and nothing else: where these
+-- and the book are alike, so is what it makes of the call.
 abbrev pub BookToldRule : Type 0
-BookToldRule = (sz : Sizes) (r : Reference) (t : Chosen) → bookSays sz r t ≡ decide (t .choice) sz (r .book) (told (t .call))
+BookToldRule = (sz : Sizes) (r r′ : Reference) (t t′ : Chosen) → r .book ≡ r′ .book → t .choice ≡ t′ .choice
+    → told (t .call) ≡ told (t′ .call) → bookSays sz r t ≡ bookSays sz r′ t′
 
 -- The book is then as the rules leave it.
 abbrev pub BookRule : Type 0

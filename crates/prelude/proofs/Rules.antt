@@ -15,12 +15,10 @@ use Rattle.prelude.specs.Scan.{first, count, all, nth, argmax, least}
 use Rattle.prelude.specs.Bits.{bit, mask}
 use Rattle.prelude.specs.Pages.{pageAt, laid, flat}
 use Rattle.prelude.specs.Rules.{FirstRule, FirstNoneRule, Upward, CountRule, CountOneRule, AllRule, ArgmaxRule, LeastRule, TabRule}
-use Rattle.prelude.specs.Rules.{BitRule}
-use Rattle.prelude.specs.Rules.{BitWholeRule, MaskRule, PageAtRule, FlatRule, LaidRule}
+use Rattle.prelude.specs.Rules.{BitRule, BitWholeRule, MaskRule, PageAtRule, FlatRule, LaidRule}
 use Rattle.prelude.proofs.Tests.{by-test}
 use Rattle.prelude.proofs.Scan.{all-at, all-of, first-hit, first-at, first-is, count-past, count-mono, count-inj, nth-is, nth-rank}
-use Rattle.prelude.proofs.Scan.{nth-some}
-use Rattle.prelude.proofs.Scan.{leads-is, least-le, least-is}
+use Rattle.prelude.proofs.Scan.{nth-some, leads-is, least-le, least-is}
 use Rattle.prelude.proofs.Tab.{length-tab, getD-tab}
 use Rattle.prelude.proofs.Bits.{mask-lt, bit-mask, bit-high}
 use Rattle.prelude.proofs.Pages.{length-laid, length-pageAt, in-run, page-flat, length-flat}

@@ -1,6 +1,7 @@
 -- Demand 3 on script A, clause by clause, by computing the store, the page array and the rewrite book side by side.
 use mathlib.Core.Path.{_≡_, refl}
 use mathlib.Core.List.{List, [], _∷_}
+use Prim.Native.Nat.{ℕ}
 use lib.ListN.{take, replicate}
 use Rattle.prelude.specs.Tests.{every}
 use Rattle.prelude.specs.Scan.{firstFrom, first, count, all, allPairs, nth, argmax, least, tabFrom, tab}
@@ -8,12 +9,18 @@ use Rattle.prelude.specs.Bits.{bit, mask}
 use Rattle.prelude.specs.Pages.{pageAt, pagesOf, flat}
 use Rattle.model.specs.Sizes.{vacant, Sizes, sizesOk}
 use Rattle.model.specs.Directory.{inFrame, vacantDirectory, blankCache}
-use Rattle.model.specs.Soundness.{shapeOk, slotOk, frameOk, slotsDiffer, framesDiffer, cachedOnce, listedOnce, slotPast, framePast, sound}
-use Rattle.model.specs.Policy.{inBlock, slotOf, inSlots, frameWith, frameOf, validCount, slotCount, readWay, leastRecent, victim, fewestValid, evictable, anyEvictable, evictFrame, evictionPlan, plan, occupied, lowestInSlots, dueOf, cached, isWorn, lowestWorn}
-use Rattle.model.specs.Moves.{flashPage, programmed, worn, wornBy, recencyAfter, touched, putSlot, entered, putSlotPage, putFramePage, joined, filled, joinedPages, unmet, spare, taken, givenSlot, exchanged, exchangedPages, vacated, merged, rewrittenPages, readDirectory, written, stepped, readPage, writtenPages, steppedPages}
-use Rattle.model.specs.Calls.{readDone, writeDone, flushDone, refused, Answer, Call, read, write, flush, checked, readOutcome, writeOutcome, stepOutcome, steps, flushOutcome, decide, stepsPages, callPages, Page, Buffers, lentOk, openStore, Store, zeroPage, flashPages, memoryOf, buffersOf, carriedOut, call}
-use Rattle.model.specs.Calls.{told}
-use Rattle.model.specs.Lists.{Reference, opened, fed, arrayAfter, logAfter, beforeAfter, blockPages, timesCached}
+use Rattle.model.specs.Soundness.{shapeOk, slotOk, frameOk, slotsDiffer, framesDiffer, cachedOnce, listedOnce, slotPast, framePast}
+use Rattle.model.specs.Soundness.{sound}
+use Rattle.model.specs.Policy.{inBlock, slotOf, inSlots, frameWith, frameOf, validCount, slotCount, readWay, leastRecent, victim}
+use Rattle.model.specs.Policy.{fewestValid, evictable, anyEvictable, evictFrame, evictionPlan, plan, occupied, lowestInSlots, dueOf}
+use Rattle.model.specs.Policy.{cached, isWorn, lowestWorn}
+use Rattle.model.specs.Moves.{flashPage, programmed, worn, wornBy, recencyAfter, touched, putSlot, entered, putSlotPage, putFramePage}
+use Rattle.model.specs.Moves.{joined, filled, joinedPages, unmet, spare, taken, givenSlot, exchanged, exchangedPages, vacated, merged}
+use Rattle.model.specs.Moves.{rewrittenPages, readDirectory, written, stepped, readPage, writtenPages, steppedPages}
+use Rattle.model.specs.Calls.{readDone, writeDone, flushDone, refused, Answer, Call, read, write, flush, checked, readOutcome}
+use Rattle.model.specs.Calls.{writeOutcome, stepOutcome, steps, flushOutcome, decide, stepsPages, callPages, Page, Buffers, lentOk}
+use Rattle.model.specs.Calls.{openStore, Store, zeroPage, flashPages, memoryOf, buffersOf, carriedOut, call, told}
+use Rattle.model.specs.Lists.{Put, Reference, opened, fed, arrayAfter, logAfter, beforeAfter, blockPages, timesCached}
 
 abbrev pub sizesA : Sizes
 sizesA = record { S = 1; K = 2; N = 3; P = 2; B = 1; W = 9 }
@@ -65,57 +72,60 @@ ran : Pair
 ran = both wrote restA
 
 abbrev both-say : List Answer
-both-say = flushDone 2 1 ∷ refused 2 vacant ∷ refused 5 vacant ∷ readDone 3 ∷ readDone 2 ∷ writeDone 7 0 1 ∷ writeDone 5 vacant 0 ∷ writeDone 3 vacant 0 ∷ writeDone 3 vacant 0 ∷ []
+both-say = flushDone 2 1 ∷ refused 2 vacant ∷ refused 5 vacant ∷ readDone 3 ∷ readDone 2 ∷ writeDone 7 0 1 ∷ writeDone 5 vacant 0
+    ∷ writeDone 3 vacant 0 ∷ writeDone 3 vacant 0 ∷ []
 
--- the store answers as the book does, refusals included
-answers : ran .says ≡ both-say
-unfolding start wrote ran both writesA restA opened fed arrayAfter logAfter beforeAfter openStore call carriedOut memoryOf buffersOf zeroPage lentOk callPages stepsPages decide flushOutcome steps stepOutcome writeOutcome readOutcome checked steppedPages writtenPages readPage stepped written readDirectory rewrittenPages merged vacated exchangedPages exchanged givenSlot taken spare unmet joinedPages filled joined putFramePage putSlotPage entered putSlot touched recencyAfter wornBy worn programmed flashPage lowestWorn isWorn cached dueOf lowestInSlots occupied plan evictionPlan evictFrame anyEvictable evictable fewestValid victim leastRecent readWay slotCount validCount frameOf frameWith inSlots slotOf inBlock inFrame sound framePast slotPast listedOnce cachedOnce framesDiffer slotsDiffer frameOk slotOk shapeOk sizesOk vacantDirectory blankCache every first firstFrom count all allPairs tab tabFrom bit mask nth argmax least pageAt pagesOf flat
-answers = refl
+-- x was accepted for page n
+abbrev put : ℕ → Page → Put
+put n x = record { page = n; bytes = x }
 
-book-answers : ran .bookSays ≡ both-say
-unfolding start wrote ran both writesA restA opened fed arrayAfter logAfter beforeAfter openStore call carriedOut memoryOf buffersOf zeroPage lentOk callPages stepsPages decide flushOutcome steps stepOutcome writeOutcome readOutcome checked steppedPages writtenPages readPage stepped written readDirectory rewrittenPages merged vacated exchangedPages exchanged givenSlot taken spare unmet joinedPages filled joined putFramePage putSlotPage entered putSlot touched recencyAfter wornBy worn programmed flashPage lowestWorn isWorn cached dueOf lowestInSlots occupied plan evictionPlan evictFrame anyEvictable evictable fewestValid victim leastRecent readWay slotCount validCount frameOf frameWith inSlots slotOf inBlock inFrame sound framePast slotPast listedOnce cachedOnce framesDiffer slotsDiffer frameOk slotOk shapeOk sizesOk vacantDirectory blankCache every first firstFrom count all allPairs tab tabFrom bit mask nth argmax least pageAt pagesOf flat
-book-answers = refl
+pub record Clauses : Type 0 where
+  -- the store answers as the book does, refusals included
+  answers : ran .says ≡ both-say
+  book-answers : ran .bookSays ≡ both-say
+  -- the page array: what was last accepted for each page, or what flash held at opening
+  array : ran .reference .array ≡ (10 ∷ []) ∷ (255 ∷ []) ∷ (20 ∷ []) ∷ (40 ∷ []) ∷ (30 ∷ []) ∷ (255 ∷ []) ∷ []
+  -- what was accepted, latest first: the four writes, and nothing of the refused calls, the reads and the flush
+  log : ran .reference .log ≡ put 3 (40 ∷ []) ∷ put 4 (30 ∷ []) ∷ put 2 (20 ∷ []) ∷ put 0 (10 ∷ []) ∷ []
+  -- each accepted read gave that page, of 2 and of 1, and the refused calls left their buffers
+  reads : take 5 (ran .buffers) ≡ [] ∷ (9 ∷ 9 ∷ []) ∷ (7 ∷ []) ∷ (255 ∷ []) ∷ (20 ∷ []) ∷ []
+  -- no page is cached twice
+  once : tab 6 (timesCached sizesA (wrote .store .cache .directory)) ≡ 0 ∷ 0 ∷ 1 ∷ 1 ∷ 1 ∷ 0 ∷ []
+  -- array and log before the call of a block's last rewrite: the fourth write made block 0's
+  arrays-before : wrote .reference .arrayBefore
+      ≡ ((10 ∷ []) ∷ (255 ∷ []) ∷ (20 ∷ []) ∷ (255 ∷ []) ∷ (30 ∷ []) ∷ (255 ∷ []) ∷ []) ∷ replicate 6 (255 ∷ []) ∷ replicate 6
+      (255 ∷ []) ∷ []
+  logs-before : wrote .reference .logBefore ≡ (put 4 (30 ∷ []) ∷ put 2 (20 ∷ []) ∷ put 0 (10 ∷ []) ∷ []) ∷ [] ∷ [] ∷ []
+  -- every flash block is, as a whole, the array before the call of its last rewrite, or at opening
+  blocks-whole : tab 3 (blockPages sizesA (flashPages sizesA (wrote .store .lent .flash)))
+      ≡ ((10 ∷ []) ∷ (255 ∷ []) ∷ []) ∷ replicate 2 (255 ∷ []) ∷ replicate 2 (255 ∷ []) ∷ []
+  -- each block's wear is the book's
+  wear : ran .store .lent .wear ≡ 1 ∷ 1 ∷ 1 ∷ []
+  book-wear : ran .reference .book .wear ≡ 1 ∷ 1 ∷ 1 ∷ []
+  -- after the flush, flash is that array
+  flash : ran .store .lent .flash ≡ 10 ∷ 255 ∷ 20 ∷ 40 ∷ 30 ∷ 255 ∷ []
 
--- the page array: what was last accepted for each page, or what flash held at opening
-array : ran .reference .array ≡ (10 ∷ []) ∷ (255 ∷ []) ∷ (20 ∷ []) ∷ (40 ∷ []) ∷ (30 ∷ []) ∷ (255 ∷ []) ∷ []
-unfolding start wrote ran both writesA restA opened fed arrayAfter logAfter beforeAfter openStore call carriedOut memoryOf buffersOf zeroPage lentOk callPages stepsPages decide flushOutcome steps stepOutcome writeOutcome readOutcome checked steppedPages writtenPages readPage stepped written readDirectory rewrittenPages merged vacated exchangedPages exchanged givenSlot taken spare unmet joinedPages filled joined putFramePage putSlotPage entered putSlot touched recencyAfter wornBy worn programmed flashPage lowestWorn isWorn cached dueOf lowestInSlots occupied plan evictionPlan evictFrame anyEvictable evictable fewestValid victim leastRecent readWay slotCount validCount frameOf frameWith inSlots slotOf inBlock inFrame sound framePast slotPast listedOnce cachedOnce framesDiffer slotsDiffer frameOk slotOk shapeOk sizesOk vacantDirectory blankCache every first firstFrom count all allPairs tab tabFrom bit mask nth argmax least pageAt pagesOf flat
-array = refl
-
--- each accepted read gave that page, of 2 and of 1, and the refused calls left their buffers
-reads : take 5 (ran .buffers) ≡ [] ∷ (9 ∷ 9 ∷ []) ∷ (7 ∷ []) ∷ (255 ∷ []) ∷ (20 ∷ []) ∷ []
-unfolding start wrote ran both writesA restA opened fed arrayAfter logAfter beforeAfter openStore call carriedOut memoryOf buffersOf zeroPage lentOk callPages stepsPages decide flushOutcome steps stepOutcome writeOutcome readOutcome checked steppedPages writtenPages readPage stepped written readDirectory rewrittenPages merged vacated exchangedPages exchanged givenSlot taken spare unmet joinedPages filled joined putFramePage putSlotPage entered putSlot touched recencyAfter wornBy worn programmed flashPage lowestWorn isWorn cached dueOf lowestInSlots occupied plan evictionPlan evictFrame anyEvictable evictable fewestValid victim leastRecent readWay slotCount validCount frameOf frameWith inSlots slotOf inBlock inFrame sound framePast slotPast listedOnce cachedOnce framesDiffer slotsDiffer frameOk slotOk shapeOk sizesOk vacantDirectory blankCache every first firstFrom count all allPairs tab tabFrom bit mask nth argmax least pageAt pagesOf flat
-reads = refl
-
--- no page is cached twice
-once : tab 6 (timesCached sizesA (wrote .store .cache .directory)) ≡ 0 ∷ 0 ∷ 1 ∷ 1 ∷ 1 ∷ 0 ∷ []
-unfolding start wrote ran both writesA restA timesCached opened fed arrayAfter logAfter beforeAfter openStore call carriedOut memoryOf buffersOf zeroPage lentOk callPages stepsPages decide flushOutcome steps stepOutcome writeOutcome readOutcome checked steppedPages writtenPages readPage stepped written readDirectory rewrittenPages merged vacated exchangedPages exchanged givenSlot taken spare unmet joinedPages filled joined putFramePage putSlotPage entered putSlot touched recencyAfter wornBy worn programmed flashPage lowestWorn isWorn cached dueOf lowestInSlots occupied plan evictionPlan evictFrame anyEvictable evictable fewestValid victim leastRecent readWay slotCount validCount frameOf frameWith inSlots slotOf inBlock inFrame sound framePast slotPast listedOnce cachedOnce framesDiffer slotsDiffer frameOk slotOk shapeOk sizesOk vacantDirectory blankCache every first firstFrom count all allPairs tab tabFrom bit mask nth argmax least pageAt pagesOf flat
-once = refl
-
--- array and log before the call of a block's last rewrite: the fourth write made block 0's
-arrays-before : wrote .reference .arrayBefore
-    ≡ ((10 ∷ []) ∷ (255 ∷ []) ∷ (20 ∷ []) ∷ (255 ∷ []) ∷ (30 ∷ []) ∷ (255 ∷ []) ∷ []) ∷ replicate 6 (255 ∷ []) ∷ replicate 6 (255 ∷ []) ∷ []
-unfolding start wrote ran both writesA restA opened fed arrayAfter logAfter beforeAfter openStore call carriedOut memoryOf buffersOf zeroPage lentOk callPages stepsPages decide flushOutcome steps stepOutcome writeOutcome readOutcome checked steppedPages writtenPages readPage stepped written readDirectory rewrittenPages merged vacated exchangedPages exchanged givenSlot taken spare unmet joinedPages filled joined putFramePage putSlotPage entered putSlot touched recencyAfter wornBy worn programmed flashPage lowestWorn isWorn cached dueOf lowestInSlots occupied plan evictionPlan evictable anyEvictable evictFrame fewestValid victim leastRecent readWay slotCount validCount frameOf frameWith inSlots slotOf inBlock inFrame sound framePast slotPast listedOnce cachedOnce framesDiffer slotsDiffer frameOk slotOk shapeOk sizesOk vacantDirectory blankCache every first firstFrom count all allPairs tab tabFrom bit mask nth argmax least pageAt pagesOf flat
-arrays-before = refl
-
-logs-before : wrote .reference .logBefore ≡ (record { page = 4; bytes = 30 ∷ [] } ∷ record { page = 2; bytes = 20 ∷ [] } ∷ record { page = 0; bytes = 10 ∷ [] } ∷ []) ∷ [] ∷ [] ∷ []
-unfolding start wrote ran both writesA restA opened fed arrayAfter logAfter beforeAfter openStore call carriedOut memoryOf buffersOf zeroPage lentOk callPages stepsPages decide flushOutcome steps stepOutcome writeOutcome readOutcome checked steppedPages writtenPages readPage stepped written readDirectory rewrittenPages merged vacated exchangedPages exchanged givenSlot taken spare unmet joinedPages filled joined putFramePage putSlotPage entered putSlot touched recencyAfter wornBy worn programmed flashPage lowestWorn isWorn cached dueOf lowestInSlots occupied plan evictionPlan evictable anyEvictable evictFrame fewestValid victim leastRecent readWay slotCount validCount frameOf frameWith inSlots slotOf inBlock inFrame sound framePast slotPast listedOnce cachedOnce framesDiffer slotsDiffer frameOk slotOk shapeOk sizesOk vacantDirectory blankCache every first firstFrom count all allPairs tab tabFrom bit mask nth argmax least pageAt pagesOf flat
-logs-before = refl
-
--- every flash block is, as a whole, the array before the call of its last rewrite, or at opening
-blocks-whole : tab 3 (blockPages sizesA (flashPages sizesA (wrote .store .lent .flash))) ≡ ((10 ∷ []) ∷ (255 ∷ []) ∷ []) ∷ replicate 2 (255 ∷ []) ∷ replicate 2 (255 ∷ []) ∷ []
-unfolding blockPages start wrote ran both writesA restA opened fed arrayAfter logAfter beforeAfter openStore call carriedOut memoryOf buffersOf zeroPage lentOk callPages stepsPages decide flushOutcome steps stepOutcome writeOutcome readOutcome checked steppedPages writtenPages readPage stepped written readDirectory rewrittenPages merged vacated exchangedPages exchanged givenSlot taken spare unmet joinedPages filled joined putFramePage putSlotPage entered putSlot touched recencyAfter wornBy worn programmed flashPage lowestWorn isWorn cached dueOf lowestInSlots occupied plan evictionPlan evictable anyEvictable evictFrame fewestValid victim leastRecent readWay slotCount validCount frameOf frameWith inSlots slotOf inBlock inFrame sound framePast slotPast listedOnce cachedOnce framesDiffer slotsDiffer frameOk slotOk shapeOk sizesOk vacantDirectory blankCache every first firstFrom count all allPairs tab tabFrom bit mask nth argmax least pageAt pagesOf flat
-blocks-whole = refl
-
--- each block's wear is the book's
-wear : ran .store .lent .wear ≡ 1 ∷ 1 ∷ 1 ∷ []
-unfolding start wrote ran both writesA restA opened fed arrayAfter logAfter beforeAfter openStore call carriedOut memoryOf buffersOf zeroPage lentOk callPages stepsPages decide flushOutcome steps stepOutcome writeOutcome readOutcome checked steppedPages writtenPages readPage stepped written readDirectory rewrittenPages merged vacated exchangedPages exchanged givenSlot taken spare unmet joinedPages filled joined putFramePage putSlotPage entered putSlot touched recencyAfter wornBy worn programmed flashPage lowestWorn isWorn cached dueOf lowestInSlots occupied plan evictionPlan evictFrame anyEvictable evictable fewestValid victim leastRecent readWay slotCount validCount frameOf frameWith inSlots slotOf inBlock inFrame sound framePast slotPast listedOnce cachedOnce framesDiffer slotsDiffer frameOk slotOk shapeOk sizesOk vacantDirectory blankCache every first firstFrom count all allPairs tab tabFrom bit mask nth argmax least pageAt pagesOf flat
-wear = refl
-
-book-wear : ran .reference .book .wear ≡ 1 ∷ 1 ∷ 1 ∷ []
-unfolding start wrote ran both writesA restA opened fed arrayAfter logAfter beforeAfter openStore call carriedOut memoryOf buffersOf zeroPage lentOk callPages stepsPages decide flushOutcome steps stepOutcome writeOutcome readOutcome checked steppedPages writtenPages readPage stepped written readDirectory rewrittenPages merged vacated exchangedPages exchanged givenSlot taken spare unmet joinedPages filled joined putFramePage putSlotPage entered putSlot touched recencyAfter wornBy worn programmed flashPage lowestWorn isWorn cached dueOf lowestInSlots occupied plan evictionPlan evictFrame anyEvictable evictable fewestValid victim leastRecent readWay slotCount validCount frameOf frameWith inSlots slotOf inBlock inFrame sound framePast slotPast listedOnce cachedOnce framesDiffer slotsDiffer frameOk slotOk shapeOk sizesOk vacantDirectory blankCache every first firstFrom count all allPairs tab tabFrom bit mask nth argmax least pageAt pagesOf flat
-book-wear = refl
-
--- after the flush, flash is that array
-flash : ran .store .lent .flash ≡ 10 ∷ 255 ∷ 20 ∷ 40 ∷ 30 ∷ 255 ∷ []
-unfolding start wrote ran both writesA restA opened fed arrayAfter logAfter beforeAfter openStore call carriedOut memoryOf buffersOf zeroPage lentOk callPages stepsPages decide flushOutcome steps stepOutcome writeOutcome readOutcome checked steppedPages writtenPages readPage stepped written readDirectory rewrittenPages merged vacated exchangedPages exchanged givenSlot taken spare unmet joinedPages filled joined putFramePage putSlotPage entered putSlot touched recencyAfter wornBy worn programmed flashPage lowestWorn isWorn cached dueOf lowestInSlots occupied plan evictionPlan evictFrame anyEvictable evictable fewestValid victim leastRecent readWay slotCount validCount frameOf frameWith inSlots slotOf inBlock inFrame sound framePast slotPast listedOnce cachedOnce framesDiffer slotsDiffer frameOk slotOk shapeOk sizesOk vacantDirectory blankCache every first firstFrom count all allPairs tab tabFrom bit mask nth argmax least pageAt pagesOf flat
-flash = refl
+-- every clause holds, by computing with the definitions
+pub clauses : Clauses
+unfolding start wrote ran both writesA restA blockPages timesCached opened fed arrayAfter logAfter beforeAfter openStore call carriedOut
+    memoryOf buffersOf zeroPage lentOk callPages stepsPages decide flushOutcome steps stepOutcome writeOutcome readOutcome checked
+    steppedPages writtenPages readPage stepped written readDirectory rewrittenPages merged vacated exchangedPages exchanged givenSlot
+    taken spare unmet joinedPages filled joined putFramePage putSlotPage entered putSlot touched recencyAfter wornBy worn programmed
+    flashPage lowestWorn isWorn cached dueOf lowestInSlots occupied plan evictionPlan evictFrame anyEvictable evictable fewestValid victim
+    leastRecent readWay slotCount validCount frameOf frameWith inSlots slotOf inBlock inFrame sound framePast slotPast listedOnce
+    cachedOnce framesDiffer slotsDiffer frameOk slotOk shapeOk sizesOk vacantDirectory blankCache every first firstFrom count all allPairs
+    tab tabFrom bit mask nth argmax least pageAt pagesOf flat
+clauses = record {
+  answers = refl;
+  book-answers = refl;
+  array = refl;
+  log = refl;
+  reads = refl;
+  once = refl;
+  arrays-before = refl;
+  logs-before = refl;
+  blocks-whole = refl;
+  wear = refl;
+  book-wear = refl;
+  flash = refl;
+}

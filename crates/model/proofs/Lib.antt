@@ -11,6 +11,14 @@ pub mod EachPage
 pub mod Buffers
 pub mod Demand3
 pub mod AuditClauses
+pub mod AuditRows
+pub mod AuditPaper
+pub mod AuditWays
+pub mod AuditFrames
+pub mod AuditWorn
+pub mod AuditParts
+pub mod AuditOpenings
+pub mod AuditSpoilt
 pub mod AuditTable
 pub mod Calls
 pub mod ScriptA

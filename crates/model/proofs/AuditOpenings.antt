@@ -1,0 +1,272 @@
+-- Openings: their refusals in order, each size at its limits and one past, buffers of wrong lengths, the blank record, and calls after a
+-- refused opening.
+use mathlib.Core.List.{List, [], _∷_}
+use Prim.Native.Nat.{ℕ}
+use lib.ListN.{replicate}
+use Rattle.model.specs.Sizes.{Sizes, vacant}
+use Rattle.model.specs.Policy.{leastRecent}
+use Rattle.model.specs.Calls.{openDone, readDone, refused, Call, read, write, part, step, flush, Page, Buffers, Opened, openStore}
+use Rattle.model.specs.Calls.{Store, Result, call}
+use Rattle.model.proofs.AuditRows.{Row, sizesOf, way, directoryOf}
+
+-- a refused opening leaves the blank record, on which every call is refused 4
+abbrev pub blank-record : Row
+blank-record = record {
+  sizes = sizesOf 0 2 3 2 1 9;
+  wear = 0 ∷ 0 ∷ 0 ∷ [];
+  calls = read 0 [] ∷ write 0 [] ∷ step ∷ flush ∷ [];
+  gives = record {
+    opening = refused 1 vacant;
+    answers = refused 4 vacant ∷ refused 4 vacant ∷ refused 4 vacant ∷ refused 4 vacant ∷ [];
+    pages = [] ∷ [] ∷ [] ∷ [] ∷ [];
+    sizes = sizesOf 0 0 0 0 0 0;
+    slots = [];
+    frames = [];
+    valid = [];
+    recency = [];
+    flash = [];
+    pspace = [];
+    bspace = [];
+    wear = 0 ∷ 0 ∷ 0 ∷ [];
+  };
+}
+
+-- refusal 2 looks at the lent buffers at opening, and refusal 3 at the wear
+abbrev pub short-wear : Row
+short-wear = record {
+  sizes = sizesOf 1 2 3 2 1 9;
+  wear = 0 ∷ 0 ∷ [];
+  calls = [];
+  gives = record {
+    opening = refused 2 vacant;
+    answers = [];
+    pages = [];
+    sizes = sizesOf 0 0 0 0 0 0;
+    slots = [];
+    frames = [];
+    valid = [];
+    recency = [];
+    flash = 255 ∷ 255 ∷ 255 ∷ 255 ∷ 255 ∷ 255 ∷ [];
+    pspace = 0 ∷ 0 ∷ [];
+    bspace = 0 ∷ 0 ∷ [];
+    wear = 0 ∷ 0 ∷ [];
+  };
+}
+
+--
+abbrev pub overworn : Row
+overworn = record {
+  sizes = sizesOf 1 2 3 2 1 9;
+  wear = 0 ∷ 10 ∷ 0 ∷ [];
+  calls = [];
+  gives = record {
+    opening = refused 3 vacant;
+    answers = [];
+    pages = [];
+    sizes = sizesOf 0 0 0 0 0 0;
+    slots = [];
+    frames = [];
+    valid = [];
+    recency = [];
+    flash = 255 ∷ 255 ∷ 255 ∷ 255 ∷ 255 ∷ 255 ∷ [];
+    pspace = 0 ∷ 0 ∷ [];
+    bspace = 0 ∷ 0 ∷ [];
+    wear = 0 ∷ 10 ∷ 0 ∷ [];
+  };
+}
+
+-- a page buffer of another length is refused 2, before the page number is looked at
+abbrev pub page-buffer : Row
+page-buffer = record {
+  sizes = sizesOf 1 2 3 2 1 9;
+  wear = 0 ∷ 9 ∷ 0 ∷ [];
+  calls = write 0 (1 ∷ 2 ∷ []) ∷ read 9 [] ∷ write 9 (1 ∷ []) ∷ [];
+  gives = record {
+    opening = openDone;
+    answers = refused 2 vacant ∷ refused 2 vacant ∷ refused 5 vacant ∷ [];
+    pages = (1 ∷ 2 ∷ []) ∷ [] ∷ (1 ∷ []) ∷ [];
+    sizes = sizesOf 1 2 3 2 1 9;
+    slots = vacant ∷ vacant ∷ [];
+    frames = vacant ∷ [];
+    valid = 0 ∷ [];
+    recency = 0 ∷ [];
+    flash = 255 ∷ 255 ∷ 255 ∷ 255 ∷ 255 ∷ 255 ∷ [];
+    pspace = 0 ∷ 0 ∷ [];
+    bspace = 0 ∷ 0 ∷ [];
+    wear = 0 ∷ 9 ∷ 0 ∷ [];
+  };
+}
+
+-- after an opening refused 1 every call is refused 4, and the record stays blank
+abbrev pub after-size : Row
+after-size = record {
+  sizes = sizesOf 1 1 3 2 1 9;
+  wear = 0 ∷ 0 ∷ 0 ∷ [];
+  calls = read 0 (7 ∷ []) ∷ write 0 (7 ∷ []) ∷ part 0 0 (1 ∷ []) (7 ∷ []) ∷ step ∷ flush ∷ [];
+  gives = record {
+    opening = refused 1 vacant;
+    answers = refused 4 vacant ∷ refused 4 vacant ∷ refused 4 vacant ∷ refused 4 vacant ∷ refused 4 vacant ∷ [];
+    pages = (7 ∷ []) ∷ (7 ∷ []) ∷ (7 ∷ []) ∷ [] ∷ [] ∷ [];
+    sizes = sizesOf 0 0 0 0 0 0;
+    slots = [];
+    frames = [];
+    valid = [];
+    recency = [];
+    flash = 255 ∷ 255 ∷ 255 ∷ [];
+    pspace = 0 ∷ 0 ∷ [];
+    bspace = 0 ∷ [];
+    wear = 0 ∷ 0 ∷ 0 ∷ [];
+  };
+}
+
+-- after an opening refused 3 every call is refused 4, though sizes and buffers would do
+abbrev pub after-overworn : Row
+after-overworn = record {
+  sizes = sizesOf 1 2 3 2 1 9;
+  wear = 0 ∷ 10 ∷ 0 ∷ [];
+  calls = read 0 (7 ∷ []) ∷ write 0 (7 ∷ []) ∷ part 0 0 (1 ∷ []) (7 ∷ []) ∷ step ∷ flush ∷ [];
+  gives = record {
+    opening = refused 3 vacant;
+    answers = refused 4 vacant ∷ refused 4 vacant ∷ refused 4 vacant ∷ refused 4 vacant ∷ refused 4 vacant ∷ [];
+    pages = (7 ∷ []) ∷ (7 ∷ []) ∷ (7 ∷ []) ∷ [] ∷ [] ∷ [];
+    sizes = sizesOf 0 0 0 0 0 0;
+    slots = [];
+    frames = [];
+    valid = [];
+    recency = [];
+    flash = 255 ∷ 255 ∷ 255 ∷ 255 ∷ 255 ∷ 255 ∷ [];
+    pspace = 0 ∷ 0 ∷ [];
+    bspace = 0 ∷ 0 ∷ [];
+    wear = 0 ∷ 10 ∷ 0 ∷ [];
+  };
+}
+
+abbrev pub openings : List Row
+openings = blank-record ∷ short-wear ∷ overworn ∷ page-buffer ∷ after-size ∷ after-overworn ∷ []
+
+-- ---- openings alone
+
+-- an opening's sizes and buffers, its answer, and the record handed back
+pub record Opens : Type 0 where
+  pub sizes : Sizes
+  pub lent : Buffers
+  pub gives : Opened
+
+-- a flash of so many bytes, the wear, a p-space and a b-space of so many bytes
+abbrev pub lengths : ℕ → List ℕ → ℕ → ℕ → Buffers
+lengths flash wear pspace bspace = record {
+  flash = replicate flash 255;
+  wear = wear;
+  pspace = replicate pspace 0;
+  bspace = replicate bspace 0;
+}
+
+-- it is refused for cause r, and the record is blank
+abbrev pub refuses : Sizes → ℕ → List ℕ → ℕ → ℕ → ℕ → Opens
+refuses sz flash wear pspace bspace r = record {
+  sizes = sz;
+  lent = lengths flash wear pspace bspace;
+  gives = record { answer = refused r vacant; cache = record { sizes = sizesOf 0 0 0 0 0 0; directory = directoryOf [] [] [] [] } };
+}
+
+-- it is accepted, and the record has the sizes and is all vacant
+abbrev pub opens : Sizes → ℕ → List ℕ → ℕ → ℕ → Opens
+opens sz flash wear pspace bspace = record {
+  sizes = sz;
+  lent = lengths flash wear pspace bspace;
+  gives = record { answer = openDone; cache = record { sizes = sz; directory = directoryOf [] [] [] [] } };
+}
+
+abbrev pub opened : Opens → Opened
+opened r = openStore (r .sizes) (r .lent)
+
+abbrev pub openedListed : Opens → Opened
+openedListed r = r .gives
+
+-- each size one below its limits, at both, and one above, with empty buffers: refused 1 beyond a limit, refused 2 within
+abbrev pub limits : List Opens
+limits =
+    refuses (sizesOf 0 4 5 6 7 8) 0 [] 0 0 1
+    ∷ refuses (sizesOf 1 4 5 6 7 8) 0 [] 0 0 2
+    ∷ refuses (sizesOf 2048 4 5 6 7 8) 0 [] 0 0 2
+    ∷ refuses (sizesOf 2049 4 5 6 7 8) 0 [] 0 0 1
+    ∷ refuses (sizesOf 3 1 5 6 7 8) 0 [] 0 0 1
+    ∷ refuses (sizesOf 3 2 5 6 7 8) 0 [] 0 0 2
+    ∷ refuses (sizesOf 3 64 5 6 7 8) 0 [] 0 0 2
+    ∷ refuses (sizesOf 3 65 5 6 7 8) 0 [] 0 0 1
+    ∷ refuses (sizesOf 3 4 0 6 7 8) 0 [] 0 0 1
+    ∷ refuses (sizesOf 3 4 1 6 7 8) 0 [] 0 0 2
+    ∷ refuses (sizesOf 3 4 4096 6 7 8) 0 [] 0 0 2
+    ∷ refuses (sizesOf 3 4 4097 6 7 8) 0 [] 0 0 1
+    ∷ refuses (sizesOf 3 4 5 0 7 8) 0 [] 0 0 1
+    ∷ refuses (sizesOf 3 4 5 1 7 8) 0 [] 0 0 2
+    ∷ refuses (sizesOf 3 4 5 128 7 8) 0 [] 0 0 2
+    ∷ refuses (sizesOf 3 4 5 129 7 8) 0 [] 0 0 1
+    ∷ refuses (sizesOf 3 4 5 6 0 8) 0 [] 0 0 1
+    ∷ refuses (sizesOf 3 4 5 6 1 8) 0 [] 0 0 2
+    ∷ refuses (sizesOf 3 4 5 6 8 8) 0 [] 0 0 2
+    ∷ refuses (sizesOf 3 4 5 6 9 8) 0 [] 0 0 1
+    ∷ refuses (sizesOf 3 4 5 6 7 0) 0 [] 0 0 1
+    ∷ refuses (sizesOf 3 4 5 6 7 1) 0 [] 0 0 2
+    ∷ refuses (sizesOf 3 4 5 6 7 1000000) 0 [] 0 0 2
+    ∷ refuses (sizesOf 3 4 5 6 7 1000001) 0 [] 0 0 1
+    ∷ []
+
+-- each buffer one too short, then one too long; then two or three causes at once, of which the first counts: 1 and 3; 1 and 2; 1, 2 and
+-- 3; 2 and 3, thrice; then wear above W, and at W
+abbrev pub causes : List Opens
+causes =
+    refuses (sizesOf 1 2 3 2 1 9) 5 (0 ∷ 0 ∷ 0 ∷ []) 2 2 2
+    ∷ refuses (sizesOf 1 2 3 2 1 9) 6 (0 ∷ 0 ∷ []) 2 2 2
+    ∷ refuses (sizesOf 1 2 3 2 1 9) 6 (0 ∷ 0 ∷ 0 ∷ []) 1 2 2
+    ∷ refuses (sizesOf 1 2 3 2 1 9) 6 (0 ∷ 0 ∷ 0 ∷ []) 2 1 2
+    ∷ refuses (sizesOf 1 2 3 2 1 9) 7 (0 ∷ 0 ∷ 0 ∷ []) 2 2 2
+    ∷ refuses (sizesOf 1 2 3 2 1 9) 6 (0 ∷ 0 ∷ 0 ∷ 0 ∷ []) 2 2 2
+    ∷ refuses (sizesOf 1 2 3 2 1 9) 6 (0 ∷ 0 ∷ 0 ∷ []) 3 2 2
+    ∷ refuses (sizesOf 1 2 3 2 1 9) 6 (0 ∷ 0 ∷ 0 ∷ []) 2 3 2
+    ∷ refuses (sizesOf 1 2 3 2 1 0) 6 (1 ∷ 1 ∷ 1 ∷ []) 2 2 1
+    ∷ refuses (sizesOf 1 1 3 2 1 9) 7 (0 ∷ 0 ∷ 0 ∷ []) 2 2 1
+    ∷ refuses (sizesOf 1 1 3 2 1 9) 7 (10 ∷ 10 ∷ 10 ∷ []) 2 2 1
+    ∷ refuses (sizesOf 1 2 3 2 1 9) 7 (10 ∷ 0 ∷ 0 ∷ []) 2 2 2
+    ∷ refuses (sizesOf 1 2 3 2 1 9) 6 (0 ∷ 0 ∷ 10 ∷ 0 ∷ []) 2 2 2
+    ∷ refuses (sizesOf 1 2 3 2 1 9) 6 (10 ∷ 0 ∷ []) 2 2 2
+    ∷ refuses (sizesOf 1 2 3 2 1 9) 6 (0 ∷ 0 ∷ 10 ∷ []) 2 2 3
+    ∷ opens (sizesOf 1 2 3 2 1 9) 6 (9 ∷ 9 ∷ 9 ∷ []) 2 2
+    ∷ []
+
+-- ---- calls with buffers of other lengths than at opening
+
+-- a call on the record as an accepted opening leaves it, with other buffers; the page buffer then
+pub record Lends : Type 0 where
+  pub store : Store
+  pub call : Call Page
+  pub page : Page
+
+-- sizes, the lengths of the buffers as above, the call, and the page buffer afterwards
+abbrev pub lends : Sizes → ℕ → List ℕ → ℕ → ℕ → Call Page → Page → Lends
+lends sz flash wear pspace bspace c page = record {
+  store = record { cache = record { sizes = sz; directory = directoryOf [] [] [] [] }; lent = lengths flash wear pspace bspace };
+  call = c;
+  page = page;
+}
+
+abbrev pub called : Lends → Result
+called r = call leastRecent (r .store) (r .call)
+
+-- each is refused 2: the record and the buffers are handed back
+abbrev pub calledListed : Lends → Result
+calledListed r = record { answer = refused 2 vacant; store = r .store; page = r .page }
+
+-- each buffer one too short and one too long; the last has a page number that is too high as well
+abbrev pub lendings : List Lends
+lendings =
+    lends (sizesOf 1 2 3 2 1 9) 5 (0 ∷ 0 ∷ 0 ∷ []) 2 2 (read 0 (7 ∷ [])) (7 ∷ [])
+    ∷ lends (sizesOf 1 2 3 2 1 9) 7 (0 ∷ 0 ∷ 0 ∷ []) 2 2 flush []
+    ∷ lends (sizesOf 1 2 3 2 1 9) 6 (0 ∷ 0 ∷ []) 2 2 step []
+    ∷ lends (sizesOf 1 2 3 2 1 9) 6 (0 ∷ 0 ∷ 0 ∷ 0 ∷ []) 2 2 (write 0 (7 ∷ [])) (7 ∷ [])
+    ∷ lends (sizesOf 1 2 3 2 1 9) 6 (0 ∷ 0 ∷ 0 ∷ []) 1 2 (part 0 0 (1 ∷ []) (7 ∷ [])) (7 ∷ [])
+    ∷ lends (sizesOf 1 2 3 2 1 9) 6 (0 ∷ 0 ∷ 0 ∷ []) 3 2 flush []
+    ∷ lends (sizesOf 1 2 3 2 1 9) 6 (0 ∷ 0 ∷ 0 ∷ []) 2 1 step []
+    ∷ lends (sizesOf 1 2 3 2 1 9) 6 (0 ∷ 0 ∷ 0 ∷ []) 2 3 (read 0 (7 ∷ [])) (7 ∷ [])
+    ∷ lends (sizesOf 1 2 3 2 1 9) 5 (0 ∷ 0 ∷ 0 ∷ []) 2 2 (write 6 (7 ∷ [])) (7 ∷ [])
+    ∷ []

@@ -1,0 +1,157 @@
+-- Records with one entry spoilt, one or more for each condition of soundness: a call on them is refused 4, and hands record, buffers and
+-- page
+-- buffer back.
+use mathlib.Core.List.{List, [], _∷_, _++_}
+use Prim.Native.Nat.{ℕ}
+use lib.ListN.{replicate}
+use Rattle.model.specs.Sizes.{Sizes, vacant}
+use Rattle.model.specs.Policy.{leastRecent}
+use Rattle.model.specs.Calls.{Answer, readDone, refused, read, Page, Store, Result, call}
+use Rattle.model.proofs.AuditRows.{sizesOf, directoryOf, erased}
+
+-- the record with these sizes, slots, frames, valid sets and order, and the erased buffers of the sizes 1 4 3 3 2 9
+abbrev pub recordOf : Sizes → List ℕ → List ℕ → List ℕ → List ℕ → Store
+recordOf sz slots frames valid recency = record {
+  cache = record { sizes = sz; directory = directoryOf slots frames valid recency };
+  lent = erased (sizesOf 1 4 3 3 2 9) (0 ∷ 0 ∷ 0 ∷ []);
+}
+
+-- a read of page 0 with byte 7 in the page buffer
+abbrev pub tried : Store → Result
+tried s = call leastRecent s (read 0 (7 ∷ []))
+
+-- ---- sound records
+
+-- a sound record, the read's answer, and the page that it gives; the record stays as it is
+pub record Unspoilt : Type 0 where
+  pub store : Store
+  pub answer : Answer
+  pub page : Page
+
+abbrev pub triedUnspoilt : Unspoilt → Result
+triedUnspoilt r = tried (r .store)
+
+abbrev pub unspoiltListed : Unspoilt → Result
+unspoiltListed r = record { answer = r .answer; store = r .store; page = r .page }
+
+-- as it is
+abbrev pub held : Unspoilt
+held = record {
+  store = recordOf (sizesOf 1 4 3 3 2 9) (0 ∷ vacant ∷ 9 ∷ []) (1 ∷ 2 ∷ []) (5 ∷ 1 ∷ []) (1 ∷ 0 ∷ []);
+  answer = readDone 1;
+  page = 0 ∷ [];
+}
+
+-- no slot and no frame held
+abbrev pub vacantOnes : Unspoilt
+vacantOnes = record {
+  store = recordOf (sizesOf 1 4 3 3 2 9) (vacant ∷ vacant ∷ vacant ∷ []) (vacant ∷ vacant ∷ []) (0 ∷ 0 ∷ []) (0 ∷ 1 ∷ []);
+  answer = readDone 3;
+  page = 255 ∷ [];
+}
+
+-- page, block and valid bits at their highest
+abbrev pub highest : Unspoilt
+highest = record {
+  store = recordOf (sizesOf 1 4 3 3 2 9) (11 ∷ vacant ∷ 3 ∷ []) (1 ∷ 0 ∷ []) (15 ∷ 6 ∷ []) (0 ∷ 1 ∷ []);
+  answer = readDone 3;
+  page = 255 ∷ [];
+}
+
+abbrev pub unspoilt : List Unspoilt
+unspoilt = held ∷ vacantOnes ∷ highest ∷ []
+
+-- ---- the first of them with one entry, or one size, spoilt
+
+abbrev withSizes : Sizes → Store
+withSizes sz = recordOf sz (0 ∷ vacant ∷ 9 ∷ []) (1 ∷ 2 ∷ []) (5 ∷ 1 ∷ []) (1 ∷ 0 ∷ [])
+
+abbrev withSlots : List ℕ → Store
+withSlots slots = recordOf (sizesOf 1 4 3 3 2 9) slots (1 ∷ 2 ∷ []) (5 ∷ 1 ∷ []) (1 ∷ 0 ∷ [])
+
+abbrev withFrames : List ℕ → List ℕ → Store
+withFrames frames valid = recordOf (sizesOf 1 4 3 3 2 9) (0 ∷ vacant ∷ 9 ∷ []) frames valid (1 ∷ 0 ∷ [])
+
+abbrev withOrder : List ℕ → Store
+withOrder recency = recordOf (sizesOf 1 4 3 3 2 9) (0 ∷ vacant ∷ 9 ∷ []) (1 ∷ 2 ∷ []) (5 ∷ 1 ∷ []) recency
+
+abbrev pub spoiltListed : Store → Result
+spoiltListed s = record { answer = refused 4 vacant; store = s; page = 7 ∷ [] }
+
+abbrev pub spoilt : List Store
+spoilt =
+    -- S is 0
+    withSizes (sizesOf 0 4 3 3 2 9)
+    -- S is 2049
+    ∷ withSizes (sizesOf 2049 4 3 3 2 9)
+    -- K is 1
+    ∷ withSizes (sizesOf 1 1 3 3 2 9)
+    -- K is 65
+    ∷ withSizes (sizesOf 1 65 3 3 2 9)
+    -- N is 0
+    ∷ withSizes (sizesOf 1 4 0 3 2 9)
+    -- N is 4097
+    ∷ withSizes (sizesOf 1 4 4097 3 2 9)
+    -- P is 0
+    ∷ withSizes (sizesOf 1 4 3 0 2 9)
+    -- P is 129
+    ∷ withSizes (sizesOf 1 4 3 129 2 9)
+    -- B is 0
+    ∷ withSizes (sizesOf 1 4 3 3 0 9)
+    -- B is 9
+    ∷ withSizes (sizesOf 1 4 3 3 9 9)
+    -- W is 0
+    ∷ withSizes (sizesOf 1 4 3 3 2 0)
+    -- W is 1000001
+    ∷ withSizes (sizesOf 1 4 3 3 2 1000001)
+    -- a slot holds page N×K
+    ∷ withSlots (0 ∷ vacant ∷ 12 ∷ [])
+    -- a slot holds a number below vacant that is no page
+    ∷ withSlots (0 ∷ vacant ∷ 4294967294 ∷ [])
+    -- a frame holds block N
+    ∷ withFrames (1 ∷ 3 ∷ []) (5 ∷ 1 ∷ [])
+    -- a vacant frame has a valid bit
+    ∷ withFrames (1 ∷ vacant ∷ []) (5 ∷ 1 ∷ [])
+    -- a frame has no valid bit
+    ∷ withFrames (1 ∷ 2 ∷ []) (5 ∷ 0 ∷ [])
+    -- a frame has a valid bit at K
+    ∷ withFrames (1 ∷ 2 ∷ []) (5 ∷ 17 ∷ [])
+    -- a frame has a valid bit at 63
+    ∷ withFrames (1 ∷ 2 ∷ []) (9223372036854775813 ∷ 1 ∷ [])
+    -- a page stands in two slots
+    ∷ withSlots (0 ∷ 9 ∷ 9 ∷ [])
+    -- a block stands in two frames
+    ∷ withFrames (1 ∷ 1 ∷ []) (5 ∷ 2 ∷ [])
+    -- a page stands in a slot and is valid in a frame
+    ∷ withSlots (0 ∷ vacant ∷ 8 ∷ [])
+    -- the order lists a frame twice
+    ∷ withOrder (1 ∷ 1 ∷ [])
+    -- the order lists a frame past B
+    ∷ withOrder (1 ∷ 2 ∷ [])
+    -- the order lists vacant
+    ∷ withOrder (vacant ∷ 0 ∷ [])
+    -- a slot past P holds a page
+    ∷ withSlots (0 ∷ vacant ∷ 9 ∷ 1 ∷ [])
+    -- the last slot holds a page
+    ∷ withSlots ((0 ∷ vacant ∷ 9 ∷ []) ++ (replicate 124 vacant ++ (1 ∷ [])))
+    -- a frame past B holds a block
+    ∷ withFrames (1 ∷ 2 ∷ 0 ∷ []) (5 ∷ 1 ∷ [])
+    -- the last frame holds a block
+    ∷ withFrames (1 ∷ 2 ∷ vacant ∷ vacant ∷ vacant ∷ vacant ∷ vacant ∷ 0 ∷ []) (5 ∷ 1 ∷ [])
+    -- a frame past B has a valid bit
+    ∷ withFrames (1 ∷ 2 ∷ []) (5 ∷ 1 ∷ 1 ∷ [])
+    -- the last frame has a valid bit
+    ∷ withFrames (1 ∷ 2 ∷ []) (5 ∷ 1 ∷ 0 ∷ 0 ∷ 0 ∷ 0 ∷ 0 ∷ 1 ∷ [])
+    -- order entries past B change places
+    ∷ withOrder (1 ∷ 0 ∷ 3 ∷ 2 ∷ [])
+    -- the last order entry is not its own index
+    ∷ withOrder (1 ∷ 0 ∷ 2 ∷ 3 ∷ 4 ∷ 5 ∷ 6 ∷ 0 ∷ [])
+    -- there are 129 slots
+    ∷ withSlots ((0 ∷ vacant ∷ 9 ∷ []) ++ replicate 126 vacant)
+    -- there are 9 frames
+    ∷ withFrames (1 ∷ 2 ∷ vacant ∷ vacant ∷ vacant ∷ vacant ∷ vacant ∷ vacant ∷ vacant ∷ []) (5 ∷ 1 ∷ [])
+    -- there are 9 valid sets
+    ∷ withFrames (1 ∷ 2 ∷ []) (5 ∷ 1 ∷ 0 ∷ 0 ∷ 0 ∷ 0 ∷ 0 ∷ 0 ∷ 0 ∷ [])
+    -- there are 9 order entries
+    ∷ withOrder (1 ∷ 0 ∷ 2 ∷ 3 ∷ 4 ∷ 5 ∷ 6 ∷ 7 ∷ 8 ∷ [])
+    ∷ []

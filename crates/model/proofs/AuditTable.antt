@@ -29,7 +29,7 @@ use Rattle.model.proofs.AuditSpoilt.{tried, triedUnspoilt, unspoiltList
 -- every row of every table holds, by the definitions
 pub rows : (map given paper ≡ map listed paper) × (map given ways ≡ map listed ways) × (map given manyFrames ≡ map listed manyFrames)
     × (map given wornBlocks ≡ map listed wornBlocks) × (map given parts ≡ map listed parts) × (map given openings ≡ map listed openings)
-    × (map opened limits ≡ map openedListed limits) × (map opened causes ≡ map openedListed causes)
+    × (map opened causes ≡ map openedListed causes) × (map opened limits ≡ map openedListed limits)
     × (map called lendings ≡ map calledListed lendings) × (map triedUnspoilt unspoilt ≡ map unspoiltListed unspoilt)
     × (map tried spoilt ≡ map spoiltListed spoilt)
 unfolding openStore call carriedOut memoryOf buffersOf zeroPage lentOk callPages stepsPages decide flushOutcome steps stepOutcome

@@ -1,6 +1,4 @@
--- Records with one entry spoilt, one or more for each condition of soundness: a call on them is refused 4, and hands record, buffers and
--- page
--- buffer back.
+-- Records with one entry spoilt, one or more for each condition of soundness: a call on them is refused 4, and hands all back.
 use mathlib.Core.List.{List, [], _∷_, _++_}
 use Prim.Native.Nat.{ℕ}
 use lib.ListN.{replicate}
@@ -34,7 +32,7 @@ triedUnspoilt r = tried (r .store)
 abbrev pub unspoiltListed : Unspoilt → Result
 unspoiltListed r = record { answer = r .answer; store = r .store; page = r .page }
 
--- as it is
+-- the record that is spoilt below
 abbrev pub held : Unspoilt
 held = record {
   store = recordOf (sizesOf 1 4 3 3 2 9) (0 ∷ vacant ∷ 9 ∷ []) (1 ∷ 2 ∷ []) (5 ∷ 1 ∷ []) (1 ∷ 0 ∷ []);
@@ -50,7 +48,7 @@ vacantOnes = record {
   page = 255 ∷ [];
 }
 
--- page, block and valid bits at their highest
+-- the highest page in a slot, and a frame with all its pages valid
 abbrev pub highest : Unspoilt
 highest = record {
   store = recordOf (sizesOf 1 4 3 3 2 9) (11 ∷ vacant ∷ 3 ∷ []) (1 ∷ 0 ∷ []) (15 ∷ 6 ∷ []) (0 ∷ 1 ∷ []);
@@ -61,7 +59,7 @@ highest = record {
 abbrev pub unspoilt : List Unspoilt
 unspoilt = held ∷ vacantOnes ∷ highest ∷ []
 
--- ---- the first of them with one entry, or one size, spoilt
+-- ---- the first of them spoilt at one place
 
 abbrev withSizes : Sizes → Store
 withSizes sz = recordOf sz (0 ∷ vacant ∷ 9 ∷ []) (1 ∷ 2 ∷ []) (5 ∷ 1 ∷ []) (1 ∷ 0 ∷ [])

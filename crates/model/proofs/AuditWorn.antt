@@ -100,8 +100,7 @@ last-unworn = record {
   };
 }
 
--- a worn block with pages in slots only is named by a flush, though a frame holds a worn block too: the lowest counts, wherever it is
--- cached
+-- a flush names the lowest worn block, here one with pages in slots only, though a frame holds a worn block too
 abbrev pub worn-in-slots : Row
 worn-in-slots = record {
   sizes = sizesOf 1 2 5 2 2 9;

@@ -121,9 +121,13 @@ laid-rule A first x l z h = let e = length-take-le first l (omega arith) in (
   (λ j k. List·getD-append (take first l) _ z j (omega arith) ∙ getD-take first l j z k),
   (λ j k. ap (λ (q : ℕ). getD (laid first x l) q z) (let y : first + j ≡ length (take first l) + j = omega arith in y)
       ∙ getD-append-add (take first l) _ j z ∙ List·getD-append x _ z j k),
-  (λ j k. ap (λ (q : ℕ). getD (laid first x l) q z) (let y : j ≡ length (take first l) + (length x + (j - (first + length x))) =
-      omega arith in y)
-      ∙ getD-append-add (take first l) _ (length x + (j - (first + length x))) z ∙ getD-append-add x _ (j - (first + length x)) z
-      ∙ getD-drop (first + length x) l (j - (first + length x)) z
+  (λ j k. ap (λ (q : ℕ). getD (laid first x l) q z) (let y : j ≡ first + length x + (j - (first + length x)) = omega arith in y)
+      ∙ rest (j - (first + length x)) e
       ∙ ap (λ (q : ℕ). getD l q z) (let y : first + length x + (j - (first + length x)) ≡ j = omega arith in y)),
 )
+  where
+    -- byte i past the bytes laid in
+    rest : (i : ℕ) → length (take first l) ≡ first → getD (laid first x l) (first + length x + i) z ≡ getD l (first + length x + i) z
+    rest i e = ap (λ (q : ℕ). getD (laid first x l) q z) (let y : first + length x + i ≡ length (take first l) + (length x + i) =
+        omega arith in y)
+        ∙ getD-append-add (take first l) _ (length x + i) z ∙ getD-append-add x _ i z ∙ getD-drop (first + length x) l i z

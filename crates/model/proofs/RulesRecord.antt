@@ -8,7 +8,6 @@ use native.Mathlib.Omega.{arith}
 use lib.Dec.{leb, ltb, eqb}
 use lib.ListN.{length, getD, getD-replicate, length-replicate}
 use lib.Pow.{pow-pos, shr-shr}
-use lib.Arith.{digits-lt}
 use borrow.Author.Tests.{le-leb, lt-leb, ltb-true, ltb-false, eqb-true, eqb-false, eq-eqb}
 use Rattle.prelude.specs.Bits.{bit}
 use Rattle.prelude.proofs.Tests.{by-test, clash, fails, each, every-of}
@@ -23,7 +22,7 @@ use Rattle.model.specs.RulesRecord.{VacantRule, WithinLimits, SizesRule,
 use Rattle.model.specs.RulesRecord.{StartRule, BlankRule, BlankUnsoundRule, OpeningSizeRule, OpeningBufferRule, OpeningOverwornRule}
 use Rattle.model.specs.RulesRecord.{OpeningDoneRule}
 use Rattle.model.proofs.Soundness.{limits-of, limits-test, sound-facts, facts-sound, pages-small}
-use Rattle.model.proofs.Lookup.{page-div, page-mod, page-split, block-lt, offset-lt, frame-has, has-frame, block-vacant}
+use Rattle.model.proofs.Lookup.{page-div, page-mod, page-vacant, page-split, block-lt, offset-lt, frame-has, has-frame, block-vacant}
 
 -- ---- sizes
 
@@ -62,8 +61,7 @@ lengths-rule sz u = (
   (λ h. let e = each _ h in record {
     flash-is = eqb-true _ _ (e .0);
     wear-is = eqb-true _ _ (e .1 .0);
-    pspace-is =
-        eqb-true _ _ (e .1 .1 .0);
+    pspace-is = eqb-true _ _ (e .1 .1 .0);
     bspace-is = eqb-true _ _ (e .1 .1 .1 .0);
   }),
   (λ l. every-of _ (eq-eqb _ _ (l .flash-is), (eq-eqb _ _ (l .wear-is), (eq-eqb _ _ (l .pspace-is), (eq-eqb _ _ (l .bspace-is), tt))))),
@@ -96,49 +94,39 @@ module _ (sz : Sizes) (d : Directory) where
   said : Sound sz d → SoundBy sz d
   said s = record {
     sizes-are = sizes-rule sz .0 (limits-test sz (s .limits));
-    slots-are = s .shape .slots-length;
-    frames-are = s .shape .frames-length;
-    valid-are = s .shape .valid-length;
-    order-is = s .shape .recency-length;
-    slot-in = s .entries .slot-in;
-    frame-in = λ f l. elim (s .entries .frame-in f l) [
-      | inl e ↦ inl (e .0, λ o. ap (λ (x : ℕ). bit x o) (e .1) ∙ bit-zero o)
-      | inr e ↦ inr (
-        e .0,
-        (let t = bits-some (sz .K) (validAt d f) (e .1) (e .2) in
-            (t .0, t .2)),
-        λ o k. bit-high (sz .K) (validAt d f) o (e .2) k,
-      )
-    ];
-    slots-differ = λ i j il jl e. by-test (ltb (slotAt d i) vacant)
-        (λ t. absurd (let q = s .entries .slots-apart i j (omega arith) jl (ltb-true _ vacant t) e in omega arith))
-        (λ t. let g = ltb-false (slotAt d i) vacant t in elim
-        (s .entries .slot-in i (omega arith)) [ inl q ↦ q | inr q ↦ absurd (let p = pages-small sz (s .limits) in omega arith) ]);
-    frames-differ = λ f g fl gl e. by-test (ltb (frameAt d f) vacant)
-        (λ t. absurd (let q = s .entries .frames-apart f g (omega arith) gl (ltb-true _ vacant t) e in omega arith))
-        (λ t. let v = ltb-false (frameAt d f) vacant t in elim
-        (s .entries .frame-in f (omega arith)) [
-          | inl q ↦ q .0
-          | inr q ↦ absurd (let p = block-vacant sz (s .limits) (frameAt d f) (q .0) in
-              omega arith)
-        ]);
-    cached-once = λ i f b o il fl bl ol e k h. s .entries .once i f il fl
-        (elim (s .entries .slot-in i il) [
-          | inl q ↦ absurd (let p = pages-small sz (s .limits) in
-              let w = page-below b o bl ol in omega arith)
-          | inr q ↦ (let p = pages-small sz (s .limits) in omega arith)
-        ])
-        (has-frame sz d (slotAt d i) f (k ∙ sym (ap (λ (x : ℕ). x / sz .K) e
-        ∙ page-div sz (s .limits) b o ol)) (ap (λ (x : ℕ). bit (validAt d f) x) (ap (λ (x : ℕ). x % sz .K) e
-        ∙ page-mod sz (s .limits) b o ol) ∙ h));
+    shape-is = record {
+      slots-are = s .shape .slots-length;
+      frames-are = s .shape .frames-length;
+      valid-are = s .shape .valid-length;
+      order-is = s .shape .recency-length;
+    };
+    held-right = record {
+      slot-in = s .entries .slot-in;
+      frame-in = λ f l. elim (s .entries .frame-in f l) [
+        | inl e ↦ inl (e .0, λ o. ap (λ (x : ℕ). bit x o) (e .1) ∙ bit-zero o)
+        | inr e ↦ let t = bits-some (sz .K) (validAt d f) (e .1) (e .2) in
+            inr (e .0, (t .0, t .2), λ o k. bit-high (sz .K) (validAt d f) o (e .2) k)
+      ];
+      slots-differ = λ i j il jl e. by-test (ltb (slotAt d i) vacant)
+          (λ t. absurd (let q = s .entries .slots-apart i j (omega arith) jl (ltb-true _ vacant t) e in omega arith))
+          (λ t. let g = ltb-false (slotAt d i) vacant t in let p = pages-small sz (s .limits) in
+          elim (s .entries .slot-in i (omega arith)) [ inl q ↦ q | inr q ↦ absurd (omega arith) ]);
+      frames-differ = λ f g fl gl e. by-test (ltb (frameAt d f) vacant)
+          (λ t. absurd (let q = s .entries .frames-apart f g (omega arith) gl (ltb-true _ vacant t) e in omega arith))
+          (λ t. let v = ltb-false (frameAt d f) vacant t in elim (s .entries .frame-in f (omega arith)) [
+            | inl q ↦ q .0
+            | inr q ↦ absurd (let p = block-vacant sz (s .limits) (frameAt d f) (q .0) in omega arith)
+          ]);
+      cached-once = λ i f b o il fl bl ol e k h. let p = page-vacant sz (s .limits) b o bl ol in
+          s .entries .once i f il fl (omega arith) (has-frame sz d (slotAt d i) f
+          (k ∙ sym (ap (λ (x : ℕ). x / sz .K) e ∙ page-div sz (s .limits) b o ol))
+          (ap (λ (x : ℕ). bit (validAt d f) x) (ap (λ (x : ℕ). x % sz .K) e ∙ page-mod sz (s .limits) b o ol) ∙ h));
+    };
     order-has = s .listed .recency-has;
     order-once = listed-once (sz .B) (recencyAt d) (s .listed .recency-has);
     slots-past = s .past .slot-past;
     frames-past = s .past .frame-past;
   }
-    where
-      page-below : (b o : ℕ) → b < sz .N → o < sz .K → b * sz .K + o < sz .N * sz .K
-      page-below b o bl ol = digits-lt bl ol
 
   meant : SoundBy sz d → Sound sz d
   meant s =
@@ -146,23 +134,22 @@ module _ (sz : Sizes) (d : Directory) where
       record {
         limits = limits;
         shape = record {
-          slots-length = s .slots-are;
-          frames-length = s .frames-are;
-          valid-length = s .valid-are;
-          recency-length =
-              s .order-is;
+          slots-length = s .shape-is .slots-are;
+          frames-length = s .shape-is .frames-are;
+          valid-length = s .shape-is .valid-are;
+          recency-length = s .shape-is .order-is;
         };
         entries = record {
-          slot-in = s .slot-in;
-          slots-apart = two (sz .P) (slotAt d) (s .slots-differ);
-          frame-in = λ f l. elim (s .frame-in f l) [
+          slot-in = s .held-right .slot-in;
+          slots-apart = two (sz .P) (slotAt d) (s .held-right .slots-differ);
+          frame-in = λ f l. elim (s .held-right .frame-in f l) [
             | inl e ↦ inl (e .0, none-at-all (validAt d f) (e .1))
             | inr e ↦ inr (e .0, bit-pos (validAt d f) (e .1 .0) (e .1 .1), none-above (sz .K) (validAt d f) (e .2))
           ];
-          frames-apart = two (sz .B) (frameAt d) (s .frames-differ);
-          once = λ i f il fl v q. let h = frame-has sz d (slotAt d i) f q in elim (s .slot-in i il) [
+          frames-apart = two (sz .B) (frameAt d) (s .held-right .frames-differ);
+          once = λ i f il fl v q. let h = frame-has sz d (slotAt d i) f q in elim (s .held-right .slot-in i il) [
             | inl e ↦ omega arith
-            | inr e ↦ s .cached-once i f (slotAt d i / sz .K) (slotAt d i % sz .K) il fl (block-lt sz limits (slotAt d i) e)
+            | inr e ↦ s .held-right .cached-once i f (slotAt d i / sz .K) (slotAt d i % sz .K) il fl (block-lt sz limits (slotAt d i) e)
                 (offset-lt sz limits (slotAt d i))
                 (sym (page-split sz limits (slotAt d i) (slotAt d i / sz .K) refl)) (h .0) (h .1)
           ];
@@ -187,10 +174,12 @@ sound-rule sz d = ((λ h. said sz d (sound-facts sz d h)), (λ s. facts-sound sz
 pub start-rule : StartRule
 unfolding vacantDirectory
 start-rule = record {
-  slots-are = length-replicate 128 vacant;
-  frames-are = length-replicate 8 vacant;
-  valid-are = length-replicate {A = ℕ} 8 0;
-  order-is = length-tab 8 _;
+  shape-is = record {
+    slots-are = length-replicate 128 vacant;
+    frames-are = length-replicate 8 vacant;
+    valid-are = length-replicate {A = ℕ} 8 0;
+    order-is = length-tab 8 _;
+  };
   slot-is = λ i l. getD-replicate 128 i vacant 0 l;
   frame-is = λ f l. getD-replicate 8 f vacant 0 l;
   valid-is = λ f l. getD-replicate 8 f 0 0 l;

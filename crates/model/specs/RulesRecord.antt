@@ -45,15 +45,15 @@ LengthsRule = (sz : Sizes) (u : Buffers) → (lentOk sz u ≡ true) ⇔ RightLen
 
 -- ---- when a record is sound
 
--- A record is sound if:
-pub record SoundBy (sz : Sizes) (d : Directory) : Type 0 where
-  -- sizes and W are as opening's refusal 1 demands;
-  pub sizes-are : WithinLimits sz
-  -- it has 128 slots and 8 frames, each frame with a set of valid pages and an order entry;
+-- It has 128 slots and 8 frames, each frame with a set of valid pages and an order entry.
+pub record Shaped (d : Directory) : Type 0 where
   pub slots-are : length (d .slots) ≡ 128
   pub frames-are : length (d .frames) ≡ 8
   pub valid-are : length (d .valid) ≡ 8
   pub order-is : length (d .recency) ≡ 8
+
+-- What the first P slots and the first B frames hold:
+pub record HeldRight (sz : Sizes) (d : Directory) : Type 0 where
   -- each of the first P slots is vacant or holds a page number below N×K;
   pub slot-in : (i : ℕ) → i < sz .P → (slotAt d i ≡ 4294967295) ⊎ (slotAt d i < sz .N * sz .K)
   -- each of the first B frames is vacant with no valid bit, or holds a block number below N, at least one valid bit and none at K or above;
@@ -64,9 +64,16 @@ pub record SoundBy (sz : Sizes) (d : Directory) : Type 0 where
   pub slots-differ : (i j : ℕ) → i < j → j < sz .P → slotAt d i ≡ slotAt d j → slotAt d i ≡ 4294967295
   -- no block in two frames,
   pub frames-differ : (f g : ℕ) → f < g → g < sz .B → frameAt d f ≡ frameAt d g → frameAt d f ≡ 4294967295
-  -- no page both in a slot and valid in a frame (page b×K+o is the one at offset o of block b);
+  -- no page both in a slot and valid in a frame (page b×K+o is the one at offset o of block b).
   pub cached-once : (i f b o : ℕ) → i < sz .P → f < sz .B → b < sz .N → o < sz .K
       → slotAt d i ≡ b * sz .K + o → frameAt d f ≡ b → bit (validAt d f) o ≡ true → ⊥
+
+-- A record is sound if:
+pub record SoundBy (sz : Sizes) (d : Directory) : Type 0 where
+  -- sizes and W are as opening's refusal 1 demands;
+  pub sizes-are : WithinLimits sz
+  pub shape-is : Shaped d
+  pub held-right : HeldRight sz d
   -- the order lists 0 to B-1 once each.
   pub order-has : (f : ℕ) → f < sz .B → (i : ℕ) × (i < sz .B) × (recencyAt d i ≡ f)
   pub order-once : (i j : ℕ) → i < sz .B → j < sz .B → recencyAt d i ≡ recencyAt d j → i ≡ j
@@ -82,10 +89,7 @@ SoundRule = (sz : Sizes) (d : Directory) → (sound sz d ≡ true) ⇔ SoundBy s
 
 -- All vacant: every slot and frame is vacant, no page is valid, each order entry is its own index.
 pub record AllVacant (d : Directory) : Type 0 where
-  pub slots-are : length (d .slots) ≡ 128
-  pub frames-are : length (d .frames) ≡ 8
-  pub valid-are : length (d .valid) ≡ 8
-  pub order-is : length (d .recency) ≡ 8
+  pub shape-is : Shaped d
   pub slot-is : (i : ℕ) → i < 128 → slotAt d i ≡ 4294967295
   pub frame-is : (f : ℕ) → f < 8 → frameAt d f ≡ 4294967295
   pub valid-is : (f : ℕ) → f < 8 → validAt d f ≡ 0

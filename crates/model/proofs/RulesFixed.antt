@@ -15,7 +15,7 @@ use Rattle.model.specs.Policy.{inBlock}
 use Rattle.model.proofs.Soundness.{sound-facts}
 use Rattle.model.proofs.Lookup.{page-vacant, page-split, offset-lt, block-of}
 use Rattle.model.specs.RulesWords.{OfBlock}
-use Rattle.model.specs.RulesMoves.{Freed, Other, Exchanged, ExchangedOneRule}
+use Rattle.model.specs.RulesMoves.{Freed, Other, ExchangedSlots, ExchangedOneRule}
 use Rattle.model.proofs.RulesWords.{of-block}
 
 module _ (sz : Sizes) (d : Directory) (ok : sound sz d ≡ true) (b f : ℕ) (b-lt : b < sz .N) (a-lt : frameAt d f < sz .N) where
@@ -23,7 +23,7 @@ module _ (sz : Sizes) (d : Directory) (ok : sound sz d ≡ true) (b f : ℕ) (b-
   s = sound-facts sz d ok
 
   -- a slot that takes a page in e takes it in e′, where the slots before it hold the same in both
-  takes-too : (e e′ : Directory) → Exchanged sz d e b f → Exchanged sz d e′ b f → (i : ℕ) → Freed sz d b f i
+  takes-too : (e e′ : Directory) → ExchangedSlots sz d e b f → ExchangedSlots sz d e′ b f → (i : ℕ) → Freed sz d b f i
       → ((j : ℕ) → j < i → Freed sz d b f j → slotAt e j ≡ slotAt e′ j) → (o : ℕ) → Other sz d b f o → slotAt e i ≡ frameAt d f * sz .K + o
       → ((p : ℕ) → p < o → Other sz d b f p → slotAt e′ i ≡ frameAt d f * sz .K + p → ⊥) → slotAt e′ i ≡ frameAt d f * sz .K + o
   takes-too e e′ x y i fi before o ot q lower = let ol = ot .0 in let g = y .all-go o ot in let j = g .0 in
@@ -37,7 +37,7 @@ module _ (sz : Sizes) (d : Directory) (ok : sound sz d ≡ true) (b f : ℕ) (b-
         | inr v ↦ let p = v .0 in lower p (y .upward i j p o fi fj il (v .1 .0) ol (v .2) (g .2)) (v .1) (v .2)
       ])))
 
-  freed-same : (k : ℕ) (e e′ : Directory) → Exchanged sz d e b f → Exchanged sz d e′ b f → (i : ℕ) → i < k → Freed sz d b f i
+  freed-same : (k : ℕ) (e e′ : Directory) → ExchangedSlots sz d e b f → ExchangedSlots sz d e′ b f → (i : ℕ) → i < k → Freed sz d b f i
       → slotAt e i ≡ slotAt e′ i
   freed-same zero e e′ x y i l fi = absurd (omega arith)
   freed-same (suc k) e e′ x y i l fi =
@@ -60,7 +60,7 @@ module _ (sz : Sizes) (d : Directory) (ok : sound sz d ≡ true) (b f : ℕ) (b-
         ]
       ]
 
-  same-slot : (e e′ : Directory) → Exchanged sz d e b f → Exchanged sz d e′ b f → (i : ℕ) → i < sz .P → slotAt e i ≡ slotAt e′ i
+  same-slot : (e e′ : Directory) → ExchangedSlots sz d e b f → ExchangedSlots sz d e′ b f → (i : ℕ) → i < sz .P → slotAt e i ≡ slotAt e′ i
   same-slot e e′ x y i l = let p = s .limits .P-high in by-test (inBlock sz d b i)
       (λ t. let o = slotAt d i % sz .K in let ol = offset-lt sz (s .limits) (slotAt d i) in
       let q = sym (page-split sz (s .limits) (slotAt d i) b (block-of sz d b i t .1)) in

@@ -104,8 +104,8 @@ module _ (sz : Sizes) (d : Directory) (B-low : 1 ≤ sz .B) (B-high : sz .B ≤ 
   B-long : length B-first ≡ sz .B
   B-long = length-take-le (sz .B) (d .recency) (omega arith)
 
-  out : (length B-first ≡ suc (length (without f B-first))) × ((i : ℕ)
-      → getD (without f B-first) i 0 ≡ cond (ltb i at) (getD B-first i 0) (getD B-first (suc i) 0))
+  out : (length B-first ≡ suc (length (without f B-first)))
+      × ((i : ℕ) → getD (without f B-first) i 0 ≡ cond (ltb i at) (getD B-first i 0) (getD B-first (suc i) 0))
   out = let al = at-lt in let bl = B-long in once-out f B-first at (omega arith) (getD-take (sz .B) (d .recency) at 0 al ∙ at-is)
       (λ i il e. let il2 : i < sz .B = omega arith in listed-once (sz .B) (recencyAt d) has i at il2 al
       (sym (getD-take (sz .B) (d .recency) i 0 il2) ∙ e ∙ sym at-is))
@@ -120,8 +120,8 @@ module _ (sz : Sizes) (d : Directory) (B-low : 1 ≤ sz .B) (B-high : sz .B ≤ 
       (sym (ap (λ (j : ℕ). getD (without f B-first ++ (f ∷ [])) j 0) e ∙ getD-append-seam (without f B-first) f [] 0)))
 
   past-at : (i : ℕ) → sz .B + i < 8 → recencyAt (touched sz d f) (sz .B + i) ≡ recencyAt d (sz .B + i)
-  past-at i l = let al = at-lt in order-at (sz .B + i) l ∙ rw
-      (le-ltb (sz .B + i) at (omega arith), le-ltb (suc (sz .B + i)) (sz .B) (omega arith), le-ltb (sz .B + i) (sz .B) (omega arith))
+  past-at i l = let al = at-lt in order-at (sz .B + i) l
+      ∙ rw (le-ltb (sz .B + i) at (omega arith), le-ltb (suc (sz .B + i)) (sz .B) (omega arith), le-ltb (sz .B + i) (sz .B) (omega arith))
 
   pub most-recent : MostRecent sz d (touched sz d f) f
   most-recent = let h = order-long in let bl = B-long in let o = out .0 in
@@ -216,8 +216,7 @@ module _ (sz : Sizes) (d : Directory) (ok : sound sz d ≡ true) (b f : ℕ) (b-
       kept = filled-kept;
       others = filled-others;
       bspace-long = filled-long;
-      flash-stays =
-          refl;
+      flash-stays = refl;
       pspace-stays = refl;
     }
 
@@ -345,10 +344,9 @@ module _ (sz : Sizes) (d : Directory) (ok : sound sz d ≡ true) (b f : ℕ) (b-
   none-left : (i j : ℕ) → Freed sz d b f i → Freed sz d b f j → i < j → slotAt e6 i ≡ vacant → slotAt e6 j ≡ vacant
   none-left i j hi hj ij e = let v = given-vacant i (hi .0) (freed-block i hi) e in let ti = taken-freed i (freed-spare i hi) in
       let tj = taken-freed j (freed-spare j hj) in
-      let c : count (sz .K) (unmet sz d b f) ≤ count i (spare sz d b f) =
-      by-test (ltb (count i (spare sz d b f)) (count (sz .K) (unmet sz d b f)))
-      (λ t. absurd (let n = nth-some (sz .K) (unmet sz d b f) (count i (spare sz d b f)) (ltb-true _ (count (sz .K) (unmet sz d b f)) t) in
-      omega arith)) (λ t. ltb-false _ (count (sz .K) (unmet sz d b f)) t) in
+      let r = count i (spare sz d b f) in let C = count (sz .K) (unmet sz d b f) in
+      let c : C ≤ r = by-test (ltb r C)
+      (λ t. absurd (let n = nth-some (sz .K) (unmet sz d b f) r (ltb-true r C t) in omega arith)) (λ t. ltb-false r C t) in
       let m = count-mono i j (spare sz d b f) (omega arith) in
       let n = nth-none (sz .K) (unmet sz d b f) (count j (spare sz d b f)) (omega arith) in
       elim (given j (hj .0) (freed-block j hj)) [ inl k ↦ k .1 | inr k ↦ absurd (let k0 = k .0 in omega arith) ]
@@ -359,21 +357,24 @@ module _ (sz : Sizes) (d : Directory) (ok : sound sz d ≡ true) (b f : ℕ) (b-
       let p : ℕ → Bool = λ o. inSlots sz d (b * sz .K + o) in
       let at : validAt e6 f ≡ mask (sz .K) p = getD-set-same (d .valid) f (mask (sz .K) p) 0 (valid-long sz d ok b f b-lt f-lt) in
       record {
-        stays = λ i l h. slot-at i l ∙ rw (not-block sz d ok b f b-lt f-lt i h);
-        met = λ i o il ol e h. let q = taken-met i o ol e h in elim (given i il (page-block i o ol e)) [
-          | inl k ↦ absurd (let k0 = k .0 in omega arith)
-          | inr k ↦ k .1 ∙ ap (λ (x : ℕ). frameAt d f * sz .K + x) q
-        ];
-        takes = λ i h. elim (given i (h .0) (freed-block i h)) [
-          | inl k ↦ inl (k .1)
-          | inr k ↦ inr (taken sz d b f i, unmet-other (taken sz d b f i) (k .0) (rank i (taken sz d b f i) h (k .0) (k .1) .1), k .1)
-        ];
-        all-go = goes-to;
-        upward = λ i j o p hi hj ij ol pl ei ej. let a = rank i o hi ol ei in let c = rank j p hj pl ej in let a0 = a .0 in let c0 = c .0 in
-            let m = count-past i j (spare sz d b f) ij (freed-spare i hi) in
-            by-test (ltb o p) (λ t. ltb-true o p t) (λ t. absurd (let n = count-mono p o (unmet sz d b f) (ltb-false o p t) in
-            omega arith));
-        no-gap = none-left;
+        slots-go = record {
+          stays = λ i l h. slot-at i l ∙ rw (not-block sz d ok b f b-lt f-lt i h);
+          met = λ i o il ol e h. let q = taken-met i o ol e h in elim (given i il (page-block i o ol e)) [
+            | inl k ↦ absurd (let k0 = k .0 in omega arith)
+            | inr k ↦ k .1 ∙ ap (λ (x : ℕ). frameAt d f * sz .K + x) q
+          ];
+          takes = λ i h. elim (given i (h .0) (freed-block i h)) [
+            | inl k ↦ inl (k .1)
+            | inr k ↦ inr (taken sz d b f i, unmet-other (taken sz d b f i) (k .0) (rank i (taken sz d b f i) h (k .0) (k .1) .1), k .1)
+          ];
+          all-go = goes-to;
+          upward = λ i j o p hi hj ij ol pl ei ej. let a = rank i o hi ol ei in let c = rank j p hj pl ej in let a0 = a .0 in
+              let c0 = c .0 in
+              let m = count-past i j (spare sz d b f) ij (freed-spare i hi) in
+              by-test (ltb o p) (λ t. ltb-true o p t) (λ t. absurd (let n = count-mono p o (unmet sz d b f) (ltb-false o p t) in
+              omega arith));
+          no-gap = none-left;
+        };
         frame-is = getD-set-same (d .frames) f b 0 (frames-long sz d ok b f b-lt f-lt);
         valid-is = λ o l. let q : bit (validAt e6 f) o ≡ p o = ap (λ (x : ℕ). bit x o) at ∙ bit-mask (sz .K) p o l in (
           (λ h. let k = found-slot sz d _ (sym q ∙ h) in (slotOf sz d (b * sz .K + o), k .0, k .1)),

@@ -123,8 +123,7 @@ way-6-any-rule pick picks sz d w n v ok h g gl fewer = let s = sound-facts sz d 
     let vf = valid-ones sz d s f fl in (
       f,
       fl,
-      (λ k kl. let vk = valid-ones sz d s k kl in let low = fewest-le sz d ok k kl in
-          omega arith),
+      (λ k kl. let vk = valid-ones sz d s k kl in let low = fewest-le sz d ok k kl in omega arith),
       sixth pick sz d w n v ok h g gl fewer,
     )
 

@@ -88,8 +88,8 @@ Freed sz d b f i = (i < sz .P) × ((o : ℕ) × (o < sz .K) × (slotAt d i ≡ b
 abbrev pub Other : Sizes → Directory → ℕ → ℕ → ℕ → Type 0
 Other sz d b f o = (o < sz .K) × (bit (validAt d f) o ≡ true) × (InSlot sz d (b * sz .K + o) → ⊥)
 
--- What way 6 leaves in the record:
-pub record Exchanged (sz : Sizes) (d e : Directory) (b f : ℕ) : Type 0 where
+-- What way 6 leaves in the slots:
+pub record ExchangedSlots (sz : Sizes) (d e : Directory) (b f : ℕ) : Type 0 where
   -- slots of other blocks stay
   pub stays : (i : ℕ) → i < 128 → (OfBlock sz d b i → ⊥) → slotAt e i ≡ slotAt d i
   -- the slot of an exchanged victim page takes the old page's number
@@ -105,7 +105,10 @@ pub record Exchanged (sz : Sizes) (d e : Directory) (b f : ℕ) : Type 0 where
       → slotAt e i ≡ frameAt d f * sz .K + o → slotAt e j ≡ frameAt d f * sz .K + p → o < p
   -- and no slot is passed over
   pub no-gap : (i j : ℕ) → Freed sz d b f i → Freed sz d b f j → i < j → slotAt e i ≡ 4294967295 → slotAt e j ≡ 4294967295
-  -- the frame is now the victim's, with only the victim pages valid; other frames and the order stay
+
+-- And in the record: the frame is now the victim's, with only the victim pages valid; other frames and the order stay.
+pub record Exchanged (sz : Sizes) (d e : Directory) (b f : ℕ) : Type 0 where
+  pub slots-go : ExchangedSlots sz d e b f
   pub frame-is : frameAt e f ≡ b
   pub valid-is : (o : ℕ) → o < sz .K → (bit (validAt e f) o ≡ true) ⇔ InSlot sz d (b * sz .K + o)
   pub valid-above : (o : ℕ) → sz .K ≤ o → bit (validAt e f) o ≡ false
@@ -117,10 +120,11 @@ abbrev pub ExchangedRule : Type 0
 ExchangedRule = (sz : Sizes) (d : Directory) → sound sz d ≡ true → (b f : ℕ) → b < sz .N → f < sz .B
     → frameAt d f < sz .N → validPages d f < pagesInSlots sz d b → Exchanged sz d (exchanged sz d b f) b f
 
--- This leaves nothing open: two records that it allows hold the same in every slot.
+-- The slots' part of it leaves nothing open: two records that it allows hold the same in every slot.
 abbrev pub ExchangedOneRule : Type 0
 ExchangedOneRule = (sz : Sizes) (d : Directory) → sound sz d ≡ true → (b f : ℕ) → b < sz .N → frameAt d f < sz .N
-    → (e e′ : Directory) → Exchanged sz d e b f → Exchanged sz d e′ b f → (i : ℕ) → i < sz .P → slotAt e i ≡ slotAt e′ i
+    → (e e′ : Directory) → ExchangedSlots sz d e b f → ExchangedSlots sz d e′ b f
+    → (i : ℕ) → i < sz .P → slotAt e i ≡ slotAt e′ i
 
 -- Bytes go with the numbers: a slot that takes the old page of offset o gets its bytes from the frame, each victim page stands at its
 -- offset in the frame, and every other page of p-space and b-space, and flash, stays.

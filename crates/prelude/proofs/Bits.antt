@@ -219,7 +219,7 @@ first-test v k = let p = pow-pos k in same-test
 
 -- ---- a set moved by r within words of 64
 
-bit-mod : (v k i : ℕ) → i < k → bit (v % 2 ^ k) i ≡ bit v i
+pub bit-mod : (v k i : ℕ) → i < k → bit (v % 2 ^ k) i ≡ bit v i
 unfolding bit
 bit-mod v k i h =
     let e : k ≡ (k - i - 1 + 1) + i = omega arith in

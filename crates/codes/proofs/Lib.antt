@@ -1,0 +1,9 @@
+pub mod Parity
+pub mod CodeBits
+pub mod Differences
+pub mod Chunks
+pub mod Flips
+pub mod Pages
+pub mod Erased
+pub mod Rules
+pub mod Rows

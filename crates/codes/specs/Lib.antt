@@ -1,0 +1,4 @@
+pub mod Code
+pub mod Table
+pub mod Reading
+pub mod Rules

@@ -29,7 +29,8 @@ module _ (sz : Sizes) where
   Whole m = EachM (zeroPage sz) OfS zero-long m
 
   -- pages joined and cut again
-  module _ (m : Memory Page) (w : Whole m) (fl : length (m .flash) ≡ sz .N * sz .K) (pl : length (m .pspace) ≡ sz .P) (bl : length (m .bspace) ≡ sz .B * sz .K) (wear : List ℕ) where
+  module _ (m : Memory Page) (w : Whole m) (fl : length (m .flash) ≡ sz .N * sz .K) (pl : length (m .pspace) ≡ sz .P)
+      (bl : length (m .bspace) ≡ sz .B * sz .K) (wear : List ℕ) where
     cut-again : (n : ℕ) (ps : List Page) → length ps ≡ n → ((i : ℕ) → OfS (getD ps i (zeroPage sz))) → pagesOf (sz .S) n (flat ps) ≡ ps
     cut-again n ps e h = ap (λ (k : ℕ). pagesOf (sz .S) k (flat ps)) (sym e) ∙ pages-flat (sz .S) ps (zeroPage sz) (λ j l. h j)
 
@@ -58,7 +59,8 @@ module _ (sz : Sizes) where
     )
 
   -- buffers cut and joined again
-  module _ (u : Buffers) (fl : length (u .flash) ≡ sz .N * sz .K * sz .S) (pl : length (u .pspace) ≡ sz .P * sz .S) (bl : length (u .bspace) ≡ sz .B * sz .K * sz .S) where
+  module _ (u : Buffers) (fl : length (u .flash) ≡ sz .N * sz .K * sz .S) (pl : length (u .pspace) ≡ sz .P * sz .S)
+      (bl : length (u .bspace) ≡ sz .B * sz .K * sz .S) where
     pub buffers-of-memory : buffersOf (memoryOf sz u) (u .wear) ≡ u
     unfolding buffersOf memoryOf
     buffers-of-memory = λ i. record {
@@ -71,19 +73,27 @@ module _ (sz : Sizes) where
     pages-long : (n : ℕ) (l : List ℕ) → length l ≡ n * sz .S → (i : ℕ) → OfS (getD (pagesOf (sz .S) n l) i (zeroPage sz))
     unfolding pagesOf
     pages-long n l h i = by-test (ltb i n)
-        (λ e. let il = ltb-true i n e in ap length (getD-tab n (pageAt (sz .S) l) (zeroPage sz) i il) ∙ length-pageAt (sz .S) l i (in-run (sz .S) n l h il))
-        (λ e. ap length (List·getD-eq-default (tab n (pageAt (sz .S) l)) (zeroPage sz) {n = i} (rw length-tab (ltb-false i n e))) ∙ zero-long)
+        (λ e. let il = ltb-true i n e in ap length (getD-tab n (pageAt (sz .S) l) (zeroPage sz) i il)
+        ∙ length-pageAt (sz .S) l i (in-run (sz .S) n l h il))
+        (λ e. ap length (List·getD-eq-default (tab n (pageAt (sz .S) l)) (zeroPage sz) {n = i} (rw length-tab (ltb-false i n e)))
+        ∙ zero-long)
 
     pub memory-whole : Whole (memoryOf sz u)
     unfolding memoryOf
-    memory-whole = record { flash = pages-long (sz .N * sz .K) (u .flash) fl; pspace = pages-long (sz .P) (u .pspace) pl; bspace = pages-long (sz .B * sz .K) (u .bspace) bl }
+    memory-whole = record {
+      flash = pages-long (sz .N * sz .K) (u .flash) fl;
+      pspace = pages-long (sz .P) (u .pspace) pl;
+      bspace = pages-long (sz .B * sz .K) (u .bspace) bl;
+    }
 
-    pub memory-lengths : (length (memoryOf sz u .flash) ≡ sz .N * sz .K) × (length (memoryOf sz u .pspace) ≡ sz .P) × (length (memoryOf sz u .bspace) ≡ sz .B * sz .K)
+    pub memory-lengths : (length (memoryOf sz u .flash) ≡ sz .N * sz .K) × (length (memoryOf sz u .pspace) ≡ sz .P)
+        × (length (memoryOf sz u .bspace) ≡ sz .B * sz .K)
     unfolding memoryOf pagesOf
     memory-lengths = (length-tab _ _, length-tab _ _, length-tab _ _)
 
   -- a page of a buffer joined from pages
-  pub page-of-flat : (ps : List Page) → ((i : ℕ) → OfS (getD ps i (zeroPage sz))) → (n : ℕ) → n < length ps → pageAt (sz .S) (flat ps) n ≡ getD ps n (zeroPage sz)
+  pub page-of-flat : (ps : List Page) → ((i : ℕ) → OfS (getD ps i (zeroPage sz))) → (n : ℕ) → n < length ps
+      → pageAt (sz .S) (flat ps) n ≡ getD ps n (zeroPage sz)
   page-of-flat ps h n l = page-flat (sz .S) ps (zeroPage sz) (λ j k. h j) n l
 
 -- the test of the buffers' lengths, and the facts

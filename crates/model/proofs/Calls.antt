@@ -14,9 +14,12 @@ use Rattle.prelude.proofs.Scan.{first-hit, first-at, count-le}
 use Rattle.model.specs.Sizes.{Sizes, vacant}
 use Rattle.model.specs.Directory.{Directory}
 use Rattle.model.specs.Soundness.{sound, Sound}
-use Rattle.model.specs.Policy.{inSlots, frameWith, slotCount, readWay, Choice, victim, Plan, plan, erasedBy, mergeReads, clean, due, occupied, lowestInSlots, dueOf, cached, isWorn, lowestWorn}
+use Rattle.model.specs.Policy.{inSlots, frameWith, slotCount, readWay, Choice, victim, Plan, plan, erasedBy, mergeReads, clean, due}
+use Rattle.model.specs.Policy.{occupied, lowestInSlots, dueOf, cached, isWorn, lowestWorn}
 use Rattle.model.specs.Moves.{wornBy, joined, readDirectory, written, stepped}
-use Rattle.model.specs.Calls.{stepDone, stepClean, flushDone, isRefused, Call, read, write, part, step, flush, State, Outcome, checked, readOutcome, writeOutcome, partOutcome, stepOutcome, Tally, steps, flushOutcome, decide, Page, lentOk, Store, Result, stateOf, told, carriedOut, call}
+use Rattle.model.specs.Calls.{stepDone, stepClean, flushDone, isRefused, Call, read, write, part, step, flush, State, Outcome}
+use Rattle.model.specs.Calls.{checked, readOutcome, writeOutcome, partOutcome, stepOutcome, Tally, steps, flushOutcome, decide, Page}
+use Rattle.model.specs.Calls.{lentOk, Store, Result, stateOf, told, carriedOut, call}
 use Rattle.model.specs.Lists.{Picks}
 use Rattle.model.specs.RulesCalls.{StepsUntilClean}
 use Rattle.model.proofs.Soundness.{sound-facts, facts-sound}
@@ -24,7 +27,8 @@ use Rattle.model.proofs.Lookup.{block-vacant}
 use Rattle.model.proofs.Kept.{touched-sound}
 use Rattle.model.proofs.Plan.{occupied-all, evict-pick, eviction-elim, plan-elim}
 use Rattle.model.proofs.Consistent.{Consistent, write-good}
-use Rattle.model.proofs.Steps.{Empty, due-elim, stepped-sound, cached-less, cached-now, none-empty, wornBy-length, Within, worn-within, Below, stepped-below, steps-clean, steps-within}
+use Rattle.model.proofs.Steps.{Empty, due-elim, stepped-sound, cached-less, cached-now, none-empty, wornBy-length, Within}
+use Rattle.model.proofs.Steps.{worn-within, Below, stepped-below, steps-clean, steps-within}
 
 -- ---- soundness
 
@@ -33,7 +37,8 @@ module _ (sz : Sizes) (d : Directory) (s : Sound sz d) where
   abbrev units : ℕ → List (Unit {0})
   units n = replicate n tt
 
-  bare : Consistent tt sz d (record { flash = units (sz .N * sz .K); pspace = units (sz .P); bspace = units (sz .B * sz .K) }) (units (sz .N * sz .K))
+  bare : Consistent tt sz d (record { flash = units (sz .N * sz .K); pspace = units (sz .P); bspace = units (sz .B * sz .K) })
+      (units (sz .N * sz .K))
   bare = record {
     numbers = s;
     reflects = record { in-slot = λ i l h. refl; in-frame = λ f o fl ol h. refl; in-flash = λ n l np nf. refl };
@@ -43,7 +48,8 @@ module _ (sz : Sizes) (d : Directory) (s : Sound sz d) where
     array-length = length-replicate (sz .N * sz .K) tt;
   }
 
-  pub written-sound : (pick : Choice) → Picks pick → (w : List ℕ) (n : ℕ) → n < sz .N * sz .K → Sound sz (written sz d n (plan pick sz d w n))
+  pub written-sound : (pick : Choice) → Picks pick → (w : List ℕ) (n : ℕ) → n < sz .N * sz .K
+      → Sound sz (written sz d n (plan pick sz d w n))
   written-sound pick picks w n l = write-good tt pick picks sz d w _ _ bare n l tt .numbers
 
   read-sound : (n : ℕ) → Sound sz (readDirectory sz d n)
@@ -63,7 +69,8 @@ not-worn sz w b l h = leb-false (sz .W) (getD w b 0) (and-not-l (lt-ltb b vacant
 pub flush-below : (sz : Sizes) (k : State) → sz .N ≤ lowestWorn sz (k .directory) (k .wear) → Below sz (k .directory) (k .wear)
 unfolding lowestWorn
 flush-below sz k l b bl c = by-test (leb (sz .W) (getD (k .wear) b 0))
-    (λ e. absurd (let q = first-at (sz .N) (λ i. cached sz (k .directory) i && leb (sz .W) (getD (k .wear) i 0)) b bl (and-i c e) in omega arith))
+    (λ e. absurd (let q = first-at (sz .N) (λ i. cached sz (k .directory) i && leb (sz .W) (getD (k .wear) i 0)) b bl (and-i c e) in
+    omega arith))
     (λ e. leb-false (sz .W) (getD (k .wear) b 0) e)
 
 -- ---- a call over numbers
@@ -87,7 +94,8 @@ module _ (pick : Choice) (picks : Picks pick) (sz : Sizes) (k : State) (s : Soun
       (λ e. rw (e, checked) (by-test (ltb n (sz .N * sz .K)) (λ e′. rw e′ (g (ltb-true _ _ e′))) (λ e′. rw e′ same)))
       (λ e. rw (e, checked) same)
 
-  erased-within : (b : ℕ) → ((b < sz .N) ⊎ (b ≡ vacant)) → isWorn sz (k .wear) b ≡ false → Within sz (k .wear) → Within sz (wornBy (k .wear) b)
+  erased-within : (b : ℕ) → ((b < sz .N) ⊎ (b ≡ vacant)) → isWorn sz (k .wear) b ≡ false → Within sz (k .wear)
+      → Within sz (wornBy (k .wear) b)
   unfolding wornBy
   erased-within b c e h = elim c [
     | inl l ↦ let v = block-vacant sz (s .limits) b l in
@@ -96,7 +104,8 @@ module _ (pick : Choice) (picks : Picks pick) (sz : Sizes) (k : State) (s : Soun
   ]
 
   -- a write erases a block below N, or none
-  plan-erases : (n : ℕ) → (erasedBy (k .directory) (plan pick sz (k .directory) (k .wear) n) < sz .N) ⊎ (erasedBy (k .directory) (plan pick sz (k .directory) (k .wear) n) ≡ vacant)
+  plan-erases : (n : ℕ) → (erasedBy (k .directory) (plan pick sz (k .directory) (k .wear) n) < sz .N)
+      ⊎ (erasedBy (k .directory) (plan pick sz (k .directory) (k .wear) n) ≡ vacant)
   plan-erases n = let d = k .directory in let w = k .wear in
       let Q : Plan → Type 0 = λ p. (erasedBy d p < sz .N) ⊎ (erasedBy d p ≡ vacant) in
       plan-elim pick sz d w Q n (λ a. inr refl) (λ a b. inr refl) (λ a b c. inr refl) (λ a b c. eviction-elim pick sz d w Q (victim sz d)
@@ -148,7 +157,11 @@ module _ (pick : Choice) (picks : Picks pick) (sz : Sizes) (k : State) (s : Soun
   -- directory and wear stay sound and within W
   pub decide-kept : (c : Call ℕ) → Keeps (decide pick sz k c)
   unfolding decide readOutcome
-  decide-kept (read n long) = checked-kept n long _ (λ l. record { numbers = read-sound sz (k .directory) s n; wear-length = wl; within = λ h. h })
+  decide-kept (read n long) = checked-kept n long _ (λ l. record {
+    numbers = read-sound sz (k .directory) s n;
+    wear-length = wl;
+    within = λ h. h;
+  })
   decide-kept (write n long) = checked-kept n long _ (λ l. write-kept n l)
   decide-kept (part n first many long) = checked-kept n long _ (λ l. part-kept first many _ (write-kept n l))
   decide-kept step = step-kept
@@ -165,11 +178,13 @@ module _ (pick : Choice) (picks : Picks pick) (s : Store) (c : Call Page) (h : s
   unfolding lentOk
   wear-long e = eqb-true _ _ (each _ e .1 .0)
 
-  carried-sound : length (s .lent .wear) ≡ s .cache .sizes .N → SoundStore (carriedOut pick s c (decide pick (s .cache .sizes) (stateOf s) (told c)))
+  carried-sound : length (s .lent .wear) ≡ s .cache .sizes .N → SoundStore
+      (carriedOut pick s c (decide pick (s .cache .sizes) (stateOf s) (told c)))
   unfolding carriedOut
   carried-sound wl = let sz = s .cache .sizes in let o = decide pick sz (stateOf s) (told c) in by-test (isRefused (o .answer))
       (λ e. rw (e, carriedOut) h)
-      (λ e. rw (e, carriedOut) (facts-sound sz (o .state .directory) (decide-kept pick picks sz (stateOf s) (sound-facts sz (s .cache .directory) h) wl (told c) .numbers)))
+      (λ e. rw (e, carriedOut) (facts-sound sz (o .state .directory)
+      (decide-kept pick picks sz (stateOf s) (sound-facts sz (s .cache .directory) h) wl (told c) .numbers)))
 
   pub call-sound : SoundStore (call pick s c)
   unfolding call
@@ -193,25 +208,36 @@ module _ (pick : Choice) (picks : Picks pick) (sz : Sizes) where
   clean-answer k e = rw (empty-clean (k .directory) e)
 
   due-answer : (k : State) (b f : ℕ) → dueOf pick sz (k .directory) ≡ due b f → getD (k .wear) b 0 < sz .W
-      → decide pick sz k step ≡ record { answer = stepDone b (mergeReads sz (joined sz (k .directory) b f) f); state = record { directory = stepped sz (k .directory) (due b f); wear = wornBy (k .wear) b } }
+      → decide pick sz k step ≡ record {
+        answer = stepDone b (mergeReads sz (joined sz (k .directory) b f) f);
+        state = record { directory = stepped sz (k .directory) (due b f); wear = wornBy (k .wear) b };
+      }
   unfolding decide stepOutcome isWorn
-  due-answer k b f e l = rw e (by-test (ltb b vacant) (λ q. rw (q, lt-leb (sz .W) (getD (k .wear) b 0) l, stepOutcome)) (λ q. rw (q, stepOutcome)))
+  due-answer k b f e l = rw e (by-test (ltb b vacant) (λ q. rw (q, lt-leb (sz .W) (getD (k .wear) b 0) l, stepOutcome))
+      (λ q. rw (q, stepOutcome)))
 
   abbrev Run : Tally → Tally → Type 0
-  Run t t′ = (r : ℕ) × (m : ℕ) × (t′ .rewrites ≡ r + t .rewrites) × (t′ .merges ≡ m + t .merges) × StepsUntilClean pick sz r (t .state) m (t′ .state)
+  Run t t′ = (r : ℕ) × (m : ℕ) × (t′ .rewrites ≡ r + t .rewrites) × (t′ .merges ≡ m + t .merges)
+      × StepsUntilClean pick sz r (t .state) m (t′ .state)
 
   run-none : (t : Tally) → Empty sz (t .state .directory) → Run t t
   run-none t e = (0, 0, omega arith, omega arith, (clean-answer (t .state) e, refl, refl))
 
-  steps-run : (c : ℕ) (t : Tally) → Sound sz (t .state .directory) → length (t .state .wear) ≡ sz .N → count (sz .N) (cached sz (t .state .directory)) ≤ c → Below sz (t .state .directory) (t .state .wear)
+  steps-run : (c : ℕ) (t : Tally) → Sound sz (t .state .directory) → length (t .state .wear) ≡ sz .N
+      → count (sz .N) (cached sz (t .state .directory)) ≤ c → Below sz (t .state .directory) (t .state .wear)
       → Run t (steps pick sz c t)
   unfolding steps
   steps-run zero t s wl h lo = run-none t (none-empty sz (t .state .directory) s h)
-  steps-run (suc c) t s wl h lo = due-elim sz (t .state .directory) s pick picks (λ q. dueOf pick sz (t .state .directory) ≡ q → Run t (steps pick sz (suc c) t))
+  steps-run (suc c) t s wl h lo = due-elim sz (t .state .directory) s pick picks
+      (λ q. dueOf pick sz (t .state .directory) ≡ q → Run t (steps pick sz (suc c) t))
       (λ b f y e.
       let d = t .state .directory in let w = t .state .wear in let bl = y .b-lt in
       let mr : ℕ = mergeReads sz (joined sz d b f) f in
-      let t1 : Tally = record { state = record { directory = stepped sz d (due b f); wear = wornBy w b }; rewrites = suc (t .rewrites); merges = mr + t .merges } in
+      let t1 : Tally = record {
+        state = record { directory = stepped sz d (due b f); wear = wornBy w b };
+        rewrites = suc (t .rewrites);
+        merges = mr + t .merges;
+      } in
       let l = cached-less sz d s b f y in
       let go : steps pick sz (suc c) t ≡ steps pick sz c t1 = rw (e, steps) in
       let says = due-answer (t .state) b f e (lo b bl (cached-now sz d s b f y)) in

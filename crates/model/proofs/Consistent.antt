@@ -14,21 +14,28 @@ use Rattle.prelude.proofs.Tab.{length-tab}
 use Rattle.model.specs.Sizes.{Sizes, vacant}
 use Rattle.model.specs.Directory.{Directory, slotAt, frameAt, validAt, inFrame}
 use Rattle.model.specs.Soundness.{Sound}
-use Rattle.model.specs.Policy.{slotOf, inSlots, frameWith, frameOf, validCount, slotCount, Choice, victim, Plan, frameHit, exchange, evict, evictionPlan, plan, due}
-use Rattle.model.specs.Moves.{Memory, programmed, touched, putSlot, entered, putSlotPage, putFramePage, joined, filled, joinedPages, exchanged, exchangedPages, vacated, rewrittenPages, stepped, written, steppedPages, writtenPages}
+use Rattle.model.specs.Policy.{slotOf, inSlots, frameWith, frameOf, validCount, slotCount, Choice, victim, Plan, frameHit, exchange}
+use Rattle.model.specs.Policy.{evict, evictionPlan, plan, due}
+use Rattle.model.specs.Moves.{Memory, programmed, touched, putSlot, entered, putSlotPage, putFramePage, joined, filled, joinedPages}
+use Rattle.model.specs.Moves.{exchanged, exchangedPages, vacated, rewrittenPages, stepped, written, steppedPages, writtenPages}
 use Rattle.model.specs.Lists.{Picks}
 use Rattle.model.proofs.Soundness.{pages-small}
-use Rattle.model.proofs.Lookup.{NoSlot, NoFrame, block-vacant, block-lt, found-slot, not-in-slots, frame-has, frame-is, no-frame, no-frame-with}
-use Rattle.model.proofs.Reflects.{Reflects, joined-frame, joined-reflects, exchanged-reflects, rewritten-reflects, put-slot-reflects, put-frame-reflects}
-use Rattle.model.proofs.Kept.{exchanged-vacant, enough, touched-sound, joined-sound, exchanged-sound, vacated-sound, put-sound, joined-absent, exchanged-absent}
-use Rattle.model.proofs.Plan.{victim-lt, victim-pos, some-bit, joined-vacant, sole-own, occupied-all, vacant-bits, fewest-pick, evict-pick, eviction-elim, plan-elim}
+use Rattle.model.proofs.Lookup.{NoSlot, NoFrame, block-vacant, block-lt, found-slot, not-in-slots, frame-has, frame-is, no-frame}
+use Rattle.model.proofs.Lookup.{no-frame-with}
+use Rattle.model.proofs.Reflects.{Reflects, joined-frame, joined-reflects, exchanged-reflects, rewritten-reflects, put-slot-reflects}
+use Rattle.model.proofs.Reflects.{put-frame-reflects}
+use Rattle.model.proofs.Kept.{exchanged-vacant, enough, touched-sound, joined-sound, exchanged-sound, vacated-sound, put-sound}
+use Rattle.model.proofs.Kept.{joined-absent, exchanged-absent}
+use Rattle.model.proofs.Plan.{victim-lt, victim-pos, some-bit, joined-vacant, sole-own, occupied-all, vacant-bits, fewest-pick}
+use Rattle.model.proofs.Plan.{evict-pick, eviction-elim, plan-elim}
 use Rattle.model.proofs.Steps.{Ready, ready-frame, stepped-frame′, stepped-bits, stepped-count, stepped-absent}
 
 put-same : (d : Directory) (i n : ℕ) → slotAt d i ≡ n → putSlot d i n ≡ d
 unfolding putSlot
 put-same d i n e = with-slots (ap (set (d .slots) i) (sym e) ∙ set-getD (d .slots) i 0)
   where
-    with-slots : {l : List ℕ} → l ≡ d .slots → _≡_ {A = Directory} (record { slots = l; frames = d .frames; valid = d .valid; recency = d .recency }) d
+    with-slots : {l : List ℕ} → l ≡ d .slots → _≡_ {A = Directory}
+        (record { slots = l; frames = d .frames; valid = d .valid; recency = d .recency }) d
     with-slots p = λ i. record { slots = p i; frames = d .frames; valid = d .valid; recency = d .recency }
 
 module _ {A : Type 0} (filler : A) where
@@ -53,8 +60,10 @@ module _ {A : Type 0} (filler : A) where
       array-length = g .array-length;
     }
 
-    joined-good : (b f : ℕ) → f < sz .B → b < sz .N → ((frameAt d f ≡ b) ⊎ (validAt d f ≡ 0)) → ((h : ℕ) → h < sz .B → (h ≡ f → ⊥) → frameAt d h ≡ b → ⊥)
-        → ((o : ℕ) × (o < sz .K) × ((bit (validAt d f) o || inSlots sz d (b * sz .K + o)) ≡ true)) → Consistent sz (joined sz d b f) (joinedPages filler sz d m b f) v
+    joined-good : (b f : ℕ) → f < sz .B → b < sz .N → ((frameAt d f ≡ b) ⊎ (validAt d f ≡ 0))
+        → ((h : ℕ) → h < sz .B → (h ≡ f → ⊥) → frameAt d h ≡ b → ⊥)
+        → ((o : ℕ) × (o < sz .K) × ((bit (validAt d f) o || inSlots sz d (b * sz .K + o)) ≡ true))
+        → Consistent sz (joined sz d b f) (joinedPages filler sz d m b f) v
     unfolding joinedPages filled
     joined-good b f fl bl own sole some = let u = g .numbers in record {
       numbers = joined-sound sz d u b f fl bl sole some;
@@ -65,17 +74,19 @@ module _ {A : Type 0} (filler : A) where
       array-length = g .array-length;
     }
 
-    exchanged-good : (b f : ℕ) → f < sz .B → b < sz .N → validCount sz d f < slotCount sz d b → frameAt d f < sz .N → ((h : ℕ) → h < sz .B → frameAt d h ≡ b → ⊥)
+    exchanged-good : (b f : ℕ) → f < sz .B → b < sz .N → validCount sz d f < slotCount sz d b → frameAt d f < sz .N
+        → ((h : ℕ) → h < sz .B → frameAt d h ≡ b → ⊥)
         → Consistent sz (exchanged sz d b f) (exchangedPages filler sz d m b f) v
     unfolding exchangedPages filled
-    exchanged-good b f fl bl more al sole = let u = g .numbers in let en = enough sz (u .limits) d (u .shape) (u .entries) b f fl bl more in record {
-      numbers = exchanged-sound sz d u b f fl bl more al sole;
-      reflects = exchanged-reflects sz (u .limits) d (u .shape) b f fl (omega arith) bl filler m v (g .reflects);
-      flash-length = g .flash-length;
-      pspace-length = length-tab (sz .P) _;
-      bspace-length = length-tab (sz .B * sz .K) _;
-      array-length = g .array-length;
-    }
+    exchanged-good b f fl bl more al sole = let u = g .numbers in
+        let en = enough sz (u .limits) d (u .shape) (u .entries) b f fl bl more in record {
+          numbers = exchanged-sound sz d u b f fl bl more al sole;
+          reflects = exchanged-reflects sz (u .limits) d (u .shape) b f fl (omega arith) bl filler m v (g .reflects);
+          flash-length = g .flash-length;
+          pspace-length = length-tab (sz .P) _;
+          bspace-length = length-tab (sz .B * sz .K) _;
+          array-length = g .array-length;
+        }
 
     -- frame f of block b is rewritten and vacated
     rewritten-good : (b f : ℕ) → f < sz .B → frameAt d f ≡ b → Consistent sz (vacated d f) (rewrittenPages filler sz d m b f) v
@@ -90,11 +101,13 @@ module _ {A : Type 0} (filler : A) where
     }
 
     -- page n, cached nowhere, goes into a vacant slot
-    put-good : (i n : ℕ) (x : A) → i < sz .P → n < sz .N * sz .K → NoSlot sz d n → NoFrame sz d n → slotAt d i ≡ vacant → Consistent sz (putSlot d i n) (putSlotPage m i x) (set v n x)
+    put-good : (i n : ℕ) (x : A) → i < sz .P → n < sz .N * sz .K → NoSlot sz d n → NoFrame sz d n → slotAt d i ≡ vacant
+        → Consistent sz (putSlot d i n) (putSlotPage m i x) (set v n x)
     unfolding putSlotPage
     put-good i n x il nl np nf e = let u = g .numbers in record {
       numbers = put-sound sz d u i n il nl np nf;
-      reflects = put-slot-reflects sz d (u .shape) filler m v (g .reflects) n x nl (g .array-length) (u .limits) i il (g .pspace-length) (λ j l h. np j l) nf (inr e);
+      reflects = put-slot-reflects sz d (u .shape) filler m v (g .reflects) n x nl (g .array-length) (u .limits) i il (g .pspace-length)
+          (λ j l h. np j l) nf (inr e);
       flash-length = g .flash-length;
       pspace-length = length-set (m .pspace) i x ∙ g .pspace-length;
       bspace-length = g .bspace-length;
@@ -107,7 +120,8 @@ module _ {A : Type 0} (filler : A) where
     slot-hit-good i n x il nl e = let u = g .numbers in
         let vl : slotAt d i < vacant = (let h = pages-small sz (u .limits) in omega arith) in
         let s = put-slot-reflects sz d (u .shape) filler m v (g .reflects) n x nl (g .array-length) (u .limits) i il (g .pspace-length)
-        (λ j l h q. h (u .entries .slots-apart j i l il (let h2 = pages-small sz (u .limits) in omega arith) (q ∙ sym e))) (λ f l q. u .entries .once i f il l vl (rw e q)) (inl e) in
+        (λ j l h q. h (u .entries .slots-apart j i l il (let h2 = pages-small sz (u .limits) in omega arith) (q ∙ sym e)))
+        (λ f l q. u .entries .once i f il l vl (rw e q)) (inl e) in
         record {
           numbers = u;
           reflects = (rw (put-same d i n e) at s);
@@ -118,12 +132,15 @@ module _ {A : Type 0} (filler : A) where
         }
 
     -- way 2: page n is overwritten in its frame
-    frame-hit-good : (f n : ℕ) (x : A) → f < sz .B → n < sz .N * sz .K → NoSlot sz d n → inFrame sz d n f ≡ true → Consistent sz d (putFramePage m (f * sz .K + n % sz .K) x) (set v n x)
+    frame-hit-good : (f n : ℕ) (x : A) → f < sz .B → n < sz .N * sz .K → NoSlot sz d n → inFrame sz d n f ≡ true
+        → Consistent sz d (putFramePage m (f * sz .K + n % sz .K) x) (set v n x)
     unfolding putFramePage
     frame-hit-good f n x fl nl np h = let u = g .numbers in record {
       numbers = u;
-      reflects = put-frame-reflects sz d (u .shape) filler m v (g .reflects) n x nl (g .array-length) (u .limits) f fl (g .bspace-length) np h
-          (λ k kl ne q. ne (u .entries .frames-apart k f kl fl (rw (frame-has sz d n k q .0) (block-vacant sz (u .limits) _ (block-lt sz (u .limits) n nl))) (frame-has sz d n k q .0 ∙ sym (frame-has sz d n f h .0))));
+      reflects = put-frame-reflects sz d (u .shape) filler m v (g .reflects) n x nl (g .array-length) (u .limits) f fl (g .bspace-length)
+          np h
+          (λ k kl ne q. ne (u .entries .frames-apart k f kl fl (rw (frame-has sz d n k q .0)
+          (block-vacant sz (u .limits) _ (block-lt sz (u .limits) n nl))) (frame-has sz d n k q .0 ∙ sym (frame-has sz d n f h .0))));
       flash-length = g .flash-length;
       pspace-length = g .pspace-length;
       bspace-length = length-set (m .bspace) _ x ∙ g .bspace-length;
@@ -137,51 +154,65 @@ module _ {A : Type 0} (filler : A) where
   pub step-good : (sz : Sizes) (d : Directory) (m : Memory A) (v : List A) → Consistent sz d m v → (b f : ℕ) → Ready sz d b f
       → Consistent sz (stepped sz d (due b f)) (steppedPages filler sz d m (due b f)) v
   unfolding stepped steppedPages
-  step-good sz d m v g b f y = rewritten-good sz (joined sz d b f) (joinedPages filler sz d m b f) v (joined-ready sz d m v g b f y) b f (y .f-lt)
+  step-good sz d m v g b f y = rewritten-good sz (joined sz d b f) (joinedPages filler sz d m b f) v (joined-ready sz d m v g b f y) b f
+      (y .f-lt)
       (joined-frame sz (g .numbers .limits) d (g .numbers .shape) b f (y .f-lt))
 
   -- n goes into the first vacant slot, after frame f became recent
-  module _ (sz : Sizes) (d : Directory) (m : Memory A) (v : List A) (g : Consistent sz d m v) (n : ℕ) (n-lt : n < sz .N * sz .K) (np : NoSlot sz d n) (nf : NoFrame sz d n) where
-    entered-good : (x : A) (f : ℕ) → f < sz .B → inSlots sz d vacant ≡ true → Consistent sz (entered sz (touched sz d f) n) (putSlotPage m (slotOf sz d vacant) x) (set v n x)
+  module _ (sz : Sizes) (d : Directory) (m : Memory A) (v : List A) (g : Consistent sz d m v) (n : ℕ) (n-lt : n < sz .N * sz .K)
+      (np : NoSlot sz d n) (nf : NoFrame sz d n) where
+    entered-good : (x : A) (f : ℕ) → f < sz .B → inSlots sz d vacant ≡ true
+        → Consistent sz (entered sz (touched sz d f) n) (putSlotPage m (slotOf sz d vacant) x) (set v n x)
     unfolding entered slotOf touched inFrame
-    entered-good x f fl h = let k = found-slot sz d vacant h in put-good sz (touched sz d f) m v (touched-good sz d m v g f fl) (slotOf sz d vacant) n x (k .0) n-lt np nf (k .1)
+    entered-good x f fl h = let k = found-slot sz d vacant h in put-good sz (touched sz d f) m v (touched-good sz d m v g f fl)
+        (slotOf sz d vacant) n x (k .0) n-lt np nf (k .1)
 
   -- block b's pages join frame f, and n enters
-  module _ (sz : Sizes) (d : Directory) (m : Memory A) (v : List A) (g : Consistent sz d m v) (n : ℕ) (n-lt : n < sz .N * sz .K) (np : NoSlot sz d n) (nf : NoFrame sz d n) where
-    joined-entered : (x : A) (b f : ℕ) → f < sz .B → b < sz .N → 0 < slotCount sz d b → ((frameAt d f ≡ b) ⊎ (validAt d f ≡ 0)) → ((h : ℕ) → h < sz .B → (h ≡ f → ⊥) → frameAt d h ≡ b → ⊥)
-        → Consistent sz (entered sz (touched sz (joined sz d b f) f) n) (putSlotPage (joinedPages filler sz d m b f) (slotOf sz (joined sz d b f) vacant) x) (set v n x)
+  module _ (sz : Sizes) (d : Directory) (m : Memory A) (v : List A) (g : Consistent sz d m v) (n : ℕ) (n-lt : n < sz .N * sz .K)
+      (np : NoSlot sz d n) (nf : NoFrame sz d n) where
+    joined-entered : (x : A) (b f : ℕ) → f < sz .B → b < sz .N → 0 < slotCount sz d b → ((frameAt d f ≡ b) ⊎ (validAt d f ≡ 0))
+        → ((h : ℕ) → h < sz .B → (h ≡ f → ⊥) → frameAt d h ≡ b → ⊥)
+        → Consistent sz (entered sz (touched sz (joined sz d b f) f) n)
+        (putSlotPage (joinedPages filler sz d m b f) (slotOf sz (joined sz d b f) vacant) x) (set v n x)
     joined-entered x b f fl bl pos own sole =
         let ab = joined-absent sz d (g .numbers) n n-lt np nf b f fl bl own in
-        entered-good sz (joined sz d b f) (joinedPages filler sz d m b f) v (joined-good sz d m v g b f fl bl own sole (some-bit sz d (g .numbers) b f pos))
+        entered-good sz (joined sz d b f) (joinedPages filler sz d m b f) v
+        (joined-good sz d m v g b f fl bl own sole (some-bit sz d (g .numbers) b f pos))
         n n-lt (ab .0) (ab .1) x f fl (joined-vacant sz d (g .numbers) b f fl pos)
 
 -- ---- the write
 
-module _ {A : Type 0} (filler : A) (pick : Choice) (picks : Picks pick) (sz : Sizes) (d : Directory) (w : List ℕ) (m : Memory A) (v : List A) (g : Consistent filler sz d m v) (n : ℕ) (n-lt : n < sz .N * sz .K) (x : A) where
+module _ {A : Type 0} (filler : A) (pick : Choice) (picks : Picks pick) (sz : Sizes) (d : Directory) (w : List ℕ) (m : Memory A)
+    (v : List A) (g : Consistent filler sz d m v) (n : ℕ) (n-lt : n < sz .N * sz .K) (x : A) where
   abbrev Wrote : Plan → Type 0
   Wrote p = Consistent filler sz (written sz d n p) (writtenPages filler sz d m n x p) (set v n x)
 
-  evict-wrote : (b f : ℕ) → f < sz .B → frameAt d f < sz .N → b < sz .N → 0 < slotCount sz d b → ((h : ℕ) → h < sz .B → frameAt d h ≡ b → ⊥) → NoSlot sz d n → NoFrame sz d n → Wrote (evict b f)
+  evict-wrote : (b f : ℕ) → f < sz .B → frameAt d f < sz .N → b < sz .N → 0 < slotCount sz d b
+      → ((h : ℕ) → h < sz .B → frameAt d h ≡ b → ⊥) → NoSlot sz d n → NoFrame sz d n → Wrote (evict b f)
   unfolding written writtenPages
   evict-wrote b f fl al bl pos sole np nf =
       let u = g .numbers in let a : ℕ = frameAt d f in
       let y = ready-frame sz d u f fl (block-vacant sz (u .limits) a al) in
       let ab = stepped-absent sz d u a f y n n-lt np nf in
-      joined-entered filler sz (stepped sz d (due a f)) (steppedPages filler sz d m (due a f)) v (step-good filler sz d m v g a f y) n n-lt (ab .0) (ab .1) x b f fl bl
+      joined-entered filler sz (stepped sz d (due a f)) (steppedPages filler sz d m (due a f)) v (step-good filler sz d m v g a f y) n n-lt
+      (ab .0) (ab .1) x b f fl bl
       (rw (stepped-count sz d u a f y b (λ e. sole f fl (sym e))) pos)
       (inr (stepped-bits sz d u a f y)) (λ h hl ne e. sole h hl (sym (stepped-frame′ sz d u a f y h ne) ∙ e))
 
-  exchange-wrote : (b f : ℕ) → f < sz .B → b < sz .N → validCount sz d f < slotCount sz d b → frameAt d f < sz .N → ((h : ℕ) → h < sz .B → frameAt d h ≡ b → ⊥) → NoSlot sz d n → NoFrame sz d n → Wrote (exchange b f)
+  exchange-wrote : (b f : ℕ) → f < sz .B → b < sz .N → validCount sz d f < slotCount sz d b → frameAt d f < sz .N
+      → ((h : ℕ) → h < sz .B → frameAt d h ≡ b → ⊥) → NoSlot sz d n → NoFrame sz d n → Wrote (exchange b f)
   unfolding written writtenPages inSlots
   exchange-wrote b f fl bl more al sole np nf =
       let u = g .numbers in
       let ab = exchanged-absent sz d u n n-lt np nf b f fl bl more in
-      entered-good filler sz (exchanged sz d b f) (exchangedPages filler sz d m b f) v (exchanged-good filler sz d m v g b f fl bl more al sole)
+      entered-good filler sz (exchanged sz d b f) (exchangedPages filler sz d m b f) v
+      (exchanged-good filler sz d m v g b f fl bl more al sole)
       n n-lt (ab .0) (ab .1) x f fl (lt-ltb _ (sz .P) (exchanged-vacant sz (u .limits) d (u .shape) (u .entries) b f fl bl more al sole))
 
   frame-hit-wrote : inSlots sz d n ≡ false → frameWith sz d n < sz .B → Wrote (frameHit (frameWith sz d n))
   unfolding written writtenPages frameWith
-  frame-hit-wrote h l = touched-good filler sz d _ _ (frame-hit-good filler sz d m v g (frameWith sz d n) n x l n-lt (not-in-slots sz d n h) (first-hit (sz .B) (inFrame sz d n) l)) (frameWith sz d n) l
+  frame-hit-wrote h l = touched-good filler sz d _ _ (frame-hit-good filler sz d m v g (frameWith sz d n) n x l n-lt
+      (not-in-slots sz d n h) (first-hit (sz .B) (inFrame sz d n) l)) (frameWith sz d n) l
 
   -- no slot is vacant: ways 4 to 7
   eviction-wrote : NoSlot sz d n → NoFrame sz d n → inSlots sz d vacant ≡ false → Wrote (evictionPlan pick sz d w (victim sz d))
@@ -189,9 +220,12 @@ module _ {A : Type 0} (filler : A) (pick : Choice) (picks : Picks pick) (sz : Si
   eviction-wrote np nf full =
       let u = g .numbers in let b : ℕ = victim sz d in let bl = victim-lt sz d u in let pos = victim-pos sz d u full in
       eviction-elim pick sz d w Wrote b
-      (λ q. let e = frame-is sz d b q in joined-entered filler sz d m v g n n-lt np nf x b (frameOf sz d b) q bl pos (inl e) (sole-own sz d u b (frameOf sz d b) bl q e))
-      (λ s q. joined-entered filler sz d m v g n n-lt np nf x b (frameOf sz d vacant) q bl pos (inr (vacant-bits sz d u _ q (frame-is sz d vacant q))) (λ h hl ne e. no-frame sz d b s h hl e))
-      (λ s o q. let p = fewest-pick sz d u pick picks _ refl in exchange-wrote b _ (p .0) bl (rw (p .1) q) (occupied-all sz d u o _ (p .0)) (no-frame sz d b s) np nf)
+      (λ q. let e = frame-is sz d b q in joined-entered filler sz d m v g n n-lt np nf x b (frameOf sz d b) q bl pos (inl e)
+      (sole-own sz d u b (frameOf sz d b) bl q e))
+      (λ s q. joined-entered filler sz d m v g n n-lt np nf x b (frameOf sz d vacant) q bl pos
+      (inr (vacant-bits sz d u _ q (frame-is sz d vacant q))) (λ h hl ne e. no-frame sz d b s h hl e))
+      (λ s o q. let p = fewest-pick sz d u pick picks _ refl in exchange-wrote b _ (p .0) bl (rw (p .1) q) (occupied-all sz d u o _ (p .0))
+      (no-frame sz d b s) np nf)
       (λ s o q. let fl = evict-pick sz d u pick picks w in evict-wrote b _ fl (occupied-all sz d u o _ fl) bl pos (no-frame sz d b s) np nf)
 
   pub write-good : Wrote (plan pick sz d w n)
@@ -199,5 +233,6 @@ module _ {A : Type 0} (filler : A) (pick : Choice) (picks : Picks pick) (sz : Si
   write-good = plan-elim pick sz d w Wrote n
       (λ h. let k = found-slot sz d n h in slot-hit-good filler sz d m v g (slotOf sz d n) n x (k .0) n-lt (k .1))
       (λ h l. frame-hit-wrote h l)
-      (λ h k h2. let q = found-slot sz d vacant h2 in put-good filler sz d m v g (slotOf sz d vacant) n x (q .0) n-lt (not-in-slots sz d n h) (no-frame-with sz d n k) (q .1))
+      (λ h k h2. let q = found-slot sz d vacant h2 in put-good filler sz d m v g (slotOf sz d vacant) n x (q .0) n-lt
+      (not-in-slots sz d n h) (no-frame-with sz d n k) (q .1))
       (λ h k full. eviction-wrote (not-in-slots sz d n h) (no-frame-with sz d n k) full)

@@ -16,8 +16,10 @@ use Rattle.prelude.proofs.Tests.{by-test}
 use Rattle.prelude.proofs.Tab.{length-tab, getD-tab}
 use Rattle.model.specs.Sizes.{Sizes}
 use Rattle.model.specs.Directory.{Directory, frameAt, validAt}
-use Rattle.model.specs.Policy.{inBlock, slotOf, inSlots, frameWith, Choice, Plan, slotHit, frameHit, freeSlot, join, fill, exchange, evict, Due, clean, due, dueOf}
-use Rattle.model.specs.Moves.{Memory, flashPage, programmed, putSlotPage, putFramePage, filled, joinedPages, taken, exchangedPages, merged, rewrittenPages, stepped, readPage, writtenPages, steppedPages}
+use Rattle.model.specs.Policy.{inBlock, slotOf, inSlots, frameWith, Choice, Plan, slotHit, frameHit, freeSlot, join, fill, exchange}
+use Rattle.model.specs.Policy.{evict, Due, clean, due, dueOf}
+use Rattle.model.specs.Moves.{Memory, flashPage, programmed, putSlotPage, putFramePage, filled, joinedPages, taken, exchangedPages}
+use Rattle.model.specs.Moves.{merged, rewrittenPages, stepped, readPage, writtenPages, steppedPages}
 use Rattle.model.specs.Calls.{stepsPages}
 
 due-cases : {X : Type 0} (e′ : Due) → (e′ ≡ clean → X) → ((b f : ℕ) → e′ ≡ due b f → X) → X
@@ -52,8 +54,10 @@ module _ {A : Type 0} (filler : A) (Q : A → Type 0) (q : Q filler) where
   module _ (sz : Sizes) where
     filled-each : (d : Directory) (m : Memory A) (b f : ℕ) → EachM m → Each (filled filler sz d m b f)
     unfolding filled
-    filled-each d m b f h = each-tab (sz .B * sz .K) (λ k. cond (eqb (k / sz .K) f && inSlots sz d (b * sz .K + k % sz .K)) (getD (m .pspace) (slotOf sz d (b * sz .K + k % sz .K)) filler) (getD (m .bspace) k filler))
-        (λ k. each-cond (eqb (k / sz .K) f && inSlots sz d (b * sz .K + k % sz .K)) _ _ (h .pspace (slotOf sz d (b * sz .K + k % sz .K))) (h .bspace k))
+    filled-each d m b f h = each-tab (sz .B * sz .K) (λ k. cond (eqb (k / sz .K) f && inSlots sz d (b * sz .K + k % sz .K))
+        (getD (m .pspace) (slotOf sz d (b * sz .K + k % sz .K)) filler) (getD (m .bspace) k filler))
+        (λ k. each-cond (eqb (k / sz .K) f && inSlots sz d (b * sz .K + k % sz .K)) _ _ (h .pspace (slotOf sz d (b * sz .K + k % sz .K)))
+        (h .bspace k))
 
     joined-each : (d : Directory) (m : Memory A) (b f : ℕ) → EachM m → EachM (joinedPages filler sz d m b f)
     unfolding joinedPages
@@ -63,8 +67,10 @@ module _ {A : Type 0} (filler : A) (Q : A → Type 0) (q : Q filler) where
     unfolding exchangedPages
     exchanged-each d m b f h = record {
       flash = h .flash;
-      pspace = each-tab (sz .P) (λ i. cond (inBlock sz d b i && ltb (taken sz d b f i) (sz .K)) (getD (m .bspace) (f * sz .K + taken sz d b f i) filler) (getD (m .pspace) i filler))
-          (λ i. each-cond (inBlock sz d b i && ltb (taken sz d b f i) (sz .K)) _ _ (h .bspace (f * sz .K + taken sz d b f i)) (h .pspace i));
+      pspace = each-tab (sz .P) (λ i. cond (inBlock sz d b i && ltb (taken sz d b f i) (sz .K))
+          (getD (m .bspace) (f * sz .K + taken sz d b f i) filler) (getD (m .pspace) i filler))
+          (λ i. each-cond (inBlock sz d b i && ltb (taken sz d b f i) (sz .K)) _ _ (h .bspace (f * sz .K + taken sz d b f i))
+          (h .pspace i));
       bspace = filled-each d m b f h;
     }
 
@@ -75,9 +81,11 @@ module _ {A : Type 0} (filler : A) (Q : A → Type 0) (q : Q filler) where
     rewritten-each : (d : Directory) (m : Memory A) (b f : ℕ) → EachM m → EachM (rewrittenPages filler sz d m b f)
     unfolding rewrittenPages programmed
     rewritten-each d m b f h = record {
-      flash = each-tab (sz .N * sz .K) (λ n. cond (eqb (n / sz .K) b) (merged filler sz d m b f (n % sz .K)) (getD (m .flash) n filler)) (λ n. each-cond (eqb (n / sz .K) b) _ _ (merged-each d m b f (n % sz .K) h) (h .flash n));
+      flash = each-tab (sz .N * sz .K) (λ n. cond (eqb (n / sz .K) b) (merged filler sz d m b f (n % sz .K)) (getD (m .flash) n filler))
+          (λ n. each-cond (eqb (n / sz .K) b) _ _ (merged-each d m b f (n % sz .K) h) (h .flash n));
       pspace = h .pspace;
-      bspace = each-tab (sz .B * sz .K) (λ k. cond (eqb (k / sz .K) f) (merged filler sz d m b f (k % sz .K)) (getD (m .bspace) k filler)) (λ k. each-cond (eqb (k / sz .K) f) _ _ (merged-each d m b f (k % sz .K) h) (h .bspace k));
+      bspace = each-tab (sz .B * sz .K) (λ k. cond (eqb (k / sz .K) f) (merged filler sz d m b f (k % sz .K)) (getD (m .bspace) k filler))
+          (λ k. each-cond (eqb (k / sz .K) f) _ _ (merged-each d m b f (k % sz .K) h) (h .bspace k));
     }
 
     put-each : (m : Memory A) (i : ℕ) (x : A) → EachM m → Q x → EachM (putSlotPage m i x)
@@ -107,7 +115,8 @@ module _ {A : Type 0} (filler : A) (Q : A → Type 0) (q : Q filler) where
     written-each d m n x (join v f) h hx = put-each _ _ x (joined-each d m v f h) hx
     written-each d m n x (fill v f) h hx = put-each _ _ x (joined-each d m v f h) hx
     written-each d m n x (exchange v f) h hx = put-each _ _ x (exchanged-each d m v f h) hx
-    written-each d m n x (evict v f) h hx = put-each _ _ x (joined-each (stepped sz d (due (frameAt d f) f)) _ v f (step-each d m (due (frameAt d f) f) h)) hx
+    written-each d m n x (evict v f) h hx = put-each _ _ x (joined-each (stepped sz d (due (frameAt d f) f)) _ v f
+        (step-each d m (due (frameAt d f) f) h)) hx
 
     pub flush-each : (pick : Choice) (c : ℕ) (d : Directory) (m : Memory A) → EachM m → EachM (stepsPages pick sz filler c d m)
     unfolding stepsPages

@@ -15,11 +15,13 @@ use Rattle.prelude.proofs.Tab.{getD-tab}
 use Rattle.model.specs.Sizes.{Sizes}
 use Rattle.model.specs.Directory.{Directory, frameAt, inFrame}
 use Rattle.model.specs.Policy.{inSlots, frameWith, readWay, Choice, victim, Plan, evict, plan, erasedBy, mergeReads, due, dueOf}
-use Rattle.model.specs.Moves.{Memory, flashPage, programmed, wornBy, putSlotPage, putFramePage, joined, joinedPages, exchangedPages, rewrittenPages, readDirectory, stepped, readPage, writtenPages, steppedPages}
+use Rattle.model.specs.Moves.{Memory, flashPage, programmed, wornBy, putSlotPage, putFramePage, joined, joinedPages, exchangedPages}
+use Rattle.model.specs.Moves.{rewrittenPages, readDirectory, stepped, readPage, writtenPages, steppedPages}
 use Rattle.model.specs.Calls.{Tally, steps, stepsPages}
 use Rattle.model.specs.Lists.{Picks}
 use Rattle.model.proofs.Soundness.{pages-small}
-use Rattle.model.proofs.Lookup.{block-vacant, block-lt, offset-lt, page-split, found-slot, not-in-slots, in-block, frame-has, no-frame-with, some-pages}
+use Rattle.model.proofs.Lookup.{block-vacant, block-lt, offset-lt, page-split, found-slot, not-in-slots, in-block, frame-has}
+use Rattle.model.proofs.Lookup.{no-frame-with, some-pages}
 use Rattle.model.proofs.Plan.{occupied-all, evict-pick, eviction-elim, plan-elim}
 use Rattle.model.proofs.Consistent.{Consistent, touched-good, step-good}
 use Rattle.model.proofs.Steps.{Ready, Empty, ready-frame, due-elim, stepped-gone, worn-at, worn-other, wornBy-length, wornBy-is}
@@ -30,10 +32,12 @@ module _ {A : Type 0} (filler : A) (sz : Sizes) (d : Directory) (m : Memory A) (
   unfolding readPage frameWith flashPage
   read-is n l = let u = g .numbers in by-test (inSlots sz d n)
       (λ e. let k = found-slot sz d n e in
-      rw (e, readPage) (g .reflects .in-slot _ (k .0) (rw (k .1) (let s = pages-small sz (u .limits) in omega arith)) ∙ ap (λ (x : ℕ). getD v x filler) (k .1)))
+      rw (e, readPage) (g .reflects .in-slot _ (k .0) (rw (k .1) (let s = pages-small sz (u .limits) in omega arith))
+      ∙ ap (λ (x : ℕ). getD v x filler) (k .1)))
       (λ e. rw (e, readPage) (by-test (ltb (frameWith sz d n) (sz .B))
       (λ e′. let k = ltb-true (frameWith sz d n) (sz .B) e′ in let q = frame-has sz d n _ (first-hit (sz .B) (inFrame sz d n) k) in
-      rw e′ (g .reflects .in-frame _ (n % sz .K) k (offset-lt sz (u .limits) n) (q .1) ∙ ap (λ (x : ℕ). getD v x filler) (page-split sz (u .limits) n _ (sym (q .0)))))
+      rw e′ (g .reflects .in-frame _ (n % sz .K) k (offset-lt sz (u .limits) n) (q .1)
+      ∙ ap (λ (x : ℕ). getD v x filler) (page-split sz (u .limits) n _ (sym (q .0)))))
       (λ e′. rw e′ (g .reflects .in-flash n l (not-in-slots sz d n e) (no-frame-with sz d n (ltb-false (frameWith sz d n) (sz .B) e′))))))
 
   -- and leaves the store consistent
@@ -69,14 +73,21 @@ module _ {A : Type 0} (filler : A) (sz : Sizes) (v : List A) where
   pub moved-then : {m m′ m″ : Memory A} {w w′ w″ : List ℕ} → Moved m w m′ w′ → Moved m′ w′ m″ w″ → Moved m w m″ w″
   moved-then {m} {m′} {m″} {w} {w′} {w″} p q = record {
     page = λ n l. elim (q .page n l) [
-      | inl e ↦ elim (p .page n l) [ inl e′ ↦ inl (e .0 ∙ e′ .0, e .1 ∙ e′ .1) | inr e′ ↦ inr ((let x = e .0 in let y = e′ .0 in omega arith), e .1 ∙ e′ .1) ]
-      | inr e ↦ inr ((let x = e .0 in elim (p .page n l) [ inl e′ ↦ (let y = e′ .0 in omega arith) | inr e′ ↦ (let y = e′ .0 in omega arith) ]), e .1)
+      | inl e ↦ elim (p .page n l) [
+        | inl e′ ↦ inl (e .0 ∙ e′ .0, e .1 ∙ e′ .1)
+        | inr e′ ↦
+            inr ((let x = e .0 in let y = e′ .0 in omega arith), e .1 ∙ e′ .1)
+      ]
+      | inr e ↦ inr
+          ((let x = e .0 in elim (p .page n l) [ inl e′ ↦ (let y = e′ .0 in omega arith) | inr e′ ↦ (let y = e′ .0 in omega arith) ]), e .1)
     ];
   }
 
-module _ {A : Type 0} (filler : A) (sz : Sizes) (d : Directory) (m : Memory A) (v : List A) (g : Consistent filler sz d m v) (w : List ℕ) (wl : length w ≡ sz .N) where
+module _ {A : Type 0} (filler : A) (sz : Sizes) (d : Directory) (m : Memory A) (v : List A) (g : Consistent filler sz d m v) (w : List ℕ)
+    (wl : length w ≡ sz .N) where
   -- a step programs the pages of one block
-  stepped-flash : (b f n : ℕ) → n < sz .N * sz .K → eqb (n / sz .K) b ≡ false → getD (steppedPages filler sz d m (due b f) .flash) n filler ≡ getD (m .flash) n filler
+  stepped-flash : (b f n : ℕ) → n < sz .N * sz .K → eqb (n / sz .K) b ≡ false
+      → getD (steppedPages filler sz d m (due b f) .flash) n filler ≡ getD (m .flash) n filler
   unfolding steppedPages rewrittenPages programmed joinedPages
   stepped-flash b f n l e = getD-tab (sz .N * sz .K) _ filler n l ∙ rw e
 
@@ -84,7 +95,10 @@ module _ {A : Type 0} (filler : A) (sz : Sizes) (d : Directory) (m : Memory A) (
   step-moved b f y = record {
     page = λ n l. let limits = g .numbers .limits in let bl = y .b-lt in by-test (eqb (n / sz .K) b)
         (λ e. let e′ = eqb-true (n / sz .K) b e in let gone = stepped-gone sz d (g .numbers) b f y n l e′ in
-        inr (rw (e′, wornBy-is sz limits w b bl, worn-at w b (omega arith)) (omega arith), step-good filler sz d m v g b f y .reflects .in-flash n l (gone .0) (gone .1)))
+        inr (
+          rw (e′, wornBy-is sz limits w b bl, worn-at w b (omega arith)) (omega arith),
+          step-good filler sz d m v g b f y .reflects .in-flash n l (gone .0) (gone .1),
+        ))
         (λ e. inl (rw (wornBy-is sz limits w b bl) (worn-other w b (n / sz .K) (eqb-false (n / sz .K) b e)), stepped-flash b f n l e));
   }
 
@@ -94,7 +108,10 @@ module _ {A : Type 0} (filler : A) (sz : Sizes) (d : Directory) (m : Memory A) (
 
     evict-moves : (b f : ℕ) → f < sz .B → frameAt d f < sz .N → Moves (evict b f)
     unfolding writtenPages putSlotPage joinedPages
-    evict-moves b f fl al = record { page = step-moved (frameAt d f) f (ready-frame sz d (g .numbers) f fl (block-vacant sz (g .numbers .limits) (frameAt d f) al)) .page }
+    evict-moves b f fl al = record {
+      page = step-moved (frameAt d f) f
+          (ready-frame sz d (g .numbers) f fl (block-vacant sz (g .numbers .limits) (frameAt d f) al)) .page;
+    }
 
     pub write-moves : Moves (plan pick sz d w n)
     unfolding writtenPages putSlotPage putFramePage joinedPages exchangedPages wornBy
@@ -120,10 +137,15 @@ module _ {A : Type 0} (filler : A) (pick : Choice) (picks : Picks pick) (sz : Si
   unfolding steps stepsPages
   flush-all zero t m g wl = record { good = g; moved = moved-none filler sz v m m (t .state .wear) refl }
   flush-all (suc c) t m g wl = due-elim sz (t .state .directory) (g .numbers) pick picks
-      (λ q. dueOf pick sz (t .state .directory) ≡ q → Flushed t m (steps pick sz (suc c) t) (stepsPages pick sz filler (suc c) (t .state .directory) m))
+      (λ q. dueOf pick sz (t .state .directory) ≡ q → Flushed t m (steps pick sz (suc c) t)
+      (stepsPages pick sz filler (suc c) (t .state .directory) m))
       (λ b f y e. rw (e, steps, stepsPages) (
       let d = t .state .directory in let w = t .state .wear in
-      let t1 : Tally = record { state = record { directory = stepped sz d (due b f); wear = wornBy w b }; rewrites = suc (t .rewrites); merges = mergeReads sz (joined sz d b f) f + t .merges } in
+      let t1 : Tally = record {
+        state = record { directory = stepped sz d (due b f); wear = wornBy w b };
+        rewrites = suc (t .rewrites);
+        merges = mergeReads sz (joined sz d b f) f + t .merges;
+      } in
       let ih = flush-all c t1 (steppedPages filler sz d m (due b f)) (step-good filler sz d m v g b f y) (wornBy-length w b ∙ wl) in
       record { good = ih .good; moved = moved-then filler sz v (step-moved filler sz d m v g w wl b f y) (ih .moved) }))
       (λ q e. rw (e, steps, stepsPages) (record { good = g; moved = moved-none filler sz v m m (t .state .wear) refl }))

@@ -41,7 +41,12 @@ vacant-recency f l = getD-tab 8 (λ i. i) 0 f l
 
 vacant-shape : Shape vacantDirectory
 unfolding vacantDirectory
-vacant-shape = record { slots-length = length-replicate 128 vacant; frames-length = length-replicate 8 vacant; valid-length = length-replicate {A = ℕ} 8 0; recency-length = length-tab 8 _ }
+vacant-shape = record {
+  slots-length = length-replicate 128 vacant;
+  frames-length = length-replicate 8 vacant;
+  valid-length = length-replicate {A = ℕ} 8 0;
+  recency-length = length-tab 8 _;
+}
 
 module _ (sz : Sizes) (limits : InLimits sz) where
   pub opened-sound : Sound sz vacantDirectory
@@ -57,11 +62,18 @@ module _ (sz : Sizes) (limits : InLimits sz) where
           frames-apart = λ f g fl gl v e. absurd (let q = vacant-frame f (omega arith) in omega arith);
           once = λ i f il fl v e. let q = vacant-slot i (omega arith) in omega arith;
         };
-        listed = record { recency-lt = λ i l. rw (vacant-recency i (omega arith)) l; recency-has = λ f l. (f, l, vacant-recency f (omega arith)) };
-        past = record { slot-past = λ i l k. vacant-slot i k; frame-past = λ f l k. (vacant-frame f k, vacant-bits f k, vacant-recency f k) };
+        listed = record {
+          recency-lt = λ i l. rw (vacant-recency i (omega arith)) l;
+          recency-has = λ f l. (f, l, vacant-recency f (omega arith));
+        };
+        past = record {
+          slot-past = λ i l k. vacant-slot i k;
+          frame-past = λ f l k. (vacant-frame f k, vacant-bits f k, vacant-recency f k);
+        };
       }
 
-  module _ {A : Type 0} (filler : A) (m : Memory A) (fl : length (m .flash) ≡ sz .N * sz .K) (pl : length (m .pspace) ≡ sz .P) (bl : length (m .bspace) ≡ sz .B * sz .K) where
+  module _ {A : Type 0} (filler : A) (m : Memory A) (fl : length (m .flash) ≡ sz .N * sz .K) (pl : length (m .pspace) ≡ sz .P)
+      (bl : length (m .bspace) ≡ sz .B * sz .K) where
     pub opened-good : Consistent filler sz vacantDirectory m (m .flash)
     opened-good = let pm = limits .P-high in let bm = limits .B-high in record {
       numbers = opened-sound;
@@ -104,12 +116,15 @@ module _ (sz : Sizes) (d : Directory) (u : Sound sz d) where
   unfolding timesCached
   cached-once n l =
       let nv : n < vacant = (let s = (pages-small sz (u .limits)) in omega arith) in
-      let p1 = count-one (sz .P) (λ i. eqb (slotAt d i) n) (λ i j il jl a b. u .entries .slots-apart i j il jl (rw (eqb-true _ n a) nv) (eqb-true _ n a ∙ sym (eqb-true _ n b))) in
+      let p1 = count-one (sz .P) (λ i. eqb (slotAt d i) n) (λ i j il jl a b. u .entries .slots-apart i j il jl (rw (eqb-true _ n a) nv)
+      (eqb-true _ n a ∙ sym (eqb-true _ n b))) in
       let f1 = count-one (sz .B) (inFrame sz d n) (λ f g fl gl a b. let x = frame-has sz d n f a .0 in
-      u .entries .frames-apart f g fl gl (rw x (block-vacant sz (u .limits) _ (block-lt sz (u .limits) n l))) (x ∙ sym (frame-has sz d n g b .0))) in
+      u .entries .frames-apart f g fl gl (rw x (block-vacant sz (u .limits) _ (block-lt sz (u .limits) n l)))
+      (x ∙ sym (frame-has sz d n g b .0))) in
       by-test (ltb (first (sz .P) (λ i. eqb (slotAt d i) n)) (sz .P))
       (λ e. let k = ltb-true _ (sz .P) e in let q = eqb-true _ n (first-hit (sz .P) (λ i. eqb (slotAt d i) n) k) in
       let f0 = count-none (sz .B) (inFrame sz d n) (λ f fl. by-test (inFrame sz d n f)
       (λ h. absurd (u .entries .once _ f k fl (rw q nv) (rw q h))) (λ h. h)) in omega arith)
       (λ e. let p0 = count-none (sz .P) (λ i. eqb (slotAt d i) n) (λ i il. by-test (eqb (slotAt d i) n)
-      (λ h. absurd (let k = first-at (sz .P) (λ i. eqb (slotAt d i) n) i il h in let k2 = ltb-false (first (sz .P) (λ i. eqb (slotAt d i) n)) (sz .P) e in omega arith)) (λ h. h)) in omega arith)
+      (λ h. absurd (let k = first-at (sz .P) (λ i. eqb (slotAt d i) n) i il h in
+      let k2 = ltb-false (first (sz .P) (λ i. eqb (slotAt d i) n)) (sz .P) e in omega arith)) (λ h. h)) in omega arith)

@@ -7,10 +7,16 @@ use Rattle.prelude.specs.Bits.{bit, mask}
 use Rattle.prelude.specs.Pages.{pageAt, pagesOf, flat}
 use Rattle.model.specs.Sizes.{sizesOk}
 use Rattle.model.specs.Directory.{inFrame, vacantDirectory, blankCache}
-use Rattle.model.specs.Soundness.{shapeOk, slotOk, frameOk, slotsDiffer, framesDiffer, cachedOnce, listedOnce, slotPast, framePast, sound}
-use Rattle.model.specs.Policy.{inBlock, slotOf, inSlots, frameWith, frameOf, validCount, slotCount, readWay, leastRecent, victim, fewestValid, evictable, anyEvictable, evictFrame, evictionPlan, plan, occupied, lowestInSlots, dueOf, cached, isWorn, lowestWorn}
-use Rattle.model.specs.Moves.{flashPage, programmed, worn, wornBy, recencyAfter, touched, putSlot, entered, putSlotPage, putFramePage, joined, filled, joinedPages, unmet, spare, taken, givenSlot, exchanged, exchangedPages, vacated, merged, rewrittenPages, readDirectory, written, stepped, readPage, writtenPages, steppedPages}
-use Rattle.model.specs.Calls.{Call, read, write, flush, checked, readOutcome, writeOutcome, stepOutcome, steps, flushOutcome, decide, stepsPages, callPages, Page, lentOk, openStore, Store, zeroPage, memoryOf, buffersOf, carriedOut, call}
+use Rattle.model.specs.Soundness.{shapeOk, slotOk, frameOk, slotsDiffer, framesDiffer, cachedOnce, listedOnce, slotPast, framePast}
+use Rattle.model.specs.Soundness.{sound}
+use Rattle.model.specs.Policy.{inBlock, slotOf, inSlots, frameWith, frameOf, validCount, slotCount, readWay, leastRecent, victim}
+use Rattle.model.specs.Policy.{fewestValid, evictable, anyEvictable, evictFrame, evictionPlan, plan, occupied, lowestInSlots, dueOf}
+use Rattle.model.specs.Policy.{cached, isWorn, lowestWorn}
+use Rattle.model.specs.Moves.{flashPage, programmed, worn, wornBy, recencyAfter, touched, putSlot, entered, putSlotPage, putFramePage}
+use Rattle.model.specs.Moves.{joined, filled, joinedPages, unmet, spare, taken, givenSlot, exchanged, exchangedPages, vacated, merged}
+use Rattle.model.specs.Moves.{rewrittenPages, readDirectory, written, stepped, readPage, writtenPages, steppedPages}
+use Rattle.model.specs.Calls.{Call, read, write, flush, checked, readOutcome, writeOutcome, stepOutcome, steps, flushOutcome, decide}
+use Rattle.model.specs.Calls.{stepsPages, callPages, Page, lentOk, openStore, Store, zeroPage, memoryOf, buffersOf, carriedOut, call}
 use Rattle.model.specs.Lists.{Claim, opened, fed, arrayAfter}
 use Rattle.model.proofs.AuditClauses.{sizesA, lentA}
 use Rattle.model.proofs.Demand3.{lru, demand-3-lru}
@@ -22,7 +28,13 @@ abbrev storeA : Store
 storeA = record { cache = openStore sizesA lentA .cache; lent = lentA }
 
 pub claim-a : Claim sizesA lentA storeA (opened sizesA lentA) (lru callsA)
-unfolding openStore call carriedOut memoryOf buffersOf zeroPage lentOk callPages stepsPages decide flushOutcome steps stepOutcome writeOutcome readOutcome checked steppedPages writtenPages readPage stepped written readDirectory rewrittenPages merged vacated exchangedPages exchanged givenSlot taken spare unmet joinedPages filled joined putFramePage putSlotPage entered putSlot touched recencyAfter wornBy worn programmed flashPage lowestWorn isWorn cached dueOf lowestInSlots occupied plan evictionPlan evictFrame anyEvictable evictable fewestValid victim leastRecent readWay slotCount validCount frameOf frameWith inSlots slotOf inBlock inFrame sound framePast slotPast listedOnce cachedOnce framesDiffer slotsDiffer frameOk slotOk shapeOk sizesOk vacantDirectory blankCache every first firstFrom count all allPairs tab tabFrom bit mask nth argmax least pageAt pagesOf flat
+unfolding openStore call carriedOut memoryOf buffersOf zeroPage lentOk callPages stepsPages decide flushOutcome steps stepOutcome
+    writeOutcome readOutcome checked steppedPages writtenPages readPage stepped written readDirectory rewrittenPages merged vacated
+    exchangedPages exchanged givenSlot taken spare unmet joinedPages filled joined putFramePage putSlotPage entered putSlot touched
+    recencyAfter wornBy worn programmed flashPage lowestWorn isWorn cached dueOf lowestInSlots occupied plan evictionPlan evictFrame
+    anyEvictable evictable fewestValid victim leastRecent readWay slotCount validCount frameOf frameWith inSlots slotOf inBlock inFrame
+    sound framePast slotPast listedOnce cachedOnce framesDiffer slotsDiffer frameOk slotOk shapeOk sizesOk vacantDirectory blankCache every
+    first firstFrom count all allPairs tab tabFrom bit mask nth argmax least pageAt pagesOf flat
 claim-a = demand-3-lru sizesA lentA refl callsA
 
 -- the flash that the flush leaves is the page array: the newest contents of every page
@@ -31,10 +43,23 @@ ran s [] = s
 ran s (c ∷ cs) = ran (call leastRecent s c .store) cs
 
 pub flash-a : ran storeA callsA .lent .flash ≡ 10 ∷ 255 ∷ 20 ∷ 40 ∷ 30 ∷ 255 ∷ []
-unfolding opened fed arrayAfter openStore call carriedOut memoryOf buffersOf zeroPage lentOk callPages stepsPages decide flushOutcome steps stepOutcome writeOutcome readOutcome checked steppedPages writtenPages readPage stepped written readDirectory rewrittenPages merged vacated exchangedPages exchanged givenSlot taken spare unmet joinedPages filled joined putFramePage putSlotPage entered putSlot touched recencyAfter wornBy worn programmed flashPage lowestWorn isWorn cached dueOf lowestInSlots occupied plan evictionPlan evictFrame anyEvictable evictable fewestValid victim leastRecent readWay slotCount validCount frameOf frameWith inSlots slotOf inBlock inFrame sound framePast slotPast listedOnce cachedOnce framesDiffer slotsDiffer frameOk slotOk shapeOk sizesOk vacantDirectory blankCache every first firstFrom count all allPairs tab tabFrom bit mask nth argmax least pageAt pagesOf flat
+unfolding opened fed arrayAfter openStore call carriedOut memoryOf buffersOf zeroPage lentOk callPages stepsPages decide flushOutcome steps
+    stepOutcome writeOutcome readOutcome checked steppedPages writtenPages readPage stepped written readDirectory rewrittenPages merged
+    vacated exchangedPages exchanged givenSlot taken spare unmet joinedPages filled joined putFramePage putSlotPage entered putSlot touched
+    recencyAfter wornBy worn programmed flashPage lowestWorn isWorn cached dueOf lowestInSlots occupied plan evictionPlan evictFrame
+    anyEvictable evictable fewestValid victim leastRecent readWay slotCount validCount frameOf frameWith inSlots slotOf inBlock inFrame
+    sound framePast slotPast listedOnce cachedOnce framesDiffer slotsDiffer frameOk slotOk shapeOk sizesOk vacantDirectory blankCache every
+    first firstFrom count all allPairs tab tabFrom bit mask nth argmax least pageAt pagesOf flat
 flash-a = claim-a .then .then .then .then .then .then .then .flushed-is refl
 
 -- the page that the fifth call read is the one last accepted for its number
-pub read-a : call leastRecent (ran storeA (write 0 (10 ∷ []) ∷ write 2 (20 ∷ []) ∷ write 4 (30 ∷ []) ∷ write 3 (40 ∷ []) ∷ [])) (read 2 (0 ∷ [])) .page ≡ 20 ∷ []
-unfolding opened fed arrayAfter openStore call carriedOut memoryOf buffersOf zeroPage lentOk callPages stepsPages decide flushOutcome steps stepOutcome writeOutcome readOutcome checked steppedPages writtenPages readPage stepped written readDirectory rewrittenPages merged vacated exchangedPages exchanged givenSlot taken spare unmet joinedPages filled joined putFramePage putSlotPage entered putSlot touched recencyAfter wornBy worn programmed flashPage lowestWorn isWorn cached dueOf lowestInSlots occupied plan evictionPlan evictFrame anyEvictable evictable fewestValid victim leastRecent readWay slotCount validCount frameOf frameWith inSlots slotOf inBlock inFrame sound framePast slotPast listedOnce cachedOnce framesDiffer slotsDiffer frameOk slotOk shapeOk sizesOk vacantDirectory blankCache every first firstFrom count all allPairs tab tabFrom bit mask nth argmax least pageAt pagesOf flat
+pub read-a : call leastRecent (ran storeA (write 0 (10 ∷ []) ∷ write 2 (20 ∷ []) ∷ write 4 (30 ∷ []) ∷ write 3 (40 ∷ []) ∷ []))
+    (read 2 (0 ∷ [])) .page ≡ 20 ∷ []
+unfolding opened fed arrayAfter openStore call carriedOut memoryOf buffersOf zeroPage lentOk callPages stepsPages decide flushOutcome steps
+    stepOutcome writeOutcome readOutcome checked steppedPages writtenPages readPage stepped written readDirectory rewrittenPages merged
+    vacated exchangedPages exchanged givenSlot taken spare unmet joinedPages filled joined putFramePage putSlotPage entered putSlot touched
+    recencyAfter wornBy worn programmed flashPage lowestWorn isWorn cached dueOf lowestInSlots occupied plan evictionPlan evictFrame
+    anyEvictable evictable fewestValid victim leastRecent readWay slotCount validCount frameOf frameWith inSlots slotOf inBlock inFrame
+    sound framePast slotPast listedOnce cachedOnce framesDiffer slotsDiffer frameOk slotOk shapeOk sizesOk vacantDirectory blankCache every
+    first firstFrom count all allPairs tab tabFrom bit mask nth argmax least pageAt pagesOf flat
 read-a = claim-a .then .then .then .then .reads refl

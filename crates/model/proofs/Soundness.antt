@@ -15,7 +15,8 @@ use Rattle.prelude.proofs.Tests.{each, every-of, by-test, clash, and-l, and-r, 
 use Rattle.prelude.proofs.Scan.{all-at, all-of, pairs-at, pairs-of, listed-at, once-has, has-once}
 use Rattle.model.specs.Sizes.{Sizes, vacant, sizesOk, InLimits}
 use Rattle.model.specs.Directory.{Directory, slotAt, frameAt, validAt, recencyAt, inFrame}
-use Rattle.model.specs.Soundness.{shapeOk, slotOk, frameOk, slotsDiffer, framesDiffer, cachedOnce, listedOnce, slotPast, framePast, sound, Shape, Entries, Listed, Sound}
+use Rattle.model.specs.Soundness.{shapeOk, slotOk, frameOk, slotsDiffer, framesDiffer, cachedOnce, listedOnce, slotPast, framePast}
+use Rattle.model.specs.Soundness.{sound, Shape, Entries, Listed, Sound}
 
 -- ---- sizes
 
@@ -52,7 +53,16 @@ limits-test sz h = every-of _ (
             le-leb _ _ (h .N-high),
             (
               le-leb _ _ (h .P-low),
-              (le-leb _ _ (h .P-high), (le-leb _ _ (h .B-low), (le-leb _ _ (h .B-high), (le-leb _ _ (h .W-low), (le-leb _ _ (h .W-high), tt))))),
+              (
+                le-leb _ _ (h .P-high),
+                (
+                  le-leb _ _ (h .B-low),
+                  (
+                    le-leb _ _ (h .B-high),
+                    (le-leb _ _ (h .W-low), (le-leb _ _ (h .W-high), tt)),
+                  ),
+                ),
+              ),
             ),
           ),
         ),
@@ -71,7 +81,8 @@ K-pos sz h = let k = h .K-low in omega arith
 -- the buffers' lengths are small
 module _ (sz : Sizes) (h : InLimits sz) where
   pub flash-small : sz .N * sz .K * sz .S ≤ 536870912
-  flash-small = let a : sz .N * sz .K ≤ 4096 * 64 = mul-le-mul (h .N-high) (h .K-high) in let b : sz .N * sz .K * sz .S ≤ 4096 * 64 * 2048 = mul-le-mul a (h .S-high) in omega arith
+  flash-small = let a : sz .N * sz .K ≤ 4096 * 64 = mul-le-mul (h .N-high) (h .K-high) in
+      let b : sz .N * sz .K * sz .S ≤ 4096 * 64 * 2048 = mul-le-mul a (h .S-high) in omega arith
 
   pub pspace-small : sz .P * sz .S ≤ 262144
   pspace-small = let a : sz .P * sz .S ≤ 128 * 2048 = mul-le-mul (h .P-high) (h .S-high) in omega arith
@@ -84,7 +95,8 @@ module _ (sz : Sizes) (h : InLimits sz) where
 
 -- ---- two of a list of distinct entries
 
-apart : (n : ℕ) (g : ℕ → ℕ) → ((i j : ℕ) → i < j → j < n → (g j ≡ vacant) ⊎ (g i ≡ g j → ⊥)) → (i j : ℕ) → i < n → j < n → g i < vacant → g i ≡ g j → i ≡ j
+apart : (n : ℕ) (g : ℕ → ℕ) → ((i j : ℕ) → i < j → j < n → (g j ≡ vacant) ⊎ (g i ≡ g j → ⊥)) → (i j : ℕ) → i < n → j < n → g i < vacant
+    → g i ≡ g j → i ≡ j
 apart n g f i j il jl v e = by-test (ltb i j)
     (λ a. absurd (elim (f i j (ltb-true i j a) jl) [ inl h ↦ omega arith | inr h ↦ h e ]))
     (λ a. by-test (ltb j i)
@@ -121,7 +133,11 @@ module _ (sz : Sizes) (d : Directory) where
       let a = ltb (frameAt d f) (sz .N) in let b = ltb 0 (validAt d f) in let c = ltb (validAt d f) (2 ^ sz .K) in
       elim (or-cases (p && q) ((a && b) && c) h) [
         | inl e ↦ inl (eqb-true _ _ (and-l p q e), eqb-true _ _ (and-r p q e))
-        | inr e ↦ let ab = and-l (a && b) c e in inr (ltb-true _ _ (and-l a b ab), ltb-true _ _ (and-r a b ab), ltb-true _ _ (and-r (a && b) c e))
+        | inr e ↦ let ab = and-l (a && b) c e in inr (
+          ltb-true _ _ (and-l a b ab),
+          ltb-true _ _ (and-r a b ab),
+          ltb-true _ _ (and-r (a && b) c e),
+        )
       ]
 
   past-facts : (f : ℕ) → sz .B ≤ f → framePast sz d f ≡ true → (frameAt d f ≡ vacant) × (validAt d f ≡ 0) × (recencyAt d f ≡ f)
@@ -130,26 +146,35 @@ module _ (sz : Sizes) (d : Directory) where
       let a = eqb (frameAt d f) vacant in let b = eqb (validAt d f) 0 in let c = eqb (recencyAt d f) f in
       elim (or-cases (ltb f (sz .B)) ((a && b) && c) h) [
         | inl e ↦ absurd (let w = ltb-true f (sz .B) e in omega arith)
-        | inr e ↦ let ab = and-l (a && b) c e in (eqb-true _ _ (and-l a b ab), eqb-true _ _ (and-r a b ab), eqb-true _ _ (and-r (a && b) c e))
+        | inr e ↦ let ab = and-l (a && b) c e in (
+          eqb-true _ _ (and-l a b ab),
+          eqb-true _ _ (and-r a b ab),
+          eqb-true _ _ (and-r (a && b) c e),
+        )
       ]
 
   entries-facts : all (sz .P) (slotOk sz d) ≡ true → all (sz .B) (frameOk sz d) ≡ true → allPairs (sz .P) (slotsDiffer sz d) ≡ true
       → allPairs (sz .B) (framesDiffer sz d) ≡ true → all (sz .P) (λ i. all (sz .B) (cachedOnce sz d i)) ≡ true → Entries sz d
   unfolding slotOk slotsDiffer framesDiffer cachedOnce
   entries-facts so fo sd fd co = record {
-    slot-in = λ i l. elim (vacant-or (slotAt d i) (ltb (slotAt d i) (sz .N * sz .K)) (all-at (sz .P) (slotOk sz d) so i l)) [ inl e ↦ inl e | inr e ↦ inr (ltb-true _ _ e) ];
-    slots-apart = apart (sz .P) (slotAt d) (λ i j il jl. differ (slotAt d i) (slotAt d j) (pairs-at (sz .P) (slotsDiffer sz d) sd i j il jl));
+    slot-in = λ i l. elim (vacant-or (slotAt d i) (ltb (slotAt d i) (sz .N * sz .K)) (all-at (sz .P) (slotOk sz d) so i l))
+        [ inl e ↦ inl e | inr e ↦ inr (ltb-true _ _ e) ];
+    slots-apart = apart (sz .P) (slotAt d) (λ i j il jl. differ (slotAt d i) (slotAt d j)
+        (pairs-at (sz .P) (slotsDiffer sz d) sd i j il jl));
     frame-in = λ f l. frame-facts f (all-at (sz .B) (frameOk sz d) fo f l);
-    frames-apart = apart (sz .B) (frameAt d) (λ f g fl gl. differ (frameAt d f) (frameAt d g) (pairs-at (sz .B) (framesDiffer sz d) fd f g fl gl));
-    once = λ i f il fl v q. elim (vacant-or (slotAt d i) (not (inFrame sz d (slotAt d i) f)) (all-at (sz .B) (cachedOnce sz d i) (all-at (sz .P) (λ k. all (sz .B) (cachedOnce sz d k)) co i il) f fl)) [
-      | inl e ↦ omega arith
-      | inr e ↦ clash q (not-t e)
-    ];
+    frames-apart = apart (sz .B) (frameAt d) (λ f g fl gl. differ (frameAt d f) (frameAt d g)
+        (pairs-at (sz .B) (framesDiffer sz d) fd f g fl gl));
+    once = λ i f il fl v q. elim (vacant-or (slotAt d i) (not (inFrame sz d (slotAt d i) f))
+        (all-at (sz .B) (cachedOnce sz d i) (all-at (sz .P) (λ k. all (sz .B) (cachedOnce sz d k)) co i il) f fl)) [
+          | inl e ↦ omega arith
+          | inr e ↦ clash q (not-t e)
+        ];
   }
 
   listed-facts : all (sz .B) (listedOnce sz d) ≡ true → Listed sz d
   unfolding listedOnce
-  listed-facts h = let has = once-has (sz .B) (recencyAt d) h in record { recency-lt = λ i l. listed-at (sz .B) (recencyAt d) has i l .0; recency-has = has }
+  listed-facts h = let has = once-has (sz .B) (recencyAt d) h in
+      record { recency-lt = λ i l. listed-at (sz .B) (recencyAt d) has i l .0; recency-has = has }
 
   pub sound-facts : sound sz d ≡ true → Sound sz d
   unfolding sound slotPast
@@ -162,7 +187,8 @@ module _ (sz : Sizes) (d : Directory) where
         entries = entries-facts (e2 .0) (e3 .0) (e4 .0) (e5 .0) (e6 .0);
         listed = listed-facts (e7 .0);
         past = record {
-          slot-past = λ i l k. eqb-true _ _ (elim (or-cases (ltb i (sz .P)) (eqb (slotAt d i) vacant) (all-at 128 (slotPast sz d) (e8 .0) i k)) [ inl e ↦ absurd (let w = ltb-true i (sz .P) e in omega arith) | inr e ↦ e ]);
+          slot-past = λ i l k. eqb-true _ _ (elim (or-cases (ltb i (sz .P)) (eqb (slotAt d i) vacant)
+              (all-at 128 (slotPast sz d) (e8 .0) i k)) [ inl e ↦ absurd (let w = ltb-true i (sz .P) e in omega arith) | inr e ↦ e ]);
           frame-past = λ f l k. past-facts f l (all-at 8 (framePast sz d) (e9 .0) f k);
         };
       }
@@ -185,7 +211,11 @@ module _ (sz : Sizes) (d : Directory) where
     slot-below i l = elim (s .entries .slot-in i l) [ inl e ↦ inl e | inr e ↦ inr (let p = pages-small sz (s .limits) in omega arith) ]
 
     frame-below : (f : ℕ) → f < sz .B → (frameAt d f ≡ vacant) ⊎ (frameAt d f < vacant)
-    frame-below f l = elim (s .entries .frame-in f l) [ inl e ↦ inl (e .0) | inr e ↦ inr (let n = s .limits .N-high in let q = e .0 in omega arith) ]
+    frame-below f l = elim (s .entries .frame-in f l) [
+      | inl e ↦ inl (e .0)
+      | inr e ↦
+          inr (let n = s .limits .N-high in let q = e .0 in omega arith)
+    ]
 
     slots-test : (i j : ℕ) → i < j → j < sz .P → slotsDiffer sz d i j ≡ true
     unfolding slotsDiffer
@@ -205,7 +235,8 @@ module _ (sz : Sizes) (d : Directory) where
     unfolding cachedOnce
     once-test i f il fl = elim (slot-below i il) [
       | inl e ↦ or-l _ (eq-eqb _ _ e)
-      | inr e ↦ or-r (eqb (slotAt d i) vacant) (not-i (by-test (inFrame sz d (slotAt d i) f) (λ q. absurd (s .entries .once i f il fl e q)) (λ q. q)))
+      | inr e ↦ or-r (eqb (slotAt d i) vacant) (not-i (by-test (inFrame sz d (slotAt d i) f) (λ q. absurd (s .entries .once i f il fl e q))
+          (λ q. q)))
     ]
 
     listed-test : all (sz .B) (listedOnce sz d) ≡ true
@@ -214,7 +245,8 @@ module _ (sz : Sizes) (d : Directory) where
 
     slot-past-test : (i : ℕ) → i < 128 → slotPast sz d i ≡ true
     unfolding slotPast
-    slot-past-test i l = by-test (ltb i (sz .P)) (λ e. or-l _ e) (λ e. or-r (ltb i (sz .P)) (eq-eqb _ _ (s .past .slot-past i (ltb-false i (sz .P) e) l)))
+    slot-past-test i l = by-test (ltb i (sz .P)) (λ e. or-l _ e) (λ e. or-r (ltb i (sz .P))
+        (eq-eqb _ _ (s .past .slot-past i (ltb-false i (sz .P) e) l)))
 
     frame-past-test : (f : ℕ) → f < 8 → framePast sz d f ≡ true
     unfolding framePast
@@ -223,7 +255,10 @@ module _ (sz : Sizes) (d : Directory) where
 
     shape-test : shapeOk d ≡ true
     unfolding shapeOk
-    shape-test = let h = s .shape in every-of _ (eq-eqb _ _ (h .slots-length), (eq-eqb _ _ (h .frames-length), (eq-eqb _ _ (h .valid-length), (eq-eqb _ _ (h .recency-length), tt))))
+    shape-test = let h = s .shape in every-of _ (
+      eq-eqb _ _ (h .slots-length),
+      (eq-eqb _ _ (h .frames-length), (eq-eqb _ _ (h .valid-length), (eq-eqb _ _ (h .recency-length), tt))),
+    )
 
     pub facts-sound : sound sz d ≡ true
     unfolding sound
@@ -240,7 +275,8 @@ module _ (sz : Sizes) (d : Directory) where
               (
                 pairs-of (sz .B) (framesDiffer sz d) frames-test,
                 (
-                  all-of (sz .P) (λ i. all (sz .B) (cachedOnce sz d i)) (λ i il. all-of (sz .B) (cachedOnce sz d i) (λ f fl. once-test i f il fl)),
+                  all-of (sz .P) (λ i. all (sz .B) (cachedOnce sz d i)) (λ i il. all-of (sz .B) (cachedOnce sz d i)
+                      (λ f fl. once-test i f il fl)),
                   (
                     listed-test,
                     (all-of 128 (slotPast sz d) slot-past-test, (all-of 8 (framePast sz d) frame-past-test, tt)),

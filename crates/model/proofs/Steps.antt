@@ -17,12 +17,14 @@ use Rattle.prelude.proofs.Bits.{bits-some}
 use Rattle.model.specs.Sizes.{Sizes, vacant, InLimits}
 use Rattle.model.specs.Directory.{Directory, slotAt, frameAt, validAt}
 use Rattle.model.specs.Soundness.{Sound}
-use Rattle.model.specs.Policy.{inBlock, inSlots, frameOf, slotCount, Choice, mergeReads, Due, clean, due, occupied, lowestInSlots, dueOf, cached}
+use Rattle.model.specs.Policy.{inBlock, inSlots, frameOf, slotCount, Choice, mergeReads, Due, clean, due, occupied, lowestInSlots}
+use Rattle.model.specs.Policy.{dueOf, cached}
 use Rattle.model.specs.Moves.{worn, wornBy, joined, vacated, stepped}
 use Rattle.model.specs.Calls.{Tally, steps}
 use Rattle.model.specs.Lists.{Picks}
 use Rattle.model.proofs.Soundness.{pages-small}
-use Rattle.model.proofs.Lookup.{NoSlot, NoFrame, frame-has, page-div, page-vacant, block-vacant, found-slot, block-of, in-block, own-block, frame-is, page-of, some-pages}
+use Rattle.model.proofs.Lookup.{NoSlot, NoFrame, frame-has, page-div, page-vacant, block-vacant, found-slot, block-of, in-block}
+use Rattle.model.proofs.Lookup.{own-block, frame-is, page-of, some-pages}
 use Rattle.model.proofs.Reflects.{joined-slot, joined-frame′, vacated-frame, vacated-frame′, vacated-bits}
 use Rattle.model.proofs.Kept.{joined-sound, vacated-sound, joined-absent, vacated-absent}
 use Rattle.model.proofs.Plan.{some-bit, sole-own}
@@ -65,15 +67,24 @@ module _ (sz : Sizes) (d : Directory) (s : Sound sz d) where
   }
 
   -- by cases of what is due
-  pub due-elim : (pick : Choice) → Picks pick → (Q : Due → Type 0) → ((b f : ℕ) → Ready sz d b f → Q (due b f)) → (Empty sz d → Q clean) → Q (dueOf pick sz d)
+  pub due-elim : (pick : Choice) → Picks pick → (Q : Due → Type 0) → ((b f : ℕ) → Ready sz d b f → Q (due b f)) → (Empty sz d → Q clean)
+      → Q (dueOf pick sz d)
   unfolding dueOf occupied lowestInSlots
   due-elim pick picks Q q1 q2 = by-test (ltb (first (sz .B) (occupied d)) (sz .B))
       (λ e. rw (e, dueOf) (let l = ltb-true (first (sz .B) (occupied d)) (sz .B) e in
-      let p = picks sz d (occupied d) _ (s .listed) l (first-hit (sz .B) (occupied d) l) in q1 _ _ (ready-frame _ (p .0) (ltb-true _ vacant (p .1)))))
-      (λ e. let none : (f : ℕ) → f < sz .B → frameAt d f < vacant → ⊥ = (λ f fl h. let k = first-at (sz .B) (occupied d) f fl (lt-ltb _ vacant h) in let k2 = ltb-false (first (sz .B) (occupied d)) (sz .B) e in omega arith) in
+      let p = picks sz d (occupied d) _ (s .listed) l (first-hit (sz .B) (occupied d) l) in
+      q1 _ _ (ready-frame _ (p .0) (ltb-true _ vacant (p .1)))))
+      (λ e. let none : (f : ℕ) → f < sz .B → frameAt d f < vacant → ⊥ =
+      (λ f fl h. let k = first-at (sz .B) (occupied d) f fl (lt-ltb _ vacant h) in
+      let k2 = ltb-false (first (sz .B) (occupied d)) (sz .B) e in omega arith) in
       rw (e, dueOf) (by-test (ltb (lowestInSlots sz d) (sz .N))
-      (λ e′. let l = ltb-true (lowestInSlots sz d) (sz .N) e′ in rw e′ (q1 _ _ (ready-slot _ l (ltb-true 0 _ (first-hit (sz .N) (λ b. ltb 0 (slotCount sz d b)) l)) none)))
-      (λ e′. rw e′ (q2 (record { no-frames = none; no-slots = λ b bl h. let k = first-at (sz .N) (λ b. ltb 0 (slotCount sz d b)) b bl (lt-ltb 0 _ h) in let k2 = ltb-false (lowestInSlots sz d) (sz .N) e′ in omega arith })))))
+      (λ e′. let l = ltb-true (lowestInSlots sz d) (sz .N) e′ in rw e′
+      (q1 _ _ (ready-slot _ l (ltb-true 0 _ (first-hit (sz .N) (λ b. ltb 0 (slotCount sz d b)) l)) none)))
+      (λ e′. rw e′ (q2 (record {
+        no-frames = none;
+        no-slots = λ b bl h. let k = first-at (sz .N) (λ b. ltb 0 (slotCount sz d b)) b bl
+            (lt-ltb 0 _ h) in let k2 = ltb-false (lowestInSlots sz d) (sz .N) e′ in omega arith;
+      })))))
 
   -- what is due may be done
   pub due-ready : (pick : Choice) → Picks pick → (b f : ℕ) → dueOf pick sz d ≡ due b f → Ready sz d b f
@@ -90,7 +101,8 @@ module _ (sz : Sizes) (d : Directory) (b : ℕ) where
 
   pub cached-frame : (f : ℕ) → f < sz .B → frameAt d f ≡ b → cached sz d b ≡ true
   unfolding cached frameOf
-  cached-frame f l e = or-r (ltb 0 (slotCount sz d b)) (lt-ltb (frameOf sz d b) (sz .B) (let h = first-at (sz .B) (λ f. eqb (frameAt d f) b) f l (eq-eqb _ b e) in omega arith))
+  cached-frame f l e = or-r (ltb 0 (slotCount sz d b)) (lt-ltb (frameOf sz d b) (sz .B)
+      (let h = first-at (sz .B) (λ f. eqb (frameAt d f) b) f l (eq-eqb _ b e) in omega arith))
 
   pub cached-why : cached sz d b ≡ true → ((i : ℕ) × (i < sz .P) × (inBlock sz d b i ≡ true)) ⊎ ((f : ℕ) × (f < sz .B) × (frameAt d f ≡ b))
   unfolding cached
@@ -122,7 +134,8 @@ module _ (sz : Sizes) (d : Directory) (s : Sound sz d) (b f : ℕ) (y : Ready sz
 
   pub stepped-frame′ : (h : ℕ) → (h ≡ f → ⊥) → frameAt after h ≡ frameAt d h
   unfolding stepped
-  stepped-frame′ h ne = vacated-frame′ sz (s .limits) (joined sz d b f) (joined-ready .shape) f (y .f-lt) h ne ∙ joined-frame′ sz (s .limits) d (s .shape) b f (y .f-lt) h ne
+  stepped-frame′ h ne = vacated-frame′ sz (s .limits) (joined sz d b f) (joined-ready .shape) f (y .f-lt) h ne
+      ∙ joined-frame′ sz (s .limits) d (s .shape) b f (y .f-lt) h ne
 
   pub stepped-bits : validAt after f ≡ 0
   unfolding stepped
@@ -141,7 +154,8 @@ module _ (sz : Sizes) (d : Directory) (s : Sound sz d) (b f : ℕ) (y : Ready sz
 
   pub stepped-count : (c : ℕ) → (c ≡ b → ⊥) → slotCount sz after c ≡ slotCount sz d c
   unfolding slotCount
-  stepped-count c ne = count-same (sz .P) (inBlock sz after c) (inBlock sz d c) (λ i l. same-test (λ h. slot-back c i l h .0) (slot-on c i l ne))
+  stepped-count c ne = count-same (sz .P) (inBlock sz after c) (inBlock sz d c)
+      (λ i l. same-test (λ h. slot-back c i l h .0) (slot-on c i l ne))
 
   -- a page that is cached nowhere is cached nowhere after the step
   pub stepped-absent : (n : ℕ) → n < sz .N * sz .K → NoSlot sz d n → NoFrame sz d n → (NoSlot sz after n) × (NoFrame sz after n)
@@ -152,14 +166,17 @@ module _ (sz : Sizes) (d : Directory) (s : Sound sz d) (b f : ℕ) (y : Ready sz
   pub cached-now : cached sz d b ≡ true
   cached-now = let t = y .some in elim (or-cases (bit (validAt d f) (t .0)) (inSlots sz d (b * sz .K + t .0)) (t .2)) [
     | inl e ↦ cached-frame sz d b f (y .f-lt) (own-block sz d b f (y .own) (t .0) e)
-    | inr e ↦ let q = found-slot sz d _ e in cached-slot sz d b _ (q .0) (in-block sz d b _ (rw (q .1) (page-vacant sz (s .limits) b (t .0) (y .b-lt) (t .1))) (ap (λ (x : ℕ). x / sz .K) (q .1) ∙ page-div sz (s .limits) b (t .0) (t .1)))
+    | inr e ↦ let q = found-slot sz d _ e in cached-slot sz d b _ (q .0)
+        (in-block sz d b _ (rw (q .1) (page-vacant sz (s .limits) b (t .0) (y .b-lt) (t .1)))
+        (ap (λ (x : ℕ). x / sz .K) (q .1) ∙ page-div sz (s .limits) b (t .0) (t .1)))
   ]
 
   pub cached-back : (c : ℕ) → c < sz .N → cached sz after c ≡ true → (cached sz d c ≡ true) × (c ≡ b → ⊥)
   cached-back c l h = elim (cached-why sz after c h) [
     | inl k ↦ let w = slot-back c (k .0) (k .1) (k .2) in (cached-slot sz d c (k .0) (k .1) (w .0), λ e′. clash (rw e′ at (w .0)) (w .1))
     | inr k ↦ by-test (eqb (k .0) f)
-        (λ e. absurd (let q : c ≡ vacant = sym (k .2) ∙ rw (eqb-true _ f e) after-frame in let t = block-vacant sz (s .limits) c l in omega arith))
+        (λ e. absurd (let q : c ≡ vacant = sym (k .2) ∙ rw (eqb-true _ f e) after-frame in let t = block-vacant sz (s .limits) c l in
+        omega arith))
         (λ e. let e2 = eqb-false _ f e in let q : frameAt d (k .0) ≡ c = sym (stepped-frame′ (k .0) e2) ∙ k .2 in
         (cached-frame sz d c (k .0) (k .1) q, λ e′. y .sole (k .0) (k .1) e2 (q ∙ e′)))
   ]
@@ -181,7 +198,8 @@ module _ (sz : Sizes) (d : Directory) (s : Sound sz d) (b f : ℕ) (y : Ready sz
   -- no page of block b is cached any more
   pub stepped-gone : (n : ℕ) → n < sz .N * sz .K → n / sz .K ≡ b → (NoSlot sz after n) × (NoFrame sz after n)
   stepped-gone n l e = (
-    (λ i il q. gone (cached-slot sz after b i il (in-block sz after b i (let h = pages-small sz (s .limits) in omega arith) (ap (λ (x : ℕ). x / sz .K) q ∙ e)))),
+    (λ i il q. gone (cached-slot sz after b i il (in-block sz after b i (let h = pages-small sz (s .limits) in omega arith)
+        (ap (λ (x : ℕ). x / sz .K) q ∙ e)))),
     (λ h hl q. gone (cached-frame sz after b h hl (frame-has sz after n h q .0 ∙ e))),
   )
     where
@@ -189,7 +207,8 @@ module _ (sz : Sizes) (d : Directory) (s : Sound sz d) (b f : ℕ) (y : Ready sz
       gone h = cached-back b (y .b-lt) h .1 refl
 
   pub cached-less : count (sz .N) (cached sz d) ≡ suc (count (sz .N) (cached sz after))
-  cached-less = count-remove (sz .N) (cached sz d) b (y .b-lt) cached-now ∙ ap suc (count-same (sz .N) (λ i. cached sz d i && not (eqb i b)) (cached sz after)
+  cached-less = count-remove (sz .N) (cached sz d) b (y .b-lt) cached-now
+      ∙ ap suc (count-same (sz .N) (λ i. cached sz d i && not (eqb i b)) (cached sz after)
       (λ c l. same-test (λ h. cached-on c l (and-l (cached sz d c) _ h) (eqb-false c b (not-t (and-r (cached sz d c) _ h))))
       (λ h. let k = cached-back c l h in and-i (k .0) (not-i (ne-eqb c b (k .1))))))
 
@@ -248,7 +267,8 @@ abbrev pub Below : Sizes → Directory → List ℕ → Type 0
 Below sz d w = (b : ℕ) → b < sz .N → cached sz d b ≡ true → getD w b 0 < sz .W
 
 -- a step wears a block that is not cached any more
-pub stepped-below : (sz : Sizes) (d : Directory) → Sound sz d → (b f : ℕ) → Ready sz d b f → (w : List ℕ) → Below sz d w → Below sz (stepped sz d (due b f)) (wornBy w b)
+pub stepped-below : (sz : Sizes) (d : Directory) → Sound sz d → (b f : ℕ) → Ready sz d b f → (w : List ℕ) → Below sz d w
+    → Below sz (stepped sz d (due b f)) (wornBy w b)
 stepped-below sz d s b f y w lo c l h = let q = cached-back sz d s b f y c l h in
     rw (wornBy-is sz (s .limits) w b (y .b-lt), worn-other w b c (q .1)) (lo c l (q .0))
 
@@ -260,7 +280,8 @@ module _ (pick : Choice) (picks : Picks pick) (sz : Sizes) where
     pub rewrites-are : t′ .rewrites ≡ count (sz .N) (cached sz (t .state .directory)) + t .rewrites
     pub wear-length : length (t′ .state .wear) ≡ sz .N
 
-  pub steps-clean : (c : ℕ) (t : Tally) → Sound sz (t .state .directory) → length (t .state .wear) ≡ sz .N → count (sz .N) (cached sz (t .state .directory)) ≤ c → Cleaned t (steps pick sz c t)
+  pub steps-clean : (c : ℕ) (t : Tally) → Sound sz (t .state .directory) → length (t .state .wear) ≡ sz .N
+      → count (sz .N) (cached sz (t .state .directory)) ≤ c → Cleaned t (steps pick sz c t)
   unfolding steps
   steps-clean zero t s wl h = let e = none-empty sz (t .state .directory) s h in record {
     numbers = s;
@@ -272,14 +293,30 @@ module _ (pick : Choice) (picks : Picks pick) (sz : Sizes) where
       (λ q. dueOf pick sz (t .state .directory) ≡ q → Cleaned t (steps pick sz (suc c) t))
       (λ b f y e. rw (e, steps) (
       let d = t .state .directory in
-      let t1 : Tally = record { state = record { directory = stepped sz d (due b f); wear = wornBy (t .state .wear) b }; rewrites = suc (t .rewrites); merges = mergeReads sz (joined sz d b f) f + t .merges } in
+      let t1 : Tally = record {
+        state = record { directory = stepped sz d (due b f); wear = wornBy (t .state .wear) b };
+        rewrites = suc (t .rewrites);
+        merges = mergeReads sz (joined sz d b f) f + t .merges;
+      } in
       let l = cached-less sz d s b f y in
       let ih = steps-clean c t1 (stepped-sound sz d s b f y) (wornBy-length (t .state .wear) b ∙ wl) (omega arith) in
-      record { numbers = ih .numbers; void = ih .void; rewrites-are = (let k = ih .rewrites-are in omega arith); wear-length = ih .wear-length }))
-      (λ q e. rw (e, steps) (record { numbers = s; void = q; rewrites-are = (let k = empty-count sz (t .state .directory) s q in omega arith); wear-length = wl }))
+      record {
+        numbers = ih .numbers;
+        void = ih .void;
+        rewrites-are = (let k = ih .rewrites-are in omega arith);
+        wear-length = ih .wear-length;
+      }))
+      (λ q e. rw (e, steps)
+      (record {
+        numbers = s;
+        void = q;
+        rewrites-are = (let k = empty-count sz (t .state .directory) s q in omega arith);
+        wear-length = wl;
+      }))
       refl
 
-  pub steps-within : (c : ℕ) (t : Tally) → Sound sz (t .state .directory) → length (t .state .wear) ≡ sz .N → Below sz (t .state .directory) (t .state .wear) → Within sz (t .state .wear)
+  pub steps-within : (c : ℕ) (t : Tally) → Sound sz (t .state .directory) → length (t .state .wear) ≡ sz .N
+      → Below sz (t .state .directory) (t .state .wear) → Within sz (t .state .wear)
       → Within sz (steps pick sz c t .state .wear)
   unfolding steps
   steps-within zero t s wl lo hi = hi
@@ -289,7 +326,11 @@ module _ (pick : Choice) (picks : Picks pick) (sz : Sizes) where
       let d = t .state .directory in let w = t .state .wear in let bl = y .b-lt in
       let is = wornBy-is sz (s .limits) w b bl in
       let now = lo b bl (cached-now sz d s b f y) in
-      let t1 : Tally = record { state = record { directory = stepped sz d (due b f); wear = wornBy w b }; rewrites = suc (t .rewrites); merges = mergeReads sz (joined sz d b f) f + t .merges } in
+      let t1 : Tally = record {
+        state = record { directory = stepped sz d (due b f); wear = wornBy w b };
+        rewrites = suc (t .rewrites);
+        merges = mergeReads sz (joined sz d b f) f + t .merges;
+      } in
       steps-within c t1 (stepped-sound sz d s b f y) (wornBy-length w b ∙ wl)
       (stepped-below sz d s b f y w lo)
       (rw is (worn-within sz w b (omega arith) now hi))))

@@ -135,7 +135,8 @@ module _ (pick : Choice) (sz : Sizes) where
   unfoldable pub decide : State → Call ℕ → Outcome
   decide k (read n long) = checked sz k n long (readOutcome sz k n)
   decide k (write n long) = checked sz k n long (writeOutcome sz k n (plan pick sz (k .directory) (k .wear) n))
-  decide k (part n first many long) = checked sz k n long (partOutcome sz k first many (writeOutcome sz k n (plan pick sz (k .directory) (k .wear) n)))
+  decide k (part n first many long) = checked sz k n long (partOutcome sz k first many
+      (writeOutcome sz k n (plan pick sz (k .directory) (k .wear) n)))
   decide k step = stepOutcome sz k (dueOf pick sz (k .directory))
   decide k flush = flushOutcome k
 
@@ -168,7 +169,8 @@ module _ (pick : Choice) (sz : Sizes) (filler : Page) where
   callPages k m (write n x) = writtenPages filler sz (k .directory) m n x (plan pick sz (k .directory) (k .wear) n)
   callPages k m (part n first x page) = elim (noBytes x) [
     | true ↦ m
-    | false ↦ writtenPages filler sz (k .directory) m n (combined filler sz (k .directory) m n first x) (plan pick sz (k .directory) (k .wear) n)
+    | false ↦ writtenPages filler sz (k .directory) m n (combined filler sz (k .directory) m n first x)
+        (plan pick sz (k .directory) (k .wear) n)
   ]
   callPages k m step = steppedPages filler sz (k .directory) m (dueOf pick sz (k .directory))
   callPages k m flush = stepsPages pick sz filler (sz .N) (k .directory) m

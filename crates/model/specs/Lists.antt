@@ -12,7 +12,8 @@ use Rattle.model.specs.Sizes.{Sizes}
 use Rattle.model.specs.Directory.{Directory, slotAt, inFrame, vacantDirectory}
 use Rattle.model.specs.Soundness.{Listed}
 use Rattle.model.specs.Policy.{Choice}
-use Rattle.model.specs.Calls.{isRefused, Call, read, write, part, step, flush, State, Outcome, decide, Page, noBytes, Buffers, Store, Result, flashPages, told, openStore, openDone, call}
+use Rattle.model.specs.Calls.{isRefused, Call, read, write, part, step, flush, State, Outcome, decide, Page, noBytes, Buffers, Store}
+use Rattle.model.specs.Calls.{Result, flashPages, told, openStore, openDone, call}
 
 -- ---- the list
 

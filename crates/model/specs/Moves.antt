@@ -8,7 +8,8 @@ use Rattle.prelude.specs.Scan.{first, count, nth, tab}
 use Rattle.prelude.specs.Bits.{bit, mask}
 use Rattle.model.specs.Sizes.{Sizes, vacant}
 use Rattle.model.specs.Directory.{Directory, slotAt, frameAt, validAt, recencyAt}
-use Rattle.model.specs.Policy.{inBlock, slotOf, inSlots, frameWith, readWay, Plan, slotHit, frameHit, freeSlot, join, fill, exchange, evict, mergeReads, Due, clean, due}
+use Rattle.model.specs.Policy.{inBlock, slotOf, inSlots, frameWith, readWay, Plan, slotHit, frameHit, freeSlot, join, fill, exchange}
+use Rattle.model.specs.Policy.{evict, mergeReads, Due, clean, due}
 
 -- flash of N×K pages, p-space of P, b-space of B×K
 pub record Memory (A : Type 0) : Type 0 where
@@ -114,7 +115,8 @@ module _ {A : Type 0} (filler : A) where
   exchangedPages sz d m b f = record {
     flash = m .flash;
     pspace = tab (sz .P) (λ i.
-        cond (inBlock sz d b i && ltb (taken sz d b f i) (sz .K)) (getD (m .bspace) (f * sz .K + taken sz d b f i) filler) (getD (m .pspace) i filler));
+        cond (inBlock sz d b i && ltb (taken sz d b f i) (sz .K)) (getD (m .bspace) (f * sz .K + taken sz d b f i) filler)
+        (getD (m .pspace) i filler));
     bspace = filled filler sz d m b f;
   }
 

@@ -67,7 +67,7 @@ pub fn opened(
 // (write n b): page n is filled with byte b.
 pub fn written(
     c: Cache,
-    n: u32,
+    n: PageNo,
     b: u8,
     flash: &mut [u8],
     wear: &mut [u32],
@@ -80,10 +80,10 @@ pub fn written(
     ensures { λ r. ⌜ (
         let u = buffers (now (flash .entry)) (now (wear .entry)) (now (pspace .entry)) (now (bspace .entry)) in
         let u′ = buffers (now (flash .exit)) (now (wear .exit)) (now (pspace .exit)) (now (bspace .exit)) in
-        Carries (written (storeOf c u) n b) r u′ (now (out .exit))) ⌝ }
+        Carries (written (storeOf c u) (n .0) b) r u′ (now (out .exit))) ⌝ }
 {
     memory::fill(page, b);
-    let r = c.write(flash, wear, pspace, bspace, PageNo(n), page);
+    let r = c.write(flash, wear, pspace, bspace, n, page);
     let next = r.cache;
     let answer = r.answer;
     let printed = say::write(out, n, answer);
@@ -96,7 +96,7 @@ pub fn written(
 // (read n)
 pub fn was_read(
     c: Cache,
-    n: u32,
+    n: PageNo,
     flash: &[u8],
     wear: &[u32],
     pspace: &[u8],
@@ -107,10 +107,10 @@ pub fn was_read(
     requires { ⌜ (length (now page) ≡ sizesOf (c .sizes) .S) × (lineRoom ≤ length (now out)) ⌝ }
     ensures { λ r. ⌜ (
         let u = buffers (now (flash .entry)) (now (wear .entry)) (now (pspace .entry)) (now (bspace .entry)) in
-        Carries (wasRead (storeOf c u) n) r u (now (out .exit))) ⌝ }
+        Carries (wasRead (storeOf c u) (n .0)) r u (now (out .exit))) ⌝ }
 {
     memory::fill(page, 0);
-    let r = c.read(flash, wear, pspace, bspace, PageNo(n), page);
+    let r = c.read(flash, wear, pspace, bspace, n, page);
     let next = r.cache;
     let answer = r.answer;
     let byte = memory::first(page);

@@ -1,4 +1,6 @@
 // What is printed, one bracketed form a line, into a lent buffer from `at` on. Each function gives the place after it.
+use address::BlockNo;
+use address::PageNo;
 use cache::VACANT;
 ghost use mathlib.Core.Path.{_≡_};
 ghost use mathlib.Core.List.{[], _∷_, _++_, map};
@@ -27,12 +29,12 @@ pub fn put_open(out: &mut [u8], at: usize) -> usize
     put_bytes(out, at, b"(open (done))\n")
 }
 
-// (write n (way w) (erased b) (merged m)), with none for a block b that is VACANT.
-pub fn put_write(out: &mut [u8], at: usize, n: u32, way: u32, erased: u32, merged: u32) -> usize
+// (write n (way w) (erased b) (merged m)). What is erased is an entry: a block number, or VACANT for none.
+pub fn put_write(out: &mut [u8], at: usize, n: PageNo, way: u32, erased: u32, merged: u32) -> usize
     requires { ⌜ at + lineRoom ≤ length (now out) ⌝ }
-    ensures { λ r. ⌜ Printed lineRoom (writeLine n (writeDone way erased merged)) (now (out .entry)) at (now (out .exit)) r ⌝ }
+    ensures { λ r. ⌜ Printed lineRoom (writeLine (n .0) (writeDone way erased merged)) (now (out .entry)) at (now (out .exit)) r ⌝ }
 {
-    let after_call = put_number(out, at, b"(write ", n);
+    let after_call = put_number(out, at, b"(write ", n.0);
     let after_way = put_field(out, after_call, b" (way ", way);
     let after_erased = put_erased(out, after_way, erased);
     let after_merged = put_field(out, after_erased, b" (merged ", merged);
@@ -40,22 +42,22 @@ pub fn put_write(out: &mut [u8], at: usize, n: u32, way: u32, erased: u32, merge
 }
 
 // (read n (way w) (byte b))
-pub fn put_read(out: &mut [u8], at: usize, n: u32, way: u32, byte: u8) -> usize
+pub fn put_read(out: &mut [u8], at: usize, n: PageNo, way: u32, byte: u8) -> usize
     requires { ⌜ at + lineRoom ≤ length (now out) ⌝ }
-    ensures { λ r. ⌜ Printed lineRoom (readLine n (readDone way) byte) (now (out .entry)) at (now (out .exit)) r ⌝ }
+    ensures { λ r. ⌜ Printed lineRoom (readLine (n .0) (readDone way) byte) (now (out .entry)) at (now (out .exit)) r ⌝ }
 {
-    let after_call = put_number(out, at, b"(read ", n);
+    let after_call = put_number(out, at, b"(read ", n.0);
     let after_way = put_field(out, after_call, b" (way ", way);
     let after_byte = put_field(out, after_way, b" (byte ", byte as u32);
     put_bytes(out, after_byte, b")\n")
 }
 
 // (step (block b) (merged m))
-pub fn put_step(out: &mut [u8], at: usize, block: u32, merged: u32) -> usize
+pub fn put_step(out: &mut [u8], at: usize, block: BlockNo, merged: u32) -> usize
     requires { ⌜ at + lineRoom ≤ length (now out) ⌝ }
-    ensures { λ r. ⌜ Printed lineRoom (stepLine (stepDone block merged)) (now (out .entry)) at (now (out .exit)) r ⌝ }
+    ensures { λ r. ⌜ Printed lineRoom (stepLine (stepDone (block .0) merged)) (now (out .entry)) at (now (out .exit)) r ⌝ }
 {
-    let after_block = put_field(out, at, b"(step (block ", block);
+    let after_block = put_field(out, at, b"(step (block ", block.0);
     let after_merged = put_field(out, after_block, b" (merged ", merged);
     put_bytes(out, after_merged, b")\n")
 }
@@ -88,20 +90,20 @@ pub fn put_open_refused(out: &mut [u8], at: usize, number: u32) -> usize
 }
 
 // (write n (refused r))
-pub fn put_write_refused(out: &mut [u8], at: usize, n: u32, number: u32) -> usize
+pub fn put_write_refused(out: &mut [u8], at: usize, n: PageNo, number: u32) -> usize
     requires { ⌜ at + lineRoom ≤ length (now out) ⌝ }
-    ensures { λ r. ⌜ Printed lineRoom (writeLine n (refused number vacant)) (now (out .entry)) at (now (out .exit)) r ⌝ }
+    ensures { λ r. ⌜ Printed lineRoom (writeLine (n .0) (refused number vacant)) (now (out .entry)) at (now (out .exit)) r ⌝ }
 {
-    let next = put_number(out, at, b"(write ", n);
+    let next = put_number(out, at, b"(write ", n.0);
     put_refused(out, next, number)
 }
 
 // (read n (refused r))
-pub fn put_read_refused(out: &mut [u8], at: usize, n: u32, number: u32) -> usize
+pub fn put_read_refused(out: &mut [u8], at: usize, n: PageNo, number: u32) -> usize
     requires { ⌜ at + lineRoom ≤ length (now out) ⌝ }
-    ensures { λ r. ⌜ Printed lineRoom (readLine n (refused number vacant) 0) (now (out .entry)) at (now (out .exit)) r ⌝ }
+    ensures { λ r. ⌜ Printed lineRoom (readLine (n .0) (refused number vacant) 0) (now (out .entry)) at (now (out .exit)) r ⌝ }
 {
-    let next = put_number(out, at, b"(read ", n);
+    let next = put_number(out, at, b"(read ", n.0);
     put_refused(out, next, number)
 }
 
@@ -174,7 +176,7 @@ fn put_field(out: &mut [u8], at: usize, lead: &[u8], n: u32) -> usize
     next + 1
 }
 
-// The block erased, after a space.
+// The block erased, after a space, or none where the entry is VACANT.
 fn put_erased(out: &mut [u8], at: usize, block: u32) -> usize
     requires { ⌜ at + 20 ≤ length (now out) ⌝ }
     ensures { λ r. ⌜ Printed 20 (32 ∷ erased block) (now (out .entry)) at (now (out .exit)) r ⌝ }

@@ -1,8 +1,7 @@
 // Records for the programs that run: sizes, filled directories, and directories with one entry replaced.
-use address::BlockNo;
-use address::PageNo;
 use cache::Directory;
 use cache::Sizes;
+use cache::entry;
 
 // The sizes S, K, N, P, B, W.
 pub fn sizes(s: u32, k: u32, n: u32, p: u32, b: u32, w: u32) -> Sizes {
@@ -88,20 +87,20 @@ pub fn with(d: Directory, i: usize, x: Entry) -> Directory {
     }
 }
 
-// The directory with number n in slot i.
-fn with_slot(d: Directory, i: usize, n: u32) -> Directory {
+// The directory with entry x in slot i.
+fn with_slot(d: Directory, i: usize, x: u32) -> Directory {
     let mut r = d;
     if i < 128 {
-        r.slots[i] = PageNo(n);
+        r.slots[i] = entry::page(x);
     }
     r
 }
 
-// The directory with block number b in frame f.
-fn with_frame(d: Directory, f: usize, b: u32) -> Directory {
+// The directory with entry x in frame f.
+fn with_frame(d: Directory, f: usize, x: u32) -> Directory {
     let mut r = d;
     if f < 8 {
-        r.frames[f] = BlockNo(b);
+        r.frames[f] = entry::block(x);
     }
     r
 }

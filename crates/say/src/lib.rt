@@ -1,4 +1,5 @@
 // The line of a call's answer, printed from the buffer's first byte on. Each function gives the bytes printed.
+use address::PageNo;
 use answer::Flush;
 use answer::Opening;
 use answer::Read;
@@ -25,9 +26,9 @@ pub fn opening(out: &mut [u8], answer: Opening) -> usize
 }
 
 // A write's, of page n.
-pub fn write(out: &mut [u8], n: u32, answer: Write) -> usize
+pub fn write(out: &mut [u8], n: PageNo, answer: Write) -> usize
     requires { ⌜ lineRoom ≤ length (now out) ⌝ }
-    ensures { λ r. ⌜ Printed lineRoom (writeLine n (writeOf answer)) (now (out .entry)) 0 (now (out .exit)) r ⌝ }
+    ensures { λ r. ⌜ Printed lineRoom (writeLine (n .0) (writeOf answer)) (now (out .entry)) 0 (now (out .exit)) r ⌝ }
 {
     match answer {
         Write::Done { way } => print::put_write(out, 0, n, way, VACANT, 0),
@@ -37,9 +38,9 @@ pub fn write(out: &mut [u8], n: u32, answer: Write) -> usize
 }
 
 // A read's, of page n, with the page's first byte.
-pub fn read(out: &mut [u8], n: u32, answer: Read, byte: u8) -> usize
+pub fn read(out: &mut [u8], n: PageNo, answer: Read, byte: u8) -> usize
     requires { ⌜ lineRoom ≤ length (now out) ⌝ }
-    ensures { λ r. ⌜ Printed lineRoom (readLine n (readOf answer) byte) (now (out .entry)) 0 (now (out .exit)) r ⌝ }
+    ensures { λ r. ⌜ Printed lineRoom (readLine (n .0) (readOf answer) byte) (now (out .entry)) 0 (now (out .exit)) r ⌝ }
 {
     match answer {
         Read::Done { way } => print::put_read(out, 0, n, way, byte),
@@ -53,7 +54,7 @@ pub fn step(out: &mut [u8], answer: Step) -> usize
     ensures { λ r. ⌜ Printed lineRoom (stepLine (stepOf answer)) (now (out .entry)) 0 (now (out .exit)) r ⌝ }
 {
     match answer {
-        Step::Done { block, merged } => print::put_step(out, 0, block.0, merged),
+        Step::Done { block, merged } => print::put_step(out, 0, block, merged),
         Step::Clean => print::put_clean(out, 0),
         Step::Refused(why) => print::put_step_refused(out, 0, number(why)),
     }

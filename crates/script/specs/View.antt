@@ -6,8 +6,8 @@ use Rattle.script.specs.declared.Form.the-variants.{Open, Write, Read, S
 
 abbrev pub meant : Form → form.Form
 meant (Open sizes) = form.opens (sizesOf sizes)
-meant (Write n b) = form.writes n b
-meant (Read n) = form.reads n
+meant (Write n b) = form.writes (n .0) b
+meant (Read n) = form.reads (n .0)
 meant Step = form.steps
 meant Flush = form.flushes
 meant Wear = form.wears

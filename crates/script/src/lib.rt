@@ -1,6 +1,7 @@
 // The script program: what a line means, and a script walked line by line.
 pub mod reader;
 
+use address::PageNo;
 use cache::Sizes;
 ghost use mathlib.Core.Path.{_≡_};
 ghost use Prim.Native.Nat.{_≤_};
@@ -17,8 +18,8 @@ const NONE: u64 = 4294967296;
 // What a line of a script says.
 pub enum Form {
     Open(Sizes),
-    Write(u32, u8),
-    Read(u32),
+    Write(PageNo, u8),
+    Read(PageNo),
     Step,
     Flush,
     Wear,
@@ -69,12 +70,12 @@ fn form_with(w: &[u8], a: Numbers) -> Form
         return opening(sizes_of(n));
     }
     if is_word(w, b"write") & ((a.count == 2) & (n[1] <= 255)) {
-        let page = n[0];
+        let page = PageNo(n[0]);
         let byte = n[1] as u8;
         return Form::Write(page, byte);
     }
     if is_word(w, b"read") & (a.count == 1) {
-        let page = n[0];
+        let page = PageNo(n[0]);
         return Form::Read(page);
     }
     if is_word(w, b"step") & (a.count == 0) {

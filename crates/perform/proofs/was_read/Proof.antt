@@ -48,7 +48,7 @@ returns c =
     let after-read : tie.After-read = search back in
     let after-fill : tie.After-fill = search back in
     let start : tie.Start = search back in
-    read-carries _ _ _ _ _ (start .args .n) _ _ _ (after-fill .fill .ensures ∙ ap (λ (m : ℕ). replicate {A = ℕ} m 0) (start .pre .0))
+    read-carries _ _ _ _ _ (start .args .n .0) _ _ _ (after-fill .fill .ensures ∙ ap (λ (m : ℕ). replicate {A = ℕ} m 0) (start .pre .0))
     (after-read .read .result) (after-read .read .ensures) (after-first .first .ensures) (after-read2 .read2 .ensures)
 
 pub was-read-spec : {M : Type 1} → statement M

@@ -41,7 +41,7 @@ returns c =
     let after-write : tie.After-write = search in
     let after-fill : tie.After-fill = search in
     let start : tie.Start = search in
-    write-carries _ _ _ _ _ (start .args .n) (start .args .b) _ (after-fill .fill .ensures
+    write-carries _ _ _ _ _ (start .args .n .0) (start .args .b) _ (after-fill .fill .ensures
     ∙ ap (λ (m : ℕ). replicate m (start .args .b)) (start .pre .0)) (after-write .write .result) (after-write .write .ensures)
     (after-write2 .write2 .ensures)
 

@@ -44,7 +44,7 @@ returns c =
     let after-put-number : tie.After-put-number = search in
     let s : tie.Start = search in
     let h : s .args .at ≤ length (s .args .out .now) = omega (arith, s .pre) in
-    printed-as (omega arith) (read-line (s .args .n) (s .args .way) (s .args .byte))
+    printed-as (omega arith) (read-line (s .args .n .0) (s .args .way) (s .args .byte))
     (printed-then h (printed-then h (printed-then h (after-put-number .put-number .ensures) (after-put-field .put-field .ensures))
     (after-put-field2 .put-field2 .ensures)) (after-put-bytes .put-bytes .ensures))
 

@@ -27,7 +27,7 @@ returns c =
     let after-put-number : tie.After-put-number = search in
     let s : tie.Start = search in
     let h : s .args .at ≤ length (s .args .out .now) = omega (arith, s .pre) in
-    printed-as (omega arith) (refused-number "read" (s .args .n) (s .args .number))
+    printed-as (omega arith) (refused-number "read" (s .args .n .0) (s .args .number))
     (printed-then h (after-put-number .put-number .ensures) (after-put-refused .put-refused .ensures))
 
 pub put-read-refused-spec : {M : Type 1} → statement M

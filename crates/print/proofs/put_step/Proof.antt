@@ -37,7 +37,7 @@ returns c =
     let after-put-field : tie.After-put-field = search in
     let s : tie.Start = search in
     let h : s .args .at ≤ length (s .args .out .now) = omega (arith, s .pre) in
-    printed-as (omega arith) (step-line (s .args .block) (s .args .merged))
+    printed-as (omega arith) (step-line (s .args .block .0) (s .args .merged))
     (printed-then h (printed-then h (after-put-field .put-field .ensures) (after-put-field2 .put-field2 .ensures))
     (after-put-bytes .put-bytes .ensures))
 

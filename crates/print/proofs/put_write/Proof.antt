@@ -48,7 +48,7 @@ returns c =
     let after-put-number : tie.After-put-number = search in
     let s : tie.Start = search in
     let h : s .args .at ≤ length (s .args .out .now) = omega (arith, s .pre) in
-    printed-as (omega arith) (write-line (s .args .n) (s .args .way) (s .args .erased) (s .args .merged))
+    printed-as (omega arith) (write-line (s .args .n .0) (s .args .way) (s .args .erased) (s .args .merged))
     (printed-then h
     (printed-then h (printed-then h (printed-then h (after-put-number .put-number .ensures) (after-put-field .put-field .ensures))
     (after-put-erased .put-erased .ensures)) (after-put-field2 .put-field2 .ensures)) (after-put-bytes .put-bytes .ensures))

@@ -44,7 +44,7 @@ returns-2 c =
     let after-answer2 : tie.After-answer2 = search in
     let start : tie.Start = search in
     rw (after-answer2 .answer2 .given .1) (printed-as (omega arith)
-    (ap (λ (l : List (List ℕ)). line "read" (decimal (start .args .n) ∷ l))
+    (ap (λ (l : List (List ℕ)). line "read" (decimal (start .args .n .0) ∷ l))
     (said-refused (after-answer2 .answer2 .given .0 .0) _ 0 (start .args .byte) (after-number .number .ensures)))
     (after-put-read-refused .put-read-refused .ensures))
 

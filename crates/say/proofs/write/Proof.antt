@@ -59,7 +59,7 @@ returns-3 c =
     let after-answer3 : tie.After-answer3 = search in
     let start : tie.Start = search in
     rw (after-answer3 .answer3 .given .1) (printed-as (omega arith)
-    (ap (λ (l : List (List ℕ)). line "write" (decimal (start .args .n) ∷ l))
+    (ap (λ (l : List (List ℕ)). line "write" (decimal (start .args .n .0) ∷ l))
     (said-refused (after-answer3 .answer3 .given .0 .0) _ 0 0 (after-number .number .ensures)))
     (after-put-write-refused .put-write-refused .ensures))
 

@@ -160,9 +160,6 @@ is-word-requires-2 c κs = search needs
 array-read-if2 : tie.Need-array-read-if2
 array-read-if2 c = search needs
 
-array-read-page : tie.Need-array-read-page
-array-read-page c = search needs
-
 array-read-byte : tie.Need-array-read-byte
 array-read-byte c = search needs
 
@@ -193,9 +190,6 @@ slice-aggregate-is-word-3 c = search needs
 
 is-word-requires-3 : tie.Need-is-word-requires-3
 is-word-requires-3 c κs = search needs
-
-array-read-page-2 : tie.Need-array-read-page-2
-array-read-page-2 c = search needs
 
 returns-3 : tie.Need-returns-3
 returns-3 c =
@@ -282,6 +276,12 @@ returns-7 c =
     let v = s .args .a .values in
     sym (form-from w n v (room s) ∙ from-bad w n v (no1 else1) (no2 else2) (no3 else3) (no4 else4) (no5 else5) (no6 c))
 
+array-read-byte-2 : tie.Need-array-read-byte-2
+array-read-byte-2 c = search needs
+
+array-read-t36 : tie.Need-array-read-t36
+array-read-t36 c = search needs
+
 pub form-with-spec : {M : Type 1} → statement M
 form-with-spec =
     tie.close
@@ -294,13 +294,13 @@ form-with-spec =
     slice-aggregate-is-word-2
     is-word-requires-2
     array-read-if2
-    array-read-page
     array-read-byte
+    array-read-byte-2
     cast-byte
     returns-2
     slice-aggregate-is-word-3
     is-word-requires-3
-    array-read-page-2
+    array-read-t36
     returns-3
     slice-aggregate-is-word-4
     is-word-requires-4

@@ -1,2 +1,3 @@
 pub mod Numbered
 pub mod Demand3
+pub mod ScriptA

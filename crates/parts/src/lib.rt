@@ -15,7 +15,7 @@ ghost use Rattle.answer.specs.Carried.{buffers};
 ghost use Rattle.reads.specs.Reads.{Readable, pages};
 ghost use Rattle.parts.specs.Parts.{PartReady, PartWrote};
 
-// Lends the write a page of its own for the combined page, since a refused one leaves the page buffer alone.
+// Writes page n with the bytes laid in. The combined page is made in a page of its own, since a refused write leaves the page buffer alone.
 pub fn write(
     z: Sizes,
     slots: &mut [u32; 128],

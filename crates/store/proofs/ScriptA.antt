@@ -35,11 +35,11 @@ use Rattle.store.specs.Histories.{Made, callOf, leastRecentOf, AsContrac
 use Rattle.store.proofs.Demand3.{demand-3}
 
 -- S 1, K 2, N 3, P 2, B 1, W 9
-abbrev sizes : Sizes
+abbrev pub sizes : Sizes
 sizes = record { «page_size» = 1; «pages_per_block» = 2; blocks = 3; slots = 2; frames = 1; «wear_limit» = 9 }
 
 -- the chip as the script program delivers it, and cleared spaces
-abbrev lent : Buffers
+abbrev pub lent : Buffers
 lent = buffers (replicate 6 255) (replicate 3 0) (replicate 2 0) (replicate 2 0)
 
 -- a record with pages m and n in its two slots, and block b with the valid pages v in its frame
@@ -54,7 +54,7 @@ holding m n b v = record {
   };
 }
 
-abbrev opening : Opened
+abbrev pub opening : Opened
 opening = record { cache = holding vacant vacant vacant 0; answer = openings.Done }
 
 abbrev byte : ℕ → Page
@@ -89,15 +89,15 @@ abbrev flushed : Made
 flushed = made.flush (record { cache = holding vacant vacant vacant 0; answer = flushes.Done 2 1 })
     (10 ∷ 255 ∷ 20 ∷ 40 ∷ 30 ∷ 255 ∷ []) (1 ∷ 1 ∷ 1 ∷ []) (30 ∷ 255 ∷ [])
 
-abbrev calls : List Made
+abbrev pub calls : List Made
 calls = written-0 ∷ written-2 ∷ written-4 ∷ written-3 ∷ read-2 ∷ read-1 ∷ flushed ∷ []
 
-accepted : OpeningContract sizes lent opening
+pub accepted : OpeningContract sizes lent opening
 unfolding openStore lentOk sizesOk vacantDirectory blankCache every all tab tabFrom directoryOf
 accepted = refl
 
 -- each call was made on what the one before it left, and did what its contract says
-as-contracted : AsContracted (opening .cache) lent calls
+pub as-contracted : AsContracted (opening .cache) lent calls
 unfolding directoryOf call carriedOut memoryOf buffersOf zeroPage lentOk callPages stepsPages decide flushOutcome steps stepOutcome
     writeOutcome readOutcome checked steppedPages writtenPages readPage stepped written readDirectory rewrittenPages merged vacated
     exchangedPages exchanged givenSlot taken spare unmet joinedPages filled joined putFramePage putSlotPage entered putSlot touched

@@ -1,5 +1,5 @@
 -- Demand 3 for C on document 01's script A: the store's calls with their answers in numbers are calls for C, and as contracted.
-use mathlib.Core.Path.{_≡_, refl, ap}
+use mathlib.Core.Path.{refl, ap}
 use mathlib.Core.List.{List, [], _∷_}
 use Rattle.model.specs.Calls.{Answer, Buffers, openDone}
 use Rattle.model.specs.Lists.{opened}
@@ -11,7 +11,7 @@ use Rattle.store.specs.Histories as store
 use Rattle.store.proofs.ScriptA.{sizes, lent, opening, calls, accepted, as-contracted}
 use Rattle.clash_c.specs.declared.Reply.{Reply}
 use Rattle.clash_c.specs.Replies.{openedInNumbers, inNumbers}
-use Rattle.clash_c.specs.Histories.{Made, read, write, part, step, flush, Contract, AsContracted, Claim}
+use Rattle.clash_c.specs.Histories.{Made, read, write, part, step, flush, AsContracted, Claim}
 use Rattle.clash_c.proofs.Demand3.{demand-3}
 
 abbrev reply : Cache → Answer → Reply

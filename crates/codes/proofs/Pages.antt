@@ -1,5 +1,6 @@
 -- A page of chunks, at most one bit of each of which has flipped, is read as it was.
 use mathlib.Core.Path.{_≡_, refl, ap, _∙_}
+use mathlib.Core.Logic.{inl, inr}
 use mathlib.Core.Bool.{Bool, true, false}
 use mathlib.Core.List.{List, [], _∷_}
 use Prim.Native.Nat.{ℕ, zero, suc, _+_, _*_, _/_, _%_, _^_, _≤_, _<_}
@@ -16,7 +17,7 @@ use Rattle.prelude.proofs.Scan.{all-of, count-same, count-none}
 use Rattle.prelude.proofs.Pages.{length-pageAt, length-flat, ends-before, flat-pages}
 use Rattle.codes.specs.Code.{codeOf, codesOf}
 use Rattle.codes.specs.Reading.{difference, leaves, addressed, legible, mended, differs, codeAt, pageLegible, pageMended, pageMends}
-use Rattle.codes.specs.Reading.{flipsAt, flippedChunks, Bytes, OneFlip, ReadAs, PageReadAs}
+use Rattle.codes.specs.Reading.{flipsAt, flippedChunks, Bytes, OneFlip, FewFlips, ReadAs, PageReadAs}
 use Rattle.codes.proofs.CodeBits.{code-lt, length-flipped}
 use Rattle.codes.proofs.Differences.{count-zero, leaves-none, own-read, addressed-lt}
 use Rattle.codes.proofs.Chunks.{chunk-read}
@@ -104,6 +105,12 @@ page-read m page page′ codes′ l l′ b b′ bc h = page-of m page′ codes�
 pub read-own : (m : ℕ) (page : List ℕ) → length page ≡ m * 256 → PageReadAs m page (codesOf m page) page 0
 read-own m page l = rw (count-none m (λ i. false) (λ i il. refl)) at (page-of m page (codesOf m page) page (λ i. false) l
     (λ i il. rw (code-at m page i il) (own-read (pageAt 256 page i))))
+
+-- so any page that few flips have reached is read as it was
+pub flips-read : (m : ℕ) (page page′ codes′ : List ℕ) → length page ≡ m * 256 → length page′ ≡ m * 256
+    → FewFlips m page (codesOf m page) page′ codes′ → (n : ℕ) × PageReadAs m page′ codes′ page n
+flips-read m page page′ codes′ l l′ (inl h) = (0, rw (h .0, h .1) (read-own m page l))
+flips-read m page page′ codes′ l l′ (inr h) = (_, page-read m page page′ codes′ l l′ (h .0) (h .1) (h .2) (h .3))
 
 -- a page that can be read and has no mend is read as it is
 pub none-mended : (m : ℕ) (page codes : List ℕ) → length page ≡ m * 256 → pageLegible m page codes ≡ true → pageMends m page codes ≡ 0

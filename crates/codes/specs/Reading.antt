@@ -1,6 +1,7 @@
 -- How a chunk is read with the code stored for it, and a page of chunks with its codes; what flipped bits are.
 use mathlib.Core.Bool.{Bool, true, not, cond, xor, _&&_, _||_}
 use mathlib.Core.Path.{_≡_}
+use mathlib.Core.Logic.{_⊎_}
 use mathlib.Core.List.{List}
 use Prim.Native.Nat.{ℕ, _+_, _*_, _/_, _%_, _^_, _<_, _≤_}
 use lib.Dec.{eqb, leb, ltb}
@@ -84,6 +85,11 @@ flippedChunks m page codes page′ codes′ = count m (λ i. ltb 0 (flipsAt page
 -- a list of bytes
 abbrev pub Bytes : List ℕ → Type 0
 Bytes l = (i : ℕ) → getD l i 0 < 256
+
+-- a page with its codes is as it was, or it is bytes of which "at most one bit of any chunk with its code has flipped"
+abbrev pub FewFlips : ℕ → List ℕ → List ℕ → List ℕ → List ℕ → Type 0
+FewFlips m page codes page′ codes′ = ((page′ ≡ page) × (codes′ ≡ codes))
+    ⊎ (Bytes page × Bytes page′ × Bytes codes′ × OneFlip m page codes page′ codes′)
 
 -- ---- what reading gives
 

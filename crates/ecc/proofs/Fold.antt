@@ -20,10 +20,6 @@ use Rattle.codes.proofs.CodeBits.{side, code-low, code-high, side-odd, side-eve
 use Rattle.ecc.proofs.Entries.{byteOdd, entry-parity, entry-odd}
 use Rattle.ecc.proofs.ByWords.{bit-shr, bit-low, bit-high, of-all, of-one, of-two, of-four, four-all, four-one, four-two}
 
-pub num-le : (b : Bool) → num b ≤ 1
-num-le true = omega arith
-num-le false = omega arith
-
 -- n rows of k, by columns
 columns : (n k : ℕ) (p : ℕ → Bool) → odd (n * k) p ≡ odd k (λ j. odd n (λ i. p (i * k + j)))
 columns n k p = odd-rows n k p ∙ odd-swap n k (λ i j. p (i * k + j))

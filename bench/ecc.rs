@@ -1,5 +1,5 @@
-// The proved page codes beside plain Rust by words of 64 bits, in one run: for each page size given as an argument, batches of both sides in
-// turn on the same pages, and of each side the best batch. Both sides are called through a function that is not inlined. Before that, both
+// The proved page codes beside plain Rust by words of 64 bits, in one run: for each page size given as an argument, batches of both sides
+// in turn on the same pages, and of each side the best batch. Both sides are called through a function that is not inlined. Before that, both
 // sides are compared on pages with no, one and several flipped bits.
 use std::hint::black_box;
 use std::time::Instant;
@@ -7,7 +7,9 @@ use std::time::Instant;
 extern "C" {
     fn rt_encode_page(codes: *mut u8, codes_len: usize, flash: *const u8, flash_len: usize, n: usize, m: usize);
     fn rt_check_page(flash: *const u8, flash_len: usize, codes: *const u8, codes_len: usize, n: usize, m: usize) -> usize;
-    fn rt_decode_page(dst: *mut u8, dst_len: usize, i: usize, flash: *const u8, flash_len: usize, codes: *const u8, codes_len: usize, n: usize, m: usize) -> usize;
+    fn rt_decode_page(
+        dst: *mut u8, dst_len: usize, i: usize, flash: *const u8, flash_len: usize, codes: *const u8, codes_len: usize, n: usize, m: usize,
+    ) -> usize;
 }
 
 const PAGES: usize = 8;
@@ -86,7 +88,8 @@ fn verdict(x: u32) -> Option<Option<usize>> {
 }
 
 fn chunks<'a>(page: &'a [u8], codes: &'a [u8]) -> impl Iterator<Item = u32> + 'a {
-    codes.chunks_exact(3).zip(page.chunks_exact(256)).map(|(k, d)| code(d.try_into().unwrap()) ^ (k[0] as u32 | (k[1] as u32) << 8 | (k[2] as u32) << 16))
+    let stored = |k: &[u8]| k[0] as u32 | (k[1] as u32) << 8 | (k[2] as u32) << 16;
+    codes.chunks_exact(3).zip(page.chunks_exact(256)).map(move |(k, d)| code(d.try_into().unwrap()) ^ stored(k))
 }
 
 #[inline(never)]

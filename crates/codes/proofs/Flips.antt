@@ -31,11 +31,6 @@ bit-power : (j i : ℕ) → bit (2 ^ j) i ≡ eqb i j
 bit-power j i = by-test (eqb i j) (λ t. rw (t, eqb-true i j t) (bit-one j))
     (λ t. rw t (bit-one-other j i (λ e. clash (eq-eqb i j (sym e)) t)))
 
--- nothing has flipped
-pub same-flips : (d : List ℕ) (c : ℕ) → flips d c d c ≡ 0
-unfolding flips
-same-flips d c = ap₂ (λ (x y : ℕ). x + y) (count-self 2048 (bitAt d)) (count-self 24 (bit c))
-
 data-flips : (d : List ℕ) (a : ℕ) → a / 8 < length d → a < 2048 → flips d (codeOf d) (flipped d a) (codeOf d) ≡ 1
 unfolding flips
 data-flips d a w l = ap₂ (λ (x y : ℕ). x + y)

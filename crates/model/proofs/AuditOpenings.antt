@@ -5,9 +5,9 @@ use Prim.Native.Nat.{ℕ}
 use lib.ListN.{replicate}
 use Rattle.model.specs.Sizes.{Sizes, vacant}
 use Rattle.model.specs.Policy.{leastRecent}
-use Rattle.model.specs.Calls.{openDone, readDone, refused, Call, read, write, part, step, flush, Page, Buffers, Opened, openStore}
+use Rattle.model.specs.Calls.{openDone, refused, Call, read, write, part, step, flush, Page, Buffers, Opened, openStore}
 use Rattle.model.specs.Calls.{Store, Result, call}
-use Rattle.model.proofs.AuditRows.{Row, sizesOf, way, directoryOf}
+use Rattle.model.proofs.AuditRows.{Row, sizesOf, directoryOf}
 
 -- a refused opening leaves the blank record, on which every call is refused 4
 abbrev pub blank-record : Row

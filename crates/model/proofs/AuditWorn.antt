@@ -1,6 +1,5 @@
 -- Histories with worn blocks: refusal 6, whom it names, and way 7 passing worn blocks over (request A4).
 use mathlib.Core.List.{List, [], _∷_}
-use Rattle.model.specs.Sizes.{vacant}
 use Rattle.model.specs.Calls.{openDone, readDone, writeDone, refused, read, write, part, step, flush}
 use Rattle.model.proofs.AuditRows.{Row, sizesOf, way}
 

@@ -1,13 +1,12 @@
 -- The law of the bytes holds: no call changes how many pages there are or how long they are, so page n of the bytes is the call's.
 use mathlib.Core.Path.{_≡_, refl, _∙_}
 use mathlib.Core.Bool.{false}
-use Prim.Native.Nat.{ℕ, zero, suc, _+_, _*_, _≤_, _<_}
+use Prim.Native.Nat.{ℕ, zero, suc, _+_, _*_, _≤_}
 use native.Mathlib.Omega.{arith}
 use lib.Dec.{leb, ltb, eqb}
 use lib.Arith.{digits-lt}
-use lib.ListN.{length, getD, length-set}
+use lib.ListN.{length, length-set}
 use borrow.Author.Tests.{eqb-true, leb-true}
-use Rattle.prelude.specs.Pages.{pageAt}
 use Rattle.prelude.proofs.Tests.{by-test, clash}
 use Rattle.prelude.proofs.Tab.{length-tab}
 use Rattle.prelude.proofs.Pages.{length-laid}
@@ -17,7 +16,7 @@ use Rattle.model.specs.Policy.{Choice, Plan, slotHit, frameHit, freeSlot
 use Rattle.model.specs.Moves.{Memory, putSlotPage, putFramePage, filled, joinedPages, exchangedPages, programmed, rewrittenPages}
 use Rattle.model.specs.Moves.{steppedPages, readPage, writtenPages}
 use Rattle.model.specs.Calls.{isRefused, Call, read, write, part, step, flush, State, checked, partOutcome, decide, stepsPages, Page}
-use Rattle.model.specs.Calls.{combined, noBytes, callPages, Store, zeroPage, memoryOf, stateOf, told, call}
+use Rattle.model.specs.Calls.{combined, noBytes, callPages, Store, zeroPage, memoryOf, stateOf, told}
 use Rattle.model.proofs.EachPage.{read-each, step-each, written-each, flush-each}
 use Rattle.model.proofs.Buffers.{OfS, zero-long, Whole, memory-whole, memory-lengths, page-of-flat}
 use Rattle.model.specs.RulesCalls.{Good, pagesThen, BytesRule}

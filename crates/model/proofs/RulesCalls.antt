@@ -1,6 +1,6 @@
 -- The laws of the calls hold: each of the tests, in its order, passes or fails as the law's facts say.
 use mathlib.Core.Path.{_≡_, refl, ap, _∙_}
-use mathlib.Core.Bool.{true, false, not, _&&_}
+use mathlib.Core.Bool.{true}
 use mathlib.Core.List.{[]}
 use Prim.Native.Nat.{ℕ, zero, suc, _+_, _*_, _≤_, _<_}
 use native.Mathlib.Omega.{arith}
@@ -15,7 +15,7 @@ use Rattle.prelude.proofs.Pages.{page-at, flat-pages}
 use Rattle.model.specs.Sizes.{Sizes, vacant}
 use Rattle.model.specs.Directory.{Directory, frameAt}
 use Rattle.model.specs.Soundness.{sound, Sound}
-use Rattle.model.specs.Policy.{Choice, Plan, plan, wayOf, slotHit, frameHit, freeSlot, join, fill, exchange, evict, clean, due, dueOf}
+use Rattle.model.specs.Policy.{Choice, Plan, plan, wayOf, slotHit, frameHit, freeSlot, join, fill, exchange, evict, due, dueOf}
 use Rattle.model.specs.Policy.{cached, isWorn, lowestWorn}
 use Rattle.model.specs.Moves.{Memory, wornBy, stepped, steppedPages, written}
 use Rattle.model.specs.Calls.{Answer, openDone, readDone, writeDone, stepDone, stepClean, flushDone, refused, isRefused, Call, read}

@@ -1,6 +1,6 @@
 -- Demand 3's second saying holds: the claim of a list, walked call by call, has every clause at the store that is reached.
 use mathlib.Core.Path.{_≡_, sym, ap, _∙_}
-use mathlib.Core.Bool.{Bool, true, false, _&&_}
+use mathlib.Core.Bool.{Bool, true, _&&_}
 use mathlib.Core.List.{List, [], _∷_, _++_}
 use Prim.Native.Nat.{ℕ, _+_, _*_, _≤_, _<_}
 use native.Mathlib.Omega.{arith}
@@ -10,15 +10,13 @@ use lib.ListN.{length, getD}
 use borrow.Author.Tests.{ltb-true, ltb-false, eq-eqb, ne-eqb}
 use Rattle.prelude.specs.Scan.{count}
 use Rattle.prelude.specs.Bits.{bit}
-use Rattle.prelude.specs.Pages.{pageAt}
 use Rattle.prelude.proofs.Tests.{by-test, and-i}
 use Rattle.prelude.proofs.Scan.{count-past}
 use Rattle.prelude.proofs.Pages.{page-at}
 use Rattle.model.specs.Sizes.{Sizes}
-use Rattle.model.specs.Directory.{Directory, slotAt, frameAt, validAt}
-use Rattle.model.specs.Policy.{Choice}
+use Rattle.model.specs.Directory.{slotAt, frameAt, validAt}
 use Rattle.model.specs.Calls.{read, part, Page, Buffers, Store}
-use Rattle.model.specs.Lists.{Chosen, Picks, AllPick, Reference, timesCached, Claim}
+use Rattle.model.specs.Lists.{Chosen, AllPick, Reference, Claim}
 use Rattle.model.specs.RulesDemand3.{storeAfter, besideAfter, Reached, AnswersAlike, ReadsArray, PartsArray, SlotsOnce, FramesOnce}
 use Rattle.model.specs.RulesDemand3.{NotBoth, FlashBlock, FlashPage, WearBook, FlushedArray}
 use Rattle.model.proofs.Opening.{open-accepted}

@@ -1,20 +1,18 @@
 -- The laws of page array, log and book hold, by the cases of the call.
-use mathlib.Core.Path.{_≡_, refl, sym, ap, _∙_}
-use mathlib.Core.Bool.{true, false, not, _&&_}
-use mathlib.Core.List.{List, []}
-use Prim.Native.Nat.{ℕ, _+_, _*_, _≤_, _<_}
+use mathlib.Core.Path.{_≡_, refl, ap, _∙_}
+use mathlib.Core.Bool.{true, not, _&&_}
+use mathlib.Core.List.{[]}
+use Prim.Native.Nat.{ℕ, _+_, _*_}
 use native.Mathlib.Omega.{arith}
 use lib.Dec.{eqb}
 use lib.ListN.{length, getD, length-set, getD-replicate}
 use lib.Seq.{getD-set-same, getD-set-other}
 use borrow.Author.Tests.{lt-ltb, le-ltb, ne-eqb}
 use Rattle.prelude.specs.Scan.{count}
-use Rattle.prelude.specs.Pages.{laid}
 use Rattle.prelude.proofs.Tests.{by-test, clash, and-r, not-t}
 use Rattle.prelude.proofs.Scan.{count-same}
 use Rattle.prelude.proofs.Tab.{length-tab, getD-tab}
 use Rattle.prelude.proofs.Pages.{page-at, pages-length}
-use Rattle.model.specs.Sizes.{Sizes}
 use Rattle.model.specs.Directory.{slotAt, inFrame}
 use Rattle.model.specs.Calls.{Call, read, write, part, step, flush, isRefused, Page}
 use Rattle.model.specs.Lists.{arrayAfter, logAfter, beforeAfter, isFlush, fed, opened, timesCached, blockPages}

@@ -7,10 +7,10 @@ use Prim.Native.Nat.{ℕ, zero, suc, _+_, _-_, _*_, _/_, _%_, _≤_, _<_}
 use native.Mathlib.Omega.{arith}
 use lib.Dec.{ltb, eqb}
 use lib.Arith.{digits-lt}
-use lib.ListN.{length, getD, take, drop, length-set, length-append, length-drop, List·getD-append}
+use lib.ListN.{length, getD, take, length-set, length-append, length-drop, List·getD-append}
 use lib.Seq.{getD-set-same, getD-set-other, getD-take, getD-drop, getD-append-seam, ext-getD, length-take-le}
 use borrow.Author.Tests.{ltb-true, ltb-false, eqb-true, eqb-false, lt-ltb, le-ltb, eq-eqb, ne-eqb}
-use Rattle.prelude.specs.Scan.{first, count, all, nth}
+use Rattle.prelude.specs.Scan.{first, count, nth}
 use Rattle.prelude.specs.Bits.{bit, mask}
 use Rattle.prelude.proofs.Tests.{by-test, clash, fails, and-l, and-r, and-i, or-l, or-r, or-cases, not-t, not-i, same-test}
 use Rattle.prelude.proofs.Scan.{listed-once, first-hit, first-at, all-at, all-of, count-same, count-past, count-mono, nth-is, nth-some}
@@ -20,7 +20,7 @@ use Rattle.prelude.proofs.Bits.{bit-mask, mask-lt, bit-high}
 use Rattle.model.specs.Sizes.{Sizes, vacant, sizesOk, InLimits}
 use Rattle.model.specs.Directory.{Directory, slotAt, frameAt, validAt, recencyAt}
 use Rattle.model.specs.Soundness.{sound, Sound}
-use Rattle.model.specs.Policy.{inBlock, slotOf, inSlots, validCount, mergeReads, due}
+use Rattle.model.specs.Policy.{inBlock, slotOf, inSlots, validCount}
 use Rattle.model.specs.Moves.{Memory, flashPage, programmed, worn, wornBy, recencyAfter, touched, joined, filled, joinedPages, unmet}
 use Rattle.model.specs.Moves.{spare, taken, givenSlot, exchanged, exchangedPages, vacated, merged, rewrittenPages, stepped}
 use Rattle.model.specs.Moves.{steppedPages}

@@ -4,27 +4,27 @@ use mathlib.Core.Path.{_≡_, refl, sym, ap, _∙_}
 use mathlib.Core.Logic.{inl, inr}
 use mathlib.Core.Bool.{true, false, _&&_}
 use mathlib.Core.List.{List}
-use Prim.Native.Nat.{ℕ, _-_, _*_, _≤_, _<_}
+use Prim.Native.Nat.{ℕ, _-_, _≤_, _<_}
 use native.Mathlib.Omega.{arith}
 use lib.Dec.{leb, ltb, eqb}
 use lib.ListN.{getD}
 use borrow.Author.Tests.{leb-true, le-leb, ltb-true, ltb-false, lt-ltb, le-ltb, eq-eqb, ne-eqb}
 use Rattle.prelude.specs.Scan.{first}
-use Rattle.prelude.proofs.Tests.{by-test, clash, fails, and-l, and-r, and-i}
+use Rattle.prelude.proofs.Tests.{by-test, fails, and-l, and-r, and-i}
 use Rattle.prelude.proofs.Scan.{first-hit, first-at, first-is, argmax-ge, argmax-first, leads-is}
 use Rattle.model.specs.Sizes.{Sizes, vacant}
 use Rattle.model.specs.Directory.{Directory, slotAt, frameAt, recencyAt}
 use Rattle.model.specs.Soundness.{sound, Sound}
 use Rattle.model.specs.Policy.{Choice, slotOf, frameOf, validCount, slotCount, leastRecent, victim, fewestValid, evictable}
 use Rattle.model.specs.Policy.{anyEvictable, evictFrame, evictionPlan, plan, slotHit, frameHit, freeSlot, join, fill, exchange, evict}
-use Rattle.model.specs.Policy.{clean, due, dueOf, occupied, lowestInSlots, cached, lowestWorn}
-use Rattle.model.specs.RulesWords.{pagesInSlots, validPages, Evicts, Crowded, Unworn}
+use Rattle.model.specs.Policy.{due, dueOf, occupied, lowestInSlots, cached, lowestWorn}
+use Rattle.model.specs.RulesWords.{pagesInSlots, validPages, Evicts, Crowded}
 use Rattle.model.specs.RulesPolicy.{Way1Rule, Way2Rule, Way3Rule, VictimRule, Way4Rule, Way5Rule, Way6Rule, Way7Rule, Way7WornRule}
 use Rattle.model.specs.RulesPolicy.{Way6AnyRule, Way7AnyRule, Way7AnyWornRule, StepFrameRule, StepAnyRule, StepSlotsRule}
 use Rattle.model.specs.RulesPolicy.{StepCleanRule, CachedRule, FlushNamesRule, FlushFreeRule}
 use Rattle.model.proofs.Soundness.{sound-facts, pages-small}
 use Rattle.model.proofs.Lookup.{block-vacant, page-of, some-pages, block-of, own-slot}
-use Rattle.model.proofs.Plan.{victim-lt, valid-ones, fewest-pick, evict-pick, evict-below, frame-block, plan-1, plan-2, plan-3}
+use Rattle.model.proofs.Plan.{victim-lt, valid-ones, fewest-pick, evict-pick, evict-below, plan-1, plan-2, plan-3}
 use Rattle.model.proofs.Plan.{plan-full, plan-4, plan-5, plan-6, plan-7}
 use Rattle.model.proofs.RulesWords.{absent, frame-found, unfound, own-frame, no-own, of-block, block-range, counted, found-cached}
 use Rattle.model.proofs.RulesWords.{fewest-le, fewest-at}

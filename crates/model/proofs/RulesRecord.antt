@@ -1,12 +1,12 @@
 -- The laws of the record and of opening hold: each test is turned into facts and back, and the refusals follow the tests' order.
 use mathlib.Core.Path.{_≡_, refl, sym, ap, _∙_}
-use mathlib.Core.Logic.{_⊎_, inl, inr}
-use mathlib.Core.Bool.{Bool, true, false}
+use mathlib.Core.Logic.{inl, inr}
+use mathlib.Core.Bool.{false}
 use Prim.Native.Nat.{ℕ, zero, suc, _+_, _-_, _*_, _/_, _%_, _^_, _≤_, _<_}
 use native.Mathlib.Nat.{pow-suc, mod-lt, div-add-mod'}
 use native.Mathlib.Omega.{arith}
 use lib.Dec.{leb, ltb, eqb}
-use lib.ListN.{length, getD, getD-replicate, length-replicate}
+use lib.ListN.{getD, getD-replicate, length-replicate}
 use lib.Pow.{pow-pos, shr-shr}
 use borrow.Author.Tests.{le-leb, lt-leb, ltb-true, ltb-false, eqb-true, eqb-false, eq-eqb}
 use Rattle.prelude.specs.Bits.{bit}
@@ -17,8 +17,8 @@ use Rattle.prelude.proofs.Bits.{bit-zero, bit-pos, bits-some, bit-high}
 use Rattle.model.specs.Sizes.{Sizes, vacant, sizesOk}
 use Rattle.model.specs.Directory.{Directory, slotAt, frameAt, validAt, recencyAt, vacantDirectory, blankCache}
 use Rattle.model.specs.Soundness.{sound, Sound}
-use Rattle.model.specs.Calls.{Buffers, lentOk, openStore}
-use Rattle.model.specs.RulesRecord.{VacantRule, WithinLimits, SizesRule, RightLengths, LengthsRule, SoundBy, SoundRule, AllVacant}
+use Rattle.model.specs.Calls.{lentOk, openStore}
+use Rattle.model.specs.RulesRecord.{VacantRule, SizesRule, LengthsRule, SoundBy, SoundRule}
 use Rattle.model.specs.RulesRecord.{StartRule, BlankRule, BlankUnsoundRule, OpeningSizeRule, OpeningBufferRule, OpeningOverwornRule}
 use Rattle.model.specs.RulesRecord.{OpeningDoneRule}
 use Rattle.model.proofs.Soundness.{limits-of, limits-test, sound-facts, facts-sound, pages-small}

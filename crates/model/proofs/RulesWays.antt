@@ -1,8 +1,7 @@
 -- The seven ways leave no case out: the conditions of the laws, tried in the paper's order, cover every sound record and page, and each
 -- gives its way.
 use mathlib.Core.Path.{_≡_, refl, sym, ap, _∙_}
-use mathlib.Core.Logic.{inl, inr}
-use mathlib.Core.Bool.{true, false}
+use mathlib.Core.Bool.{true}
 use mathlib.Core.List.{List}
 use Prim.Native.Nat.{ℕ, zero, suc, _*_, _%_, _≤_, _<_}
 use native.Mathlib.Omega.{arith}
@@ -13,7 +12,7 @@ use Rattle.prelude.proofs.Scan.{first-hit, first-miss}
 use Rattle.model.specs.Sizes.{Sizes, vacant}
 use Rattle.model.specs.Directory.{Directory, slotAt, frameAt, inFrame}
 use Rattle.model.specs.Soundness.{sound, Sound}
-use Rattle.model.specs.Policy.{Choice, slotOf, inSlots, frameWith, frameOf, slotCount, validCount, fewestValid, plan, wayOf}
+use Rattle.model.specs.Policy.{Choice, slotOf, inSlots, frameWith, frameOf, slotCount, fewestValid, plan, wayOf}
 use Rattle.model.specs.RulesWords.{InSlot, ValidIn, Uncached, FirstVacant, FirstVacantFrame, pagesInSlots, validPages, Evicts}
 use Rattle.model.specs.RulesWords.{Crowded}
 use Rattle.model.specs.RulesPolicy.{WaysRule}

@@ -1,12 +1,11 @@
 -- What the definitions' lookups find, in the words of the laws, in a sound record.
 use mathlib.Core.Path.{_≡_, sym, ap, _∙_}
-use mathlib.Core.Logic.{_⊎_, inl, inr}
-use mathlib.Core.Bool.{true, _&&_}
+use mathlib.Core.Logic.{inl, inr}
+use mathlib.Core.Bool.{true}
 use Prim.Native.Nat.{ℕ, suc, _+_, _-_, _*_, _/_, _%_, _≤_, _<_}
 use native.Mathlib.Omega.{arith}
 use lib.Dec.{leb, ltb, eqb}
 use borrow.Author.Tests.{leb-true, le-leb, ltb-true, ltb-false, lt-ltb, eq-eqb, ne-eqb}
-use Rattle.prelude.specs.Scan.{count}
 use Rattle.prelude.specs.Bits.{bit}
 use Rattle.prelude.proofs.Tests.{by-test, fails, and-l, and-r, and-i, same-test}
 use Rattle.prelude.proofs.Scan.{first-hit, first-is, count-same, count-le, least-le, least-is}

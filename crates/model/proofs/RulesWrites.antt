@@ -8,17 +8,15 @@ use lib.Arith.{digits-lt}
 use lib.ListN.{length, getD}
 use lib.Seq.{getD-set-same, getD-set-other}
 use borrow.Author.Tests.{lt-ltb, le-ltb, eq-eqb, ne-eqb}
-use Rattle.prelude.specs.Scan.{first}
 use Rattle.prelude.proofs.Scan.{first-is}
 use Rattle.prelude.proofs.Tab.{length-tab}
 use Rattle.model.specs.Sizes.{Sizes, vacant}
 use Rattle.model.specs.Directory.{Directory, slotAt, frameAt}
-use Rattle.model.specs.Soundness.{sound, Sound}
+use Rattle.model.specs.Soundness.{sound}
 use Rattle.model.specs.Policy.{slotOf, inSlots, frameWith, readWay, due}
 use Rattle.model.specs.Moves.{Memory, flashPage, touched, putSlot, entered, putSlotPage, putFramePage, joined, joinedPages, exchanged}
 use Rattle.model.specs.Moves.{exchangedPages, stepped, steppedPages, readDirectory, written, readPage, writtenPages}
 use Rattle.model.specs.RulesWords.{FirstVacant}
-use Rattle.model.specs.RulesMoves.{MostRecent}
 use Rattle.model.specs.RulesWrites.{Read1Rule, Read2Rule, Read3Rule, Entered, EnteredPages, PutInSlot, Writes1Rule, Writes2Rule}
 use Rattle.model.specs.RulesWrites.{Writes3Rule, Writes4Rule, Writes4PagesRule, Writes5Rule, Writes6Rule, Writes6PagesRule}
 use Rattle.model.specs.RulesWrites.{Writes7Rule, Writes7PagesRule}

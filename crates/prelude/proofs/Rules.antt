@@ -1,8 +1,8 @@
 -- The words' second sayings hold.
 use mathlib.Core.Path.{_≡_, refl, sym, ap, _∙_}
-use mathlib.Core.Bool.{Bool, true, false, cond}
+use mathlib.Core.Bool.{true}
 use mathlib.Core.List.{List, []}
-use Prim.Native.Nat.{ℕ, zero, suc, _+_, _-_, _*_, _/_, _%_, _^_, _≤_, _<_}
+use Prim.Native.Nat.{ℕ, zero, suc, _+_, _-_, _*_, _/_, _%_, _^_, _<_}
 use native.Mathlib.Nat.{mod-lt, div-add-mod'}
 use native.Mathlib.Omega.{arith}
 use lib.Dec.{ltb, eqb}
@@ -11,10 +11,10 @@ use lib.Arith.{digits-div}
 use lib.ListN.{length, getD, take, List·getD-append}
 use lib.Seq.{getD-take, getD-drop, getD-append-add, length-take-le}
 use borrow.Author.Tests.{ltb-true, ltb-false, eqb-true, eq-eqb}
-use Rattle.prelude.specs.Scan.{first, count, all, nth, argmax, least}
+use Rattle.prelude.specs.Scan.{first, count, nth}
 use Rattle.prelude.specs.Bits.{bit, mask}
 use Rattle.prelude.specs.Pages.{pageAt, laid, flat}
-use Rattle.prelude.specs.Rules.{FirstRule, FirstNoneRule, Upward, CountRule, CountOneRule, AllRule, ArgmaxRule, LeastRule, TabRule}
+use Rattle.prelude.specs.Rules.{FirstRule, FirstNoneRule, CountRule, CountOneRule, AllRule, ArgmaxRule, LeastRule, TabRule}
 use Rattle.prelude.specs.Rules.{BitRule, BitWholeRule, MaskRule, PageAtRule, FlatRule, LaidRule}
 use Rattle.prelude.proofs.Tests.{by-test}
 use Rattle.prelude.proofs.Scan.{all-at, all-of, first-hit, first-at, first-is, count-past, count-mono, count-inj, nth-is, nth-rank}

@@ -3,6 +3,7 @@ use Prim.Native.Nat.{_-_}
 use Rattle.histories.proofs.scripts.Statement.{statement}
 use Rattle.histories.proofs.scripts.Tie as tie
 
+-- nothing is promised of the pairs: the loop only ends
 abbrev Inv-loop : tie.InvT-loop
 Inv-loop pairs i₀ i = Unit {0}
 

@@ -7,6 +7,7 @@ use Rattle.histories.proofs.Comparing.{in-left, in-right, one-more, at-
 use Rattle.histories.proofs.compare.alike.Statement.{statement}
 use Rattle.histories.proofs.compare.alike.Tie as tie
 
+-- the first n bytes agree, and both texts have so many
 abbrev Inv-loop : tie.InvT-loop
 Inv-loop a b n₀ n = (n ≤ length a) × ((n ≤ length b) × (take n a ≡ take n b))
 

@@ -5,6 +5,7 @@ use Prim.Native.Nat.{_≤_, _-_}
 use Rattle.histories.proofs.compare.line_of.Statement.{statement}
 use Rattle.histories.proofs.compare.line_of.Tie as tie
 
+-- the line begins at or before the byte looked at, which is not past the one asked for
 abbrev Inv-loop : tie.InvT-loop
 Inv-loop text at start₀ number₀ i₀ start number i = (start ≤ i) × (i ≤ at)
 

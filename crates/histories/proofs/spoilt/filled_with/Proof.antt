@@ -4,6 +4,7 @@ use lib.ListN.{length}
 use Rattle.histories.proofs.spoilt.filled_with.Statement.{statement}
 use Rattle.histories.proofs.spoilt.filled_with.Tie as tie
 
+-- nothing is promised of the answer: the loop only ends
 abbrev Inv-loop : tie.InvT-loop
 Inv-loop bytes b ok₀ i₀ ok i = Unit {0}
 

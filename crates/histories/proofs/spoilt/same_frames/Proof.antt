@@ -3,6 +3,7 @@ use Prim.Native.Nat.{_-_}
 use Rattle.histories.proofs.spoilt.same_frames.Statement.{statement}
 use Rattle.histories.proofs.spoilt.same_frames.Tie as tie
 
+-- nothing is promised of the answer: the loop only ends
 abbrev Inv-loop : tie.InvT-loop
 Inv-loop d e ok₀ f₀ ok f = Unit {0}
 

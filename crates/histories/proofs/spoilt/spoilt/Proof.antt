@@ -3,6 +3,7 @@ use Prim.Native.Nat.{_-_}
 use Rattle.histories.proofs.spoilt.spoilt.Statement.{statement}
 use Rattle.histories.proofs.spoilt.spoilt.Tie as tie
 
+-- nothing is promised of the count: the loop only ends
 abbrev Inv-loop : tie.InvT-loop
 Inv-loop from to x s d count₀ i₀ count i = Unit {0}
 

@@ -3,6 +3,7 @@ use Prim.Native.Nat.{_-_}
 use Rattle.histories.proofs.spoilt.worn.Statement.{statement}
 use Rattle.histories.proofs.spoilt.worn.Tie as tie
 
+-- nothing is promised of the answer: the loop only ends
 abbrev Inv-loop : tie.InvT-loop
 Inv-loop wear ok₀ i₀ ok i = Unit {0}
 

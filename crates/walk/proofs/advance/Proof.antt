@@ -111,9 +111,9 @@ returns-2 c =
     onward-line (start .args .script .now) (start .args .w) _ (start .args .out .now) (start .pre .1 .0) (start .pre .1 .1) _ _ _
     (sym (after-form-at .form-at .ensures) ∙ ap itemOf (after-item .item .given .1)) (after-line .line .result) _ _ _ _ _
     (after-line .line .ensures) (length (start .args .out .now) - start .args .w .printed)
-    (after-line .line .kept .1 .1 .1 .1 .1 .1 .1 .1 .0) (let k = after-line .line .ensures .carries .within in
-    let l = after-line .line .kept .1 .1 .1 .1 .1 .1 .1 .1 .0 in
-    let m = left-room (start .args .w .printed) 45063 (start .args .out .now) (start .pre .1 .1 .room) in omega arith)
+    (omega (arith, after-line .line .kept)) (let k = after-line .line .ensures .carries .within in
+    let m = left-room (start .args .w .printed) 45063 (start .args .out .now) (start .pre .1 .1 .room) in
+    omega (arith, after-line .line .kept))
 
 pub advance-spec : {M : Type 1} → statement M
 advance-spec =

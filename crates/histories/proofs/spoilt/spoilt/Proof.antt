@@ -19,11 +19,8 @@ loop-holds c = search needs
 with-requires : tie.Need-with-requires Inv-loop μ-loop
 with-requires c κs = search needs
 
-refused-requires : tie.Need-refused-requires Inv-loop μ-loop
-refused-requires c κs = search needs
-
-one-requires : tie.Need-one-requires Inv-loop μ-loop
-one-requires c κs = search needs
+every-call-requires : tie.Need-every-call-requires Inv-loop μ-loop
+every-call-requires c κs = search needs
 
 wrapping-add-u64-requires : tie.Need-wrapping-add-u64-requires Inv-loop μ-loop
 wrapping-add-u64-requires c κs = search needs
@@ -49,8 +46,7 @@ spoilt-spec =
     sound-requires
     loop-holds
     with-requires
-    refused-requires
-    one-requires
+    every-call-requires
     wrapping-add-u64-requires
     add-i
     loop-less

@@ -1,4 +1,4 @@
-/* Counts what each call copies: pages, which are to be those of the rule, and the record by its longest list, of 512 bytes. The linker puts the
+/* Counts what each call copies: pages, which are to be those of the rule, and the record by its longest list, of 512 bytes, with what lies beside it. The linker puts the
  * two functions below between the library and the C library's. Largest page size and cache, 20,000 random calls. */
 #include "clash.h"
 #include <stdio.h>
@@ -9,7 +9,8 @@ enum { PAGE = 2048, PER_BLOCK = 64, BLOCKS = 64, SLOTS = 128, FRAMES = 8, PAGES 
 enum kind { READ = 1, WRITE = 4, STEP = 12, FLUSH = 13, KINDS = 14 };
 
 static const clash_sizes sizes = { PAGE, PER_BLOCK, BLOCKS, SLOTS, FRAMES, 1000000 };
-static uint8_t flash[PAGES * PAGE], pspace[SLOTS * PAGE], bspace[FRAMES * PER_BLOCK * PAGE], page[PAGE];
+static const clash_options options = { 0, 0, 0, 0 };
+static uint8_t flash[PAGES * PAGE], pspace[SLOTS * PAGE], bspace[FRAMES * PER_BLOCK * PAGE], none[1], page[PAGE];
 static uint32_t wear[BLOCKS];
 static long moves, copies;
 
@@ -18,7 +19,7 @@ void *__real_memcpy(void *to, const void *from, size_t bytes);
 
 static void count(size_t bytes) {
     if (bytes % PAGE == 0) moves += bytes / PAGE; /* merge reads move several pages at once */
-    copies += bytes == SLOTS * sizeof(uint32_t);
+    copies += bytes >= SLOTS * sizeof(uint32_t) && bytes <= sizeof(clash_cache);
 }
 
 void *__wrap_memmove(void *to, const void *from, size_t bytes) {
@@ -31,7 +32,8 @@ void *__wrap_memcpy(void *to, const void *from, size_t bytes) {
     return __real_memcpy(to, from, bytes);
 }
 
-#define LENT flash, sizeof flash, wear, BLOCKS, pspace, sizeof pspace, bspace, sizeof bspace
+/* A store without options has no codes, no marks and no shelf. */
+#define LENT flash, sizeof flash, none, 0, none, 0, wear, BLOCKS, pspace, sizeof pspace, bspace, sizeof bspace, none, 0
 
 static clash_reply call(enum kind kind, clash_cache cache, uint32_t n) {
     moves = copies = 0;
@@ -70,7 +72,7 @@ int main(void) {
     static const char *const names[KINDS] = { "", "read 1", "read 2", "read 3", "", "write 1", "write 2", "write 3", "write 4", "write 5",
         "write 6", "write 7", "step", "flush" };
     long most[KINDS] = { 0 }, wrong = 0;
-    clash_reply reply = clash_open(sizes, LENT);
+    clash_reply reply = clash_open(sizes, options, LENT);
     uint32_t i, state = 1;
     for (i = 0; i < CALLS; i++) {
         clash_cache before = reply.cache;

@@ -1,6 +1,8 @@
 // Times the proved soundness test, linked from the static library of the crate bench_sound, beside a plain Rust test. The proved one
 // takes the record by value or is lent its lists, as in the store's calls; the other takes it by value or by reference. Both use a filter
-// of 4,096 bits. First all must agree on sound and on spoilt records.
+// of 4,096 bits. First all must agree on sound and on spoilt records. The entries of the shelf are not in it: the calls look at them.
+#[path = "store/src/numbers.rs"]
+mod numbers;
 #[allow(dead_code)]
 #[path = "store/src/random.rs"]
 mod random;
@@ -10,38 +12,39 @@ mod record;
 #[path = "store/src/plain/sound.rs"]
 mod plain;
 
+use numbers::{Numbers, Opening};
 use random::Random;
-use record::{Cache, Sizes, VACANT};
+use record::{Cache, Directory, Options, Sizes, VACANT};
 use std::hint::black_box;
 use std::time::Instant;
 
 extern "C" {
-    fn record_sound(r: Cache) -> bool;
-    fn lists_sound(sizes: Sizes, slots: &[u32; 128], frames: &[u32; 8], valid: &[u64; 8], recency: &[u8; 8]) -> bool;
+    fn record_sound(r: Numbers) -> bool;
+    fn lists_sound(opening: Opening, slots: &[u32; 128], frames: &[u32; 8], valid: &[u64; 8], recency: &[u8; 8], uses: &[u32; 8]) -> bool;
 }
 
-fn proved(r: Cache) -> bool {
+fn proved(r: Numbers) -> bool {
     unsafe { record_sound(r) }
 }
 
-fn lent(r: &Cache) -> bool {
+fn lent(r: &Numbers) -> bool {
     let d = &r.directory;
-    unsafe { lists_sound(r.sizes, &d.slots, &d.frames, &d.valid, &d.recency) }
+    unsafe { lists_sound(r.opening, &d.slots, &d.frames, &d.valid, &d.recency, &d.uses) }
 }
 
 #[inline(never)]
-fn by_value(r: Cache) -> bool {
-    plain::sound(&r)
+fn by_value(r: Numbers) -> bool {
+    plain::sound(&r.opening.sizes, &r.opening.options, &r.directory)
 }
 
 #[inline(never)]
-fn by_reference(r: &Cache) -> bool {
-    plain::sound(r)
+fn by_reference(r: &Numbers) -> bool {
+    plain::sound(&r.opening.sizes, &r.opening.options, &r.directory)
 }
 
 // A sound record, with every slot and frame that fits in use.
-fn filled(random: &mut Random, sizes: Sizes) -> Cache {
-    let mut r = Cache { sizes, ..Cache::blank() };
+fn filled(random: &mut Random, sizes: Sizes) -> Numbers {
+    let mut r = Numbers::from(Cache { sizes, ..Cache::blank() });
     for f in 0..sizes.frames as usize {
         r.directory.recency.swap(f, random.below(f as u32 + 1) as usize);
         let x = random.below(sizes.blocks);
@@ -64,20 +67,30 @@ fn filled(random: &mut Random, sizes: Sizes) -> Cache {
 }
 
 // One entry spoilt, perhaps.
-fn spoilt(random: &mut Random, mut r: Cache) -> Cache {
+fn spoilt(random: &mut Random, mut r: Numbers) -> Numbers {
     let (i, f, g) = (random.below(128) as usize, random.below(8) as usize, random.below(8) as usize);
-    match random.below(9) {
-        0 => r.directory.slots[i] = r.directory.slots[random.below(128) as usize],
-        1 => r.directory.slots[i] = r.sizes.blocks * r.sizes.pages_per_block - random.below(2),
-        2 => r.directory.slots[i] = r.directory.frames[f].wrapping_mul(r.sizes.pages_per_block).wrapping_add(random.below(64)),
-        3 => r.directory.frames[f] = r.directory.frames[g],
-        4 => r.directory.frames[f] = r.sizes.blocks - random.below(2),
-        5 => r.directory.valid[f] = r.directory.valid[g] & (random.below(2) as u64).wrapping_sub(1),
-        6 => r.directory.valid[f] = 1 << random.below(64),
-        7 => r.directory.recency[f] = random.below(10) as u8,
-        _ => r.directory.slots[i] = VACANT,
+    let (z, d) = (r.opening.sizes, &mut r.directory);
+    match random.below(11) {
+        0 => d.slots[i] = d.slots[random.below(128) as usize],
+        1 => d.slots[i] = z.blocks * z.pages_per_block - random.below(2),
+        2 => d.slots[i] = d.frames[f].wrapping_mul(z.pages_per_block).wrapping_add(random.below(64)),
+        3 => d.frames[f] = d.frames[g],
+        4 => d.frames[f] = z.blocks - random.below(2),
+        5 => d.valid[f] = d.valid[g] & (random.below(2) as u64).wrapping_sub(1),
+        6 => d.valid[f] = 1 << random.below(64),
+        7 => d.recency[f] = random.below(10) as u8,
+        8 => d.uses[f] = random.below(2),
+        9 => r.opening.options = option(random),
+        _ => d.slots[i] = VACANT,
     }
     r
+}
+
+// One of the four set, perhaps.
+fn option(random: &mut Random) -> Options {
+    let mut options = [0; 4];
+    options[random.below(4) as usize] = random.below(3);
+    Options::from(options)
 }
 
 fn agree(random: &mut Random) {
@@ -106,7 +119,7 @@ fn agree(random: &mut Random) {
 }
 
 // The time of one call in nanoseconds.
-fn batch(records: &[Cache], mut test: impl FnMut(&Cache) -> bool) -> f64 {
+fn batch(records: &[Numbers], mut test: impl FnMut(&Numbers) -> bool) -> f64 {
     let start = Instant::now();
     for _ in 0..32 {
         for r in records {
@@ -118,7 +131,7 @@ fn batch(records: &[Cache], mut test: impl FnMut(&Cache) -> bool) -> f64 {
 
 fn measure(random: &mut Random, pages_per_block: u32, blocks: u32, slots: u32, frames: u32) {
     let sizes = black_box(Sizes { page_size: 2048, pages_per_block, blocks, slots, frames, wear_limit: 1000 });
-    let records: Vec<Cache> = (0..16).map(|_| filled(random, sizes)).collect();
+    let records: Vec<Numbers> = (0..16).map(|_| filled(random, sizes)).collect();
     let mut best = [f64::MAX; 4];
     for _ in 0..1000 {
         best[0] = best[0].min(batch(&records, |r| proved(*r)));

@@ -11,16 +11,18 @@ enum { STACK = 1 << 18, PAINT = 0xA5, CALLS = 6000 };
 enum kind { NOTHING, OPEN, READ, WRITE, PART, STEP, FLUSH };
 
 static const clash_sizes sizes = { PAGE, PER_BLOCK, BLOCKS, SLOTS, FRAMES, 1000000 };
-static uint8_t flash[PAGES * PAGE], pspace[SLOTS * PAGE], bspace[FRAMES * PER_BLOCK * PAGE], page[PAGE], bytes[40];
+static const clash_options options = { 0, 0, 0, 0 };
+static uint8_t flash[PAGES * PAGE], pspace[SLOTS * PAGE], bspace[FRAMES * PER_BLOCK * PAGE], none[1], page[PAGE], bytes[40];
 static uint32_t wear[BLOCKS], n;
 static enum kind kind;
 static clash_reply reply;
 
-#define LENT flash, sizeof flash, wear, BLOCKS, pspace, sizeof pspace, bspace, sizeof bspace
+/* A store without options has no codes, no marks and no shelf. */
+#define LENT flash, sizeof flash, none, 0, none, 0, wear, BLOCKS, pspace, sizeof pspace, bspace, sizeof bspace, none, 0
 
 static void *call(void *unused) {
     switch (kind) {
-    case OPEN: reply = clash_open(sizes, LENT); break;
+    case OPEN: reply = clash_open(sizes, options, LENT); break;
     case READ: reply = clash_read(reply.cache, LENT, n, page, PAGE); break;
     case WRITE: reply = clash_write(reply.cache, LENT, n, page, PAGE); break;
     case PART: reply = clash_part(reply.cache, LENT, n, 100, bytes, n % 41, page, PAGE); break;

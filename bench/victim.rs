@@ -1,5 +1,7 @@
 // Times the proved victim search, linked from the static library of the crate bench_victim, beside plain Rust searches: one that multiplies by
 // reciprocals and one that divides. First all must agree, on records with all slots in use and on others.
+#[path = "store/src/numbers.rs"]
+mod numbers;
 #[allow(dead_code)]
 #[path = "store/src/random.rs"]
 mod random;
@@ -7,8 +9,9 @@ mod random;
 #[path = "../rust/src/record.rs"]
 mod record;
 
+use numbers::Numbers;
 use random::Random;
-use record::{Cache, Sizes, VACANT};
+use record::{Cache, Directory, Options, Sizes, VACANT};
 use std::hint::black_box;
 use std::time::Instant;
 
@@ -20,10 +23,10 @@ struct Victim {
 }
 
 extern "C" {
-    fn record_victim(r: Cache) -> Victim;
+    fn record_victim(r: Numbers) -> Victim;
 }
 
-fn proved(r: Cache) -> Victim {
+fn proved(r: Numbers) -> Victim {
     unsafe { record_victim(r) }
 }
 
@@ -40,26 +43,26 @@ const fn reciprocals() -> [u32; 65] {
 const RECIPROCALS: [u32; 65] = reciprocals();
 
 #[inline(never)]
-fn by_value(r: Cache) -> Victim {
+fn by_value(r: Numbers) -> Victim {
     by_reference(&r)
 }
 
 #[inline(never)]
-fn by_reference(r: &Cache) -> Victim {
-    let m = RECIPROCALS[r.sizes.pages_per_block as usize] as u64;
+fn by_reference(r: &Numbers) -> Victim {
+    let m = RECIPROCALS[r.opening.sizes.pages_per_block as usize] as u64;
     search(r, |n| (n as u64 * m >> 32) as u32)
 }
 
 #[inline(never)]
-fn dividing(r: Cache) -> Victim {
-    search(&r, |n| n / r.sizes.pages_per_block)
+fn dividing(r: Numbers) -> Victim {
+    search(&r, |n| n / r.opening.sizes.pages_per_block)
 }
 
 #[inline(always)]
-fn search(r: &Cache, block_of: impl Fn(u32) -> u32) -> Victim {
+fn search(r: &Numbers, block_of: impl Fn(u32) -> u32) -> Victim {
     let mut counts = [0u8; 4096];
     let (mut best, mut most) = (0, 0);
-    for &n in &r.directory.slots[..r.sizes.slots as usize] {
+    for &n in &r.directory.slots[..r.opening.sizes.slots as usize] {
         if n == VACANT {
             continue;
         }
@@ -74,8 +77,8 @@ fn search(r: &Cache, block_of: impl Fn(u32) -> u32) -> Victim {
 }
 
 // A sound record with no frame in use. Of 100 slots about `full` hold a page, any one that is not there yet.
-fn filled(random: &mut Random, sizes: Sizes, full: u32) -> Cache {
-    let mut r = Cache { sizes, ..Cache::blank() };
+fn filled(random: &mut Random, sizes: Sizes, full: u32) -> Numbers {
+    let mut r = Numbers::from(Cache { sizes, ..Cache::blank() });
     for j in 0..sizes.slots as usize {
         let n = random.below(sizes.blocks * sizes.pages_per_block);
         if random.below(100) < full && !r.directory.slots.contains(&n) {
@@ -107,7 +110,7 @@ fn agree(random: &mut Random) {
 // Every page that a chip can have, alone in its slot. The product alone gives its block, so that the search never steps to another.
 fn every_page() {
     for k in 2..=64 {
-        let mut r = Cache { sizes: sizes(k, 4096, 1), ..Cache::blank() };
+        let mut r = Numbers::from(Cache { sizes: sizes(k, 4096, 1), ..Cache::blank() });
         for n in 0..4096 * k {
             r.directory.slots[0] = n;
             assert_eq!(proved(r), Victim { block: n / k, pages: 1 });
@@ -118,7 +121,7 @@ fn every_page() {
 }
 
 // The time of one call in nanoseconds.
-fn batch(records: &[Cache], mut search: impl FnMut(&Cache) -> Victim) -> f64 {
+fn batch(records: &[Numbers], mut search: impl FnMut(&Numbers) -> Victim) -> f64 {
     let start = Instant::now();
     for _ in 0..8 {
         for r in records {
@@ -135,7 +138,7 @@ fn median(mut times: Vec<f64>) -> f64 {
 
 fn measure(random: &mut Random, pages_per_block: u32, blocks: u32, slots: u32) {
     let sizes = black_box(sizes(pages_per_block, blocks, slots));
-    let records: Vec<Cache> = (0..64).map(|_| filled(random, sizes, 100)).collect();
+    let records: Vec<Numbers> = (0..64).map(|_| filled(random, sizes, 100)).collect();
     let mut times = [vec![], vec![], vec![], vec![]];
     for _ in 0..1000 {
         times[0].push(batch(&records, |r| proved(*r)));

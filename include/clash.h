@@ -2,14 +2,18 @@
  *
  * A call takes the record by value and gives the next one with its answer; keep that one for the next call. The caller owns
  * all memory and lends it for the time of a call: a pointer and the number of elements, in the order
- * flash, wear, p-space, b-space. Buffers must not overlap. Nothing is kept of them between calls.
+ * flash, codes, marks, wear, p-space, b-space, shelf. Buffers must not overlap. Nothing is kept of them between calls.
  *
  *   flash    blocks * pages_per_block * page_size bytes, the chip
+ *   codes    0 bytes
+ *   marks    0 bytes
  *   wear     blocks numbers: how often each block was erased (aligned as uint32_t)
  *   pspace   slots * page_size bytes
  *   bspace   frames * pages_per_block * page_size bytes
+ *   shelf    0 bytes
  *   page     page_size bytes, for read, write and part
  *
+ * Codes, marks and shelf belong to options that no store has yet. A buffer of length 0 is lent with any pointer but NULL.
  * A buffer of another length is refused, and a refused call changes nothing: neither the record nor a byte lent. */
 #ifndef CLASH_H
 #define CLASH_H
@@ -21,13 +25,16 @@
 extern "C" {
 #endif
 
+/* Goes up when the record or a call takes another shape. Version 1 had neither options nor this number. */
+#define CLASH_VERSION 2
+
 /* No page, no block. */
 #define CLASH_VACANT 4294967295u
 
 /* Why a call is turned down; 0 is an accepted call. */
 enum {
     CLASH_ACCEPTED = 0,
-    CLASH_SIZE = 1,     /* open: a size or the wear limit is beyond its limits */
+    CLASH_SIZE = 1,     /* open: a size or the wear limit is beyond its limits, or an option is not 0 */
     CLASH_BUFFER = 2,   /* a lent buffer has another length than the sizes ask for; part: the bytes reach past the page */
     CLASH_OVERWORN = 3, /* open: a wear entry is above the wear limit */
     CLASH_RECORD = 4,   /* the record is not sound; the blank one is not */
@@ -44,16 +51,27 @@ typedef struct {
     uint32_t wear_limit;      /* 1 to 1,000,000 */
 } clash_sizes;
 
+/* What a store may have beside its sizes. No option is in force yet: each must be 0. */
+typedef struct {
+    uint32_t policy;      /* which frame is old: 0, the least recent */
+    uint32_t coded;       /* 0: pages have no codes */
+    uint32_t shelf_pages; /* 0: nothing is shelved */
+    uint32_t marked;      /* 0: pages have no marks */
+} clash_options;
+
 typedef struct {
     uint8_t recency[8];
     uint64_t valid[8];
+    uint32_t uses[8]; /* all 0 */
     uint32_t frames[8];
     uint32_t slots[128];
 } clash_directory;
 
-/* The cache record: 640 bytes. */
+/* The cache record: 720 bytes. */
 typedef struct {
     clash_sizes sizes;
+    clash_options options;
+    uint32_t entries[8]; /* of the shelf: all CLASH_VACANT */
     clash_directory directory;
 } clash_cache;
 
@@ -72,39 +90,49 @@ typedef struct {
     clash_answer answer;
 } clash_reply;
 
+#ifdef __cplusplus
+static_assert(sizeof(clash_cache) == 720 && sizeof(clash_reply) == 744, "the record and the reply have the archive's layout");
+#else
+_Static_assert(sizeof(clash_cache) == 720 && sizeof(clash_reply) == 744, "the record and the reply have the archive's layout");
+#endif
+
 /* Changes no buffer. A refused opening gives the blank record. */
-clash_reply clash_open(clash_sizes sizes,
-    const uint8_t *flash, size_t flash_bytes, const uint32_t *wear, size_t wear_count,
-    const uint8_t *pspace, size_t pspace_bytes, const uint8_t *bspace, size_t bspace_bytes);
+clash_reply clash_open(clash_sizes sizes, clash_options options,
+    const uint8_t *flash, size_t flash_bytes, const uint8_t *codes, size_t codes_bytes, const uint8_t *marks, size_t marks_bytes,
+    const uint32_t *wear, size_t wear_count, const uint8_t *pspace, size_t pspace_bytes, const uint8_t *bspace, size_t bspace_bytes,
+    const uint8_t *shelf, size_t shelf_bytes);
 
 /* Fills page with page n. */
 clash_reply clash_read(clash_cache cache,
-    const uint8_t *flash, size_t flash_bytes, const uint32_t *wear, size_t wear_count,
-    const uint8_t *pspace, size_t pspace_bytes, const uint8_t *bspace, size_t bspace_bytes,
-    uint32_t n, uint8_t *page, size_t page_bytes);
+    const uint8_t *flash, size_t flash_bytes, const uint8_t *codes, size_t codes_bytes, const uint8_t *marks, size_t marks_bytes,
+    const uint32_t *wear, size_t wear_count, const uint8_t *pspace, size_t pspace_bytes, const uint8_t *bspace, size_t bspace_bytes,
+    const uint8_t *shelf, size_t shelf_bytes, uint32_t n, uint8_t *page, size_t page_bytes);
 
 /* Stores page as page n. Refused 6 only where every frame holds a worn block; the one named is the least recent. */
 clash_reply clash_write(clash_cache cache,
-    uint8_t *flash, size_t flash_bytes, uint32_t *wear, size_t wear_count,
-    uint8_t *pspace, size_t pspace_bytes, uint8_t *bspace, size_t bspace_bytes,
-    uint32_t n, const uint8_t *page, size_t page_bytes);
+    uint8_t *flash, size_t flash_bytes, uint8_t *codes, size_t codes_bytes, uint8_t *marks, size_t marks_bytes,
+    uint32_t *wear, size_t wear_count, uint8_t *pspace, size_t pspace_bytes, uint8_t *bspace, size_t bspace_bytes,
+    uint8_t *shelf, size_t shelf_bytes, uint32_t n, const uint8_t *page, size_t page_bytes);
 
 /* Stores bytes in page n, from its byte first on, and fills page with the page that comes of it. Without bytes, and with first up to
  * page_size, it is accepted as way 0 and changes nothing; neither does a refused call, so that page is then as it was. */
 clash_reply clash_part(clash_cache cache,
-    uint8_t *flash, size_t flash_bytes, uint32_t *wear, size_t wear_count,
-    uint8_t *pspace, size_t pspace_bytes, uint8_t *bspace, size_t bspace_bytes,
-    uint32_t n, uint32_t first, const uint8_t *bytes, size_t byte_count, uint8_t *page, size_t page_bytes);
+    uint8_t *flash, size_t flash_bytes, uint8_t *codes, size_t codes_bytes, uint8_t *marks, size_t marks_bytes,
+    uint32_t *wear, size_t wear_count, uint8_t *pspace, size_t pspace_bytes, uint8_t *bspace, size_t bspace_bytes,
+    uint8_t *shelf, size_t shelf_bytes, uint32_t n, uint32_t first,
+    const uint8_t *bytes, size_t byte_count, uint8_t *page, size_t page_bytes);
 
 /* Rewrites one block that has pages cached. */
 clash_reply clash_step(clash_cache cache,
-    uint8_t *flash, size_t flash_bytes, uint32_t *wear, size_t wear_count,
-    const uint8_t *pspace, size_t pspace_bytes, uint8_t *bspace, size_t bspace_bytes);
+    uint8_t *flash, size_t flash_bytes, uint8_t *codes, size_t codes_bytes, uint8_t *marks, size_t marks_bytes,
+    uint32_t *wear, size_t wear_count, const uint8_t *pspace, size_t pspace_bytes, uint8_t *bspace, size_t bspace_bytes,
+    const uint8_t *shelf, size_t shelf_bytes);
 
 /* Rewrites every block that has pages cached, or none where one of them is worn. */
 clash_reply clash_flush(clash_cache cache,
-    uint8_t *flash, size_t flash_bytes, uint32_t *wear, size_t wear_count,
-    const uint8_t *pspace, size_t pspace_bytes, uint8_t *bspace, size_t bspace_bytes);
+    uint8_t *flash, size_t flash_bytes, uint8_t *codes, size_t codes_bytes, uint8_t *marks, size_t marks_bytes,
+    uint32_t *wear, size_t wear_count, const uint8_t *pspace, size_t pspace_bytes, uint8_t *bspace, size_t bspace_bytes,
+    const uint8_t *shelf, size_t shelf_bytes);
 
 #ifdef __cplusplus
 }

@@ -8,11 +8,13 @@
 enum { PAGE = 256, PER_BLOCK = 16, BLOCKS = 64, SLOTS = 32, FRAMES = 4, PAGES = PER_BLOCK * BLOCKS };
 
 static const clash_sizes sizes = { PAGE, PER_BLOCK, BLOCKS, SLOTS, FRAMES, 100000 };
-static uint8_t flash[PAGES * PAGE], pspace[SLOTS * PAGE], bspace[FRAMES * PER_BLOCK * PAGE];
+static const clash_options options = { 0, 0, 0, 0 };
+static uint8_t flash[PAGES * PAGE], pspace[SLOTS * PAGE], bspace[FRAMES * PER_BLOCK * PAGE], none[1];
 static uint32_t wear[BLOCKS];
 static clash_cache cache;
 
-#define LENT flash, sizeof flash, wear, BLOCKS, pspace, sizeof pspace, bspace, sizeof bspace
+/* A store without options has no codes, no marks and no shelf. */
+#define LENT flash, sizeof flash, none, 0, none, 0, wear, BLOCKS, pspace, sizeof pspace, bspace, sizeof bspace, none, 0
 
 static void stop(const char *what, unsigned number) {
     fprintf(stderr, "%s: refused %u\n", what, number);
@@ -54,7 +56,7 @@ int main(int argc, char **argv) {
     uint32_t run, n, erased = 0;
 
     memset(flash, 255, sizeof flash);
-    next(clash_open(sizes, LENT), "open");
+    next(clash_open(sizes, options, LENT), "open");
     for (run = 0; run < 3; run++)
         for (n = run; n < PAGES; n += 3 + run) {
             fill(page, n, run);
@@ -67,7 +69,7 @@ int main(int argc, char **argv) {
     memset(flash, 0, sizeof flash);
     memset(wear, 0, sizeof wear);
     load(image);
-    next(clash_open(sizes, LENT), "open again");
+    next(clash_open(sizes, options, LENT), "open again");
     for (n = 0; n < PAGES; n++) {
         memset(want, 255, PAGE);
         for (run = 0; run < 3; run++)

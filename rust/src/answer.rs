@@ -18,7 +18,7 @@ pub enum Answer {
 /// Why a call is turned down, by document 01's words.
 #[derive(Clone, Copy, Debug, PartialEq, Eq)]
 pub enum Refusal {
-    /// 1, opening: a size or the wear limit is beyond its limits
+    /// 1, opening: a size or the wear limit is beyond its limits, or an option is not 0
     Size,
     /// 2: a lent buffer has another length than the sizes ask for, or the bytes of a part write reach past the page
     Buffer,
@@ -50,7 +50,7 @@ impl Refusal {
 impl fmt::Display for Refusal {
     fn fmt(&self, out: &mut fmt::Formatter) -> fmt::Result {
         match self {
-            Refusal::Size => out.write_str("a size or the wear limit is beyond its limits"),
+            Refusal::Size => out.write_str("a size, the wear limit or an option is beyond its limits"),
             Refusal::Buffer => out.write_str("a lent buffer has another length than the sizes ask for"),
             Refusal::Overworn => out.write_str("a wear entry is above the wear limit"),
             Refusal::Record => out.write_str("the record is not sound"),

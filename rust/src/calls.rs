@@ -1,6 +1,6 @@
 //! The calls of the archive, as `include/clash.h` declares them. The one place with unsafe code: a slice crosses as its pointer
 //! and its length, and Rust's borrows say that the buffers do not overlap.
-use crate::{Answer, Buffers, Cache, Refusal, Sizes, VACANT};
+use crate::{Answer, Buffers, Cache, Options, Refusal, Sizes, VACANT};
 
 #[repr(C)]
 struct RawAnswer {
@@ -17,99 +17,99 @@ struct Reply {
     answer: RawAnswer,
 }
 
-const _: () = assert!(std::mem::size_of::<RawAnswer>() == 20 && std::mem::size_of::<Reply>() == 664);
+const _: () = assert!(std::mem::size_of::<RawAnswer>() == 20 && std::mem::size_of::<Reply>() == 744);
 
 #[rustfmt::skip]
 extern "C" {
     fn clash_open(
-        sizes: Sizes, flash: *const u8, flash_bytes: usize, wear: *const u32, wear_count: usize,
-        pspace: *const u8, pspace_bytes: usize, bspace: *const u8, bspace_bytes: usize,
+        sizes: Sizes, options: Options,
+        flash: *const u8, flash_bytes: usize, codes: *const u8, codes_bytes: usize, marks: *const u8, marks_bytes: usize,
+        wear: *const u32, wear_count: usize, pspace: *const u8, pspace_bytes: usize, bspace: *const u8, bspace_bytes: usize,
+        shelf: *const u8, shelf_bytes: usize,
     ) -> Reply;
     fn clash_read(
-        cache: Cache, flash: *const u8, flash_bytes: usize, wear: *const u32, wear_count: usize,
-        pspace: *const u8, pspace_bytes: usize, bspace: *const u8, bspace_bytes: usize,
-        n: u32, page: *mut u8, page_bytes: usize,
+        cache: Cache,
+        flash: *const u8, flash_bytes: usize, codes: *const u8, codes_bytes: usize, marks: *const u8, marks_bytes: usize,
+        wear: *const u32, wear_count: usize, pspace: *const u8, pspace_bytes: usize, bspace: *const u8, bspace_bytes: usize,
+        shelf: *const u8, shelf_bytes: usize, n: u32, page: *mut u8, page_bytes: usize,
     ) -> Reply;
     fn clash_write(
-        cache: Cache, flash: *mut u8, flash_bytes: usize, wear: *mut u32, wear_count: usize,
-        pspace: *mut u8, pspace_bytes: usize, bspace: *mut u8, bspace_bytes: usize,
-        n: u32, page: *const u8, page_bytes: usize,
+        cache: Cache,
+        flash: *mut u8, flash_bytes: usize, codes: *mut u8, codes_bytes: usize, marks: *mut u8, marks_bytes: usize,
+        wear: *mut u32, wear_count: usize, pspace: *mut u8, pspace_bytes: usize, bspace: *mut u8, bspace_bytes: usize,
+        shelf: *mut u8, shelf_bytes: usize, n: u32, page: *const u8, page_bytes: usize,
     ) -> Reply;
     fn clash_part(
-        cache: Cache, flash: *mut u8, flash_bytes: usize, wear: *mut u32, wear_count: usize,
-        pspace: *mut u8, pspace_bytes: usize, bspace: *mut u8, bspace_bytes: usize,
-        n: u32, first: u32, bytes: *const u8, byte_count: usize, page: *mut u8, page_bytes: usize,
+        cache: Cache,
+        flash: *mut u8, flash_bytes: usize, codes: *mut u8, codes_bytes: usize, marks: *mut u8, marks_bytes: usize,
+        wear: *mut u32, wear_count: usize, pspace: *mut u8, pspace_bytes: usize, bspace: *mut u8, bspace_bytes: usize,
+        shelf: *mut u8, shelf_bytes: usize, n: u32, first: u32, bytes: *const u8, byte_count: usize, page: *mut u8, page_bytes: usize,
     ) -> Reply;
     fn clash_step(
-        cache: Cache, flash: *mut u8, flash_bytes: usize, wear: *mut u32, wear_count: usize,
-        pspace: *const u8, pspace_bytes: usize, bspace: *mut u8, bspace_bytes: usize,
+        cache: Cache,
+        flash: *mut u8, flash_bytes: usize, codes: *mut u8, codes_bytes: usize, marks: *mut u8, marks_bytes: usize,
+        wear: *mut u32, wear_count: usize, pspace: *const u8, pspace_bytes: usize, bspace: *mut u8, bspace_bytes: usize,
+        shelf: *const u8, shelf_bytes: usize,
     ) -> Reply;
     fn clash_flush(
-        cache: Cache, flash: *mut u8, flash_bytes: usize, wear: *mut u32, wear_count: usize,
-        pspace: *const u8, pspace_bytes: usize, bspace: *mut u8, bspace_bytes: usize,
+        cache: Cache,
+        flash: *mut u8, flash_bytes: usize, codes: *mut u8, codes_bytes: usize, marks: *mut u8, marks_bytes: usize,
+        wear: *mut u32, wear_count: usize, pspace: *const u8, pspace_bytes: usize, bspace: *mut u8, bspace_bytes: usize,
+        shelf: *const u8, shelf_bytes: usize,
     ) -> Reply;
 }
 
-/// The calls on the record itself, with whatever is lent: nothing is asserted, and what does not fit is refused.
+/// Calls a function of the archive: what stands before the buffers, each buffer's pointer and length, and what stands after them.
 #[rustfmt::skip]
-impl Cache {
-    pub fn open(sizes: Sizes, lent: &Buffers) -> Result<Cache, Refusal> {
-        let reply = unsafe {
-            clash_open(
-                sizes, lent.flash.as_ptr(), lent.flash.len(), lent.wear.as_ptr(), lent.wear.len(),
-                lent.pspace.as_ptr(), lent.pspace.len(), lent.bspace.as_ptr(), lent.bspace.len(),
+macro_rules! call {
+    ($function:ident($($before:expr),*; $lent:ident.$pointer:ident; $($after:expr),*)) => {
+        unsafe {
+            $function(
+                $($before,)*
+                $lent.flash.$pointer(), $lent.flash.len(),
+                $lent.codes.$pointer(), $lent.codes.len(),
+                $lent.marks.$pointer(), $lent.marks.len(),
+                $lent.wear.$pointer(), $lent.wear.len(),
+                $lent.pspace.$pointer(), $lent.pspace.len(),
+                $lent.bspace.$pointer(), $lent.bspace.len(),
+                $lent.shelf.$pointer(), $lent.shelf.len(),
+                $($after),*
             )
-        };
+        }
+    };
+}
+
+/// The calls on the record itself, with whatever is lent: nothing is asserted, and what does not fit is refused.
+impl Cache {
+    pub fn open(sizes: Sizes, options: Options, lent: &Buffers) -> Result<Cache, Refusal> {
+        let reply = call!(clash_open(sizes, options; lent.as_ptr;));
         accepted(&reply.answer)?;
         Ok(reply.cache)
     }
 
     /// Fills `page` with page `n`.
     pub fn read(&mut self, lent: &Buffers, n: u32, page: &mut [u8]) -> Result<Answer, Refusal> {
-        let reply = unsafe {
-            clash_read(
-                *self, lent.flash.as_ptr(), lent.flash.len(), lent.wear.as_ptr(), lent.wear.len(),
-                lent.pspace.as_ptr(), lent.pspace.len(), lent.bspace.as_ptr(), lent.bspace.len(),
-                n, page.as_mut_ptr(), page.len(),
-            )
-        };
+        let reply = call!(clash_read(*self; lent.as_ptr; n, page.as_mut_ptr(), page.len()));
         let a = self.next(&reply)?;
         Ok(Answer::Read { way: a.way })
     }
 
     /// Stores `page` as page `n`. Refused as worn only where every frame holds a worn block.
     pub fn write(&mut self, lent: &mut Buffers, n: u32, page: &[u8]) -> Result<Answer, Refusal> {
-        let reply = unsafe {
-            clash_write(
-                *self, lent.flash.as_mut_ptr(), lent.flash.len(), lent.wear.as_mut_ptr(), lent.wear.len(),
-                lent.pspace.as_mut_ptr(), lent.pspace.len(), lent.bspace.as_mut_ptr(), lent.bspace.len(),
-                n, page.as_ptr(), page.len(),
-            )
-        };
+        let reply = call!(clash_write(*self; lent.as_mut_ptr; n, page.as_ptr(), page.len()));
         Ok(written(self.next(&reply)?))
     }
 
     /// Stores `bytes` in page `n`, from its byte `first` on, and fills `page` with the page that comes of it. Without bytes nothing is
     /// read or changed.
     pub fn part(&mut self, lent: &mut Buffers, n: u32, first: u32, bytes: &[u8], page: &mut [u8]) -> Result<Answer, Refusal> {
-        let reply = unsafe {
-            clash_part(
-                *self, lent.flash.as_mut_ptr(), lent.flash.len(), lent.wear.as_mut_ptr(), lent.wear.len(),
-                lent.pspace.as_mut_ptr(), lent.pspace.len(), lent.bspace.as_mut_ptr(), lent.bspace.len(),
-                n, first, bytes.as_ptr(), bytes.len(), page.as_mut_ptr(), page.len(),
-            )
-        };
+        let reply = call!(clash_part(*self; lent.as_mut_ptr; n, first, bytes.as_ptr(), bytes.len(), page.as_mut_ptr(), page.len()));
         Ok(written(self.next(&reply)?))
     }
 
     /// Rewrites one block that has pages cached.
     pub fn step(&mut self, lent: &mut Buffers) -> Result<Answer, Refusal> {
-        let reply = unsafe {
-            clash_step(
-                *self, lent.flash.as_mut_ptr(), lent.flash.len(), lent.wear.as_mut_ptr(), lent.wear.len(),
-                lent.pspace.as_ptr(), lent.pspace.len(), lent.bspace.as_mut_ptr(), lent.bspace.len(),
-            )
-        };
+        let reply = call!(clash_step(*self; lent.as_mut_ptr;));
         let a = self.next(&reply)?;
         if a.rewrites == 0 {
             return Ok(Answer::Clean);
@@ -119,12 +119,7 @@ impl Cache {
 
     /// Rewrites every block that has pages cached, or none where one of them is worn.
     pub fn flush(&mut self, lent: &mut Buffers) -> Result<Answer, Refusal> {
-        let reply = unsafe {
-            clash_flush(
-                *self, lent.flash.as_mut_ptr(), lent.flash.len(), lent.wear.as_mut_ptr(), lent.wear.len(),
-                lent.pspace.as_ptr(), lent.pspace.len(), lent.bspace.as_mut_ptr(), lent.bspace.len(),
-            )
-        };
+        let reply = call!(clash_flush(*self; lent.as_mut_ptr;));
         let a = self.next(&reply)?;
         Ok(Answer::Flush { rewrites: a.rewrites, merged: a.merged })
     }

@@ -7,12 +7,12 @@
 //! the program. In release builds, and always in the calls of the record itself ([`Cache`]), the store's own refusal 2 says so.
 //!
 //! ```
-//! use clash::{Answer, Memory, Sizes, Store};
+//! use clash::{Answer, Memory, Options, Sizes, Store};
 //!
 //! // 256 bytes a page, 16 pages a block, 64 blocks, 32 slots, 4 frames, at most 100,000 erasures of a block
 //! let sizes = Sizes::from([256, 16, 64, 32, 4, 100_000]);
 //! let mut memory = Memory::new(&sizes);
-//! let mut store = Store::open(sizes, &memory.lend())?;
+//! let mut store = Store::open(sizes, Options::default(), &memory.lend())?;
 //! let mut page = [7; 256];
 //! store.write(&mut memory.lend(), 5, &page)?;
 //! assert_eq!(store.read(&memory.lend(), 5, &mut page)?, Answer::Read { way: 1 });
@@ -27,5 +27,5 @@ mod store;
 
 pub use answer::{Answer, Refusal};
 pub use memory::{Buffers, Memory};
-pub use record::{Cache, Directory, Sizes, VACANT};
+pub use record::{Cache, Directory, Options, Sizes, VACANT};
 pub use store::Store;

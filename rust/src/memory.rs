@@ -1,21 +1,42 @@
 use crate::Sizes;
 
-/// The buffers of a store, lent for the time of a call.
+/// The buffers of a store, lent for the time of a call. Codes, marks and shelf belong to options that no store has yet, and are empty.
+///
+/// ```
+/// use clash::{Buffers, Options, Sizes, Store};
+///
+/// // a byte a page, 2 pages a block, 3 blocks, 2 slots, 1 frame
+/// let (mut flash, mut wear, mut pspace, mut bspace) = ([255; 6], [0; 3], [0; 2], [0; 2]);
+/// let mut lent =
+///     Buffers { flash: &mut flash, wear: &mut wear, pspace: &mut pspace, bspace: &mut bspace, ..Default::default() };
+/// let mut store = Store::open(Sizes::from([1, 2, 3, 2, 1, 9]), Options::default(), &lent)?;
+/// store.write(&mut lent, 3, &[10])?;
+/// store.flush(&mut lent)?;
+/// assert_eq!(flash, [255, 255, 255, 10, 255, 255]);
+/// # Ok::<(), clash::Refusal>(())
+/// ```
+#[derive(Default)]
 pub struct Buffers<'a> {
     pub flash: &'a mut [u8],
+    pub codes: &'a mut [u8],
+    pub marks: &'a mut [u8],
     /// how often each block was erased
     pub wear: &'a mut [u32],
     pub pspace: &'a mut [u8],
     pub bspace: &'a mut [u8],
+    pub shelf: &'a mut [u8],
 }
 
 impl Buffers<'_> {
-    /// Whether each has the length that the sizes ask for.
+    /// Whether each has the length that the sizes ask for, of a store without options.
     pub fn fit(&self, sizes: &Sizes) -> bool {
         self.flash.len() == sizes.flash_len()
             && self.wear.len() == sizes.wear_len()
             && self.pspace.len() == sizes.pspace_len()
             && self.bspace.len() == sizes.bspace_len()
+            && self.codes.is_empty()
+            && self.marks.is_empty()
+            && self.shelf.is_empty()
     }
 }
 
@@ -23,23 +44,35 @@ impl Buffers<'_> {
 #[derive(Clone, Debug, Default, PartialEq, Eq)]
 pub struct Memory {
     pub flash: Vec<u8>,
+    pub codes: Vec<u8>,
+    pub marks: Vec<u8>,
     pub wear: Vec<u32>,
     pub pspace: Vec<u8>,
     pub bspace: Vec<u8>,
+    pub shelf: Vec<u8>,
 }
 
 impl Memory {
-    /// A new chip of these sizes: flash bytes 255 and no wear.
+    /// A new chip of these sizes for a store without options: flash bytes 255 and no wear.
     pub fn new(sizes: &Sizes) -> Memory {
         Memory {
             flash: vec![255; sizes.flash_len()],
             wear: vec![0; sizes.wear_len()],
             pspace: vec![0; sizes.pspace_len()],
             bspace: vec![0; sizes.bspace_len()],
+            ..Memory::default()
         }
     }
 
     pub fn lend(&mut self) -> Buffers<'_> {
-        Buffers { flash: &mut self.flash, wear: &mut self.wear, pspace: &mut self.pspace, bspace: &mut self.bspace }
+        Buffers {
+            flash: &mut self.flash,
+            codes: &mut self.codes,
+            marks: &mut self.marks,
+            wear: &mut self.wear,
+            pspace: &mut self.pspace,
+            bspace: &mut self.bspace,
+            shelf: &mut self.shelf,
+        }
     }
 }

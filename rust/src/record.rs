@@ -19,6 +19,20 @@ pub struct Sizes {
     pub wear_limit: u32,
 }
 
+/// What an opening may set beside the sizes. No option is in force yet: each must be 0, as the default has it.
+#[repr(C)]
+#[derive(Clone, Copy, Debug, Default, PartialEq, Eq)]
+pub struct Options {
+    /// which frame is old: 0, the least recent
+    pub policy: u32,
+    /// 0: pages have no codes
+    pub coded: u32,
+    /// 0: nothing is shelved
+    pub shelf_pages: u32,
+    /// 0: pages have no marks
+    pub marked: u32,
+}
+
 /// What stands where. Slots are document 01's places.
 #[repr(C)]
 #[derive(Clone, Copy, Debug, PartialEq, Eq)]
@@ -27,6 +41,8 @@ pub struct Directory {
     pub recency: [u8; 8],
     /// the valid pages of each frame, bit i for offset i
     pub valid: [u64; 8],
+    /// the uses of each frame: all 0, since no policy counts them yet
+    pub uses: [u32; 8],
     /// a block number or [`VACANT`] for each frame
     pub frames: [u32; 8],
     /// a page number or [`VACANT`] for each slot
@@ -38,10 +54,13 @@ pub struct Directory {
 #[derive(Clone, Copy, Debug, PartialEq, Eq)]
 pub struct Cache {
     pub sizes: Sizes,
+    pub options: Options,
+    /// the page numbers of the shelf: all [`VACANT`], since no store has one yet
+    pub entries: [u32; 8],
     pub directory: Directory,
 }
 
-const _: () = assert!(std::mem::size_of::<Cache>() == 640 && std::mem::align_of::<Cache>() == 8);
+const _: () = assert!(std::mem::size_of::<Cache>() == 720 && std::mem::align_of::<Cache>() == 8);
 
 /// Document 01's S, K, N, P, B, W.
 impl From<[u32; 6]> for Sizes {
@@ -91,11 +110,26 @@ impl Sizes {
     }
 }
 
+/// Policy, coded, shelf pages and marked, in document 02's order.
+impl From<[u32; 4]> for Options {
+    fn from([policy, coded, shelf_pages, marked]: [u32; 4]) -> Options {
+        Options { policy, coded, shelf_pages, marked }
+    }
+}
+
+impl Options {
+    /// Whether each is one that an opening takes.
+    pub fn in_limits(&self) -> bool {
+        *self == Options::default()
+    }
+}
+
 impl Cache {
     /// The record before any opening: each call on it is refused 4.
     pub fn blank() -> Cache {
         let sizes = Sizes::from([0; 6]);
-        let directory = Directory { recency: [0, 1, 2, 3, 4, 5, 6, 7], valid: [0; 8], frames: [VACANT; 8], slots: [VACANT; 128] };
-        Cache { sizes, directory }
+        let recency = [0, 1, 2, 3, 4, 5, 6, 7];
+        let directory = Directory { recency, valid: [0; 8], uses: [0; 8], frames: [VACANT; 8], slots: [VACANT; 128] };
+        Cache { sizes, options: Options::default(), entries: [VACANT; 8], directory }
     }
 }

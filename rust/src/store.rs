@@ -1,4 +1,4 @@
-use crate::{Answer, Buffers, Cache, Refusal, Sizes};
+use crate::{Answer, Buffers, Cache, Options, Refusal, Sizes};
 
 /// An open store. It keeps the record; the buffers are the caller's and are lent to each call.
 #[derive(Clone, Debug, PartialEq, Eq)]
@@ -7,10 +7,11 @@ pub struct Store {
 }
 
 impl Store {
-    /// Opens a store of these sizes on the buffers lent. Changes no buffer.
-    pub fn open(sizes: Sizes, lent: &Buffers) -> Result<Store, Refusal> {
-        debug_assert!(!sizes.in_limits() || lent.fit(&sizes), "a lent buffer has another length than {sizes:?} ask for");
-        let cache = Cache::open(sizes, lent)?;
+    /// Opens a store of these sizes and options on the buffers lent. Changes no buffer.
+    pub fn open(sizes: Sizes, options: Options, lent: &Buffers) -> Result<Store, Refusal> {
+        let in_limits = sizes.in_limits() && options.in_limits();
+        debug_assert!(!in_limits || lent.fit(&sizes), "a lent buffer has another length than {sizes:?} ask for");
+        let cache = Cache::open(sizes, options, lent)?;
         Ok(Store { cache })
     }
 

@@ -1,5 +1,5 @@
 //! Random histories beside an array of pages: each read gives the page last accepted, and a flush leaves flash equal to the array.
-use clash::{Answer, Memory, Refusal, Sizes, Store, VACANT};
+use clash::{Answer, Memory, Options, Refusal, Sizes, Store, VACANT};
 
 struct Random(u64);
 
@@ -35,7 +35,7 @@ fn bench(random: &mut Random) -> Bench {
     let mut memory = Memory::new(&sizes);
     memory.flash = random.bytes(sizes.flash_len());
     let array = memory.flash.chunks(sizes.page_size as usize).map(<[u8]>::to_vec).collect();
-    let store = Store::open(sizes, &memory.lend()).unwrap();
+    let store = Store::open(sizes, Options::default(), &memory.lend()).unwrap();
     Bench { sizes, store, memory, array, erasures: 0, worn: 0 }
 }
 

@@ -1,5 +1,5 @@
 //! Part writes: each way, with what is left in the page buffer (P7 of document 01, two bytes a page).
-use clash::{Answer, Cache, Memory, Sizes};
+use clash::{Answer, Cache, Memory, Options, Sizes};
 
 struct Bench {
     cache: Cache,
@@ -9,7 +9,7 @@ struct Bench {
 fn bench() -> Bench {
     let sizes = Sizes::from([2, 4, 3, 3, 1, 9]);
     let mut memory = Memory::new(&sizes);
-    let cache = Cache::open(sizes, &memory.lend()).unwrap();
+    let cache = Cache::open(sizes, Options::default(), &memory.lend()).unwrap();
     Bench { cache, memory }
 }
 

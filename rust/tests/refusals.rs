@@ -1,12 +1,12 @@
 //! Each refusal of document 01, and that it changes nothing. Wrong lengths go through the record's own calls, which assert nothing.
-use clash::{Answer, Cache, Memory, Refusal, Sizes, Store};
+use clash::{Answer, Cache, Memory, Options, Refusal, Sizes, Store, VACANT};
 
 const SIZES: [u32; 6] = [2, 4, 3, 3, 1, 9];
 
 fn opened() -> (Cache, Memory) {
     let sizes = Sizes::from(SIZES);
     let mut memory = Memory::new(&sizes);
-    let cache = Cache::open(sizes, &memory.lend()).unwrap();
+    let cache = Cache::open(sizes, Options::default(), &memory.lend()).unwrap();
     (cache, memory)
 }
 
@@ -43,15 +43,36 @@ fn size() {
         for wrong in [low - 1, high + 1, u32::MAX] {
             let mut sizes = SIZES;
             sizes[i] = wrong;
-            assert_eq!(Store::open(Sizes::from(sizes), &Memory::default().lend()), Err(Refusal::Size));
+            assert_eq!(Store::open(Sizes::from(sizes), Options::default(), &Memory::default().lend()), Err(Refusal::Size));
         }
         for right in [low, high] {
             let mut sizes = SIZES;
             sizes[i] = right;
             let sizes = Sizes::from(sizes);
-            assert!(Store::open(sizes, &Memory::new(&sizes).lend()).is_ok());
+            assert!(Store::open(sizes, Options::default(), &Memory::new(&sizes).lend()).is_ok());
         }
     }
+}
+
+/// No option is in force: each other than 0 is refused, whatever is lent.
+#[test]
+fn option() {
+    let sizes = Sizes::from([256, 4, 3, 3, 1, 9]);
+    for i in 0..4 {
+        for wrong in [1, 2, 8, u32::MAX] {
+            let mut options = [0; 4];
+            options[i] = wrong;
+            let mut memory = Memory::new(&sizes);
+            assert_eq!(Store::open(sizes, Options::from(options), &memory.lend()), Err(Refusal::Size));
+            (memory.codes, memory.marks, memory.shelf) = (vec![255; 36], vec![0; 12], vec![0; 256]);
+            assert_eq!(Store::open(sizes, Options::from(options), &memory.lend()), Err(Refusal::Size));
+            assert_eq!(Store::open(sizes, Options::from(options), &Memory::default().lend()), Err(Refusal::Size));
+        }
+    }
+    let options = Options::default();
+    assert_eq!(options, Options { policy: 0, coded: 0, shelf_pages: 0, marked: 0 });
+    let store = Store::open(sizes, options, &Memory::new(&sizes).lend()).unwrap();
+    assert_eq!(*store.record(), Cache { sizes, ..Cache::blank() });
 }
 
 #[test]
@@ -59,10 +80,20 @@ fn buffer() {
     let shorten: [fn(&mut Memory); 4] =
         [|m| m.flash.truncate(23), |m| m.wear.truncate(2), |m| m.pspace.truncate(5), |m| m.bspace.truncate(7)];
     let lengthen: [fn(&mut Memory); 4] = [|m| m.flash.push(0), |m| m.wear.push(0), |m| m.pspace.push(0), |m| m.bspace.push(0)];
-    for spoil in shorten.into_iter().chain(lengthen) {
+    let of_options: [fn(&mut Memory); 6] = [
+        |m| m.codes.push(0),
+        |m| m.marks.push(0),
+        |m| m.shelf.push(0),
+        |m| m.codes = vec![255; 3],
+        |m| m.marks = vec![0; 12],
+        |m| m.shelf = vec![0; 2],
+    ];
+    for spoil in shorten.into_iter().chain(lengthen).chain(of_options) {
         let (cache, mut memory) = filled();
         spoil(&mut memory);
-        assert_eq!(Cache::open(Sizes::from(SIZES), &memory.lend()), Err(Refusal::Buffer));
+        let before = memory.clone();
+        assert_eq!(Cache::open(Sizes::from(SIZES), Options::default(), &memory.lend()), Err(Refusal::Buffer));
+        assert_eq!(memory, before);
         all_refused(cache, memory, 0, 2, Refusal::Buffer);
     }
     for len in [0, 1, 3, 4096] {
@@ -87,9 +118,9 @@ fn bytes_past_the_page() {
 fn overworn() {
     let (_, mut memory) = opened();
     memory.wear[2] = 9;
-    assert!(Store::open(Sizes::from(SIZES), &memory.lend()).is_ok());
+    assert!(Store::open(Sizes::from(SIZES), Options::default(), &memory.lend()).is_ok());
     memory.wear[2] = 10;
-    assert_eq!(Store::open(Sizes::from(SIZES), &memory.lend()), Err(Refusal::Overworn));
+    assert_eq!(Store::open(Sizes::from(SIZES), Options::default(), &memory.lend()), Err(Refusal::Overworn));
 }
 
 #[test]
@@ -113,6 +144,49 @@ fn record() {
         let (mut cache, memory) = filled();
         spoil(&mut cache);
         all_refused(cache, memory, 0, 2, Refusal::Record);
+    }
+}
+
+/// What the options add to a record: each option is 0, each use count 0 and each entry of the shelf vacant.
+#[test]
+fn record_of_options() {
+    let options: [fn(&mut Cache) -> &mut u32; 4] =
+        [|c| &mut c.options.policy, |c| &mut c.options.coded, |c| &mut c.options.shelf_pages, |c| &mut c.options.marked];
+    for option in options {
+        for wrong in [1, 2, 8, u32::MAX] {
+            let (mut cache, memory) = filled();
+            *option(&mut cache) = wrong;
+            all_refused(cache, memory, 0, 2, Refusal::Record);
+        }
+    }
+    for i in 0..8 {
+        for wrong in [1, VACANT] {
+            let (mut cache, memory) = filled();
+            cache.directory.uses[i] = wrong;
+            all_refused(cache, memory, 0, 2, Refusal::Record);
+        }
+        for wrong in [0, 11, 12, VACANT - 1] {
+            let (mut cache, memory) = filled();
+            cache.entries[i] = wrong;
+            all_refused(cache, memory, 0, 2, Refusal::Record);
+        }
+    }
+}
+
+/// A record that is not sound goes before a buffer that does not fit, and that before a page that is not there.
+#[test]
+fn order_of_the_checks() {
+    let lengthen: [fn(&mut Memory); 3] = [|m| m.codes.push(0), |m| m.marks.push(0), |m| m.shelf.push(0)];
+    let spoils: [fn(&mut Cache); 3] = [|c| c.entries[7] = 0, |c| c.directory.slots[0] = 12, |c| c.options.marked = 1];
+    for lengthen in lengthen {
+        let (cache, mut memory) = filled();
+        lengthen(&mut memory);
+        all_refused(cache, memory.clone(), 12, 2, Refusal::Buffer);
+        for spoil in spoils {
+            let mut cache = cache;
+            spoil(&mut cache);
+            all_refused(cache, memory.clone(), 12, 2, Refusal::Record);
+        }
     }
 }
 
@@ -151,7 +225,7 @@ fn three_frames(wear: [u32; 6]) -> (Cache, Memory) {
     let sizes = Sizes::from([1, 2, 6, 2, 3, 9]);
     let mut memory = Memory::new(&sizes);
     memory.wear = wear.to_vec();
-    let mut cache = Cache::open(sizes, &memory.lend()).unwrap();
+    let mut cache = Cache::open(sizes, Options::default(), &memory.lend()).unwrap();
     for n in [10, 4, 2, 0, 8] {
         cache.write(&mut memory.lend(), n, &[n as u8]).unwrap();
     }
@@ -195,8 +269,17 @@ mod debug_builds_assert {
     #[should_panic(expected = "a lent buffer has another length")]
     fn lent_buffers() {
         let (_, mut memory) = opened();
-        let mut store = Store::open(Sizes::from(SIZES), &memory.lend()).unwrap();
+        let mut store = Store::open(Sizes::from(SIZES), Options::default(), &memory.lend()).unwrap();
         memory.pspace.push(0);
+        let _ = store.step(&mut memory.lend());
+    }
+
+    #[test]
+    #[should_panic(expected = "a lent buffer has another length")]
+    fn buffers_of_options() {
+        let (_, mut memory) = opened();
+        let mut store = Store::open(Sizes::from(SIZES), Options::default(), &memory.lend()).unwrap();
+        memory.marks.push(0);
         let _ = store.step(&mut memory.lend());
     }
 
@@ -204,7 +287,7 @@ mod debug_builds_assert {
     #[should_panic(expected = "the page buffer has another length")]
     fn the_page() {
         let (_, mut memory) = opened();
-        let mut store = Store::open(Sizes::from(SIZES), &memory.lend()).unwrap();
+        let mut store = Store::open(Sizes::from(SIZES), Options::default(), &memory.lend()).unwrap();
         let _ = store.write(&mut memory.lend(), 0, &[1]);
     }
 }
@@ -213,6 +296,6 @@ mod debug_builds_assert {
 #[test]
 fn release_builds_refuse() {
     let (_, mut memory) = opened();
-    let mut store = Store::open(Sizes::from(SIZES), &memory.lend()).unwrap();
+    let mut store = Store::open(Sizes::from(SIZES), Options::default(), &memory.lend()).unwrap();
     assert_eq!(store.write(&mut memory.lend(), 0, &[1]), Err(Refusal::Buffer));
 }

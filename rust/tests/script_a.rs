@@ -1,11 +1,11 @@
 //! Script A of document 01, call by call.
-use clash::{Answer, Memory, Refusal, Sizes, Store};
+use clash::{Answer, Memory, Options, Refusal, Sizes, Store};
 
 #[test]
 fn script_a() {
     let sizes = Sizes::from([1, 2, 3, 2, 1, 9]);
     let mut memory = Memory::new(&sizes);
-    let mut store = Store::open(sizes, &memory.lend()).unwrap();
+    let mut store = Store::open(sizes, Options::default(), &memory.lend()).unwrap();
     let mut write = |n, byte| store.write(&mut memory.lend(), n, &[byte]).unwrap();
     assert_eq!(write(0, 10), Answer::Write { way: 3, erased: None, merged: 0 });
     assert_eq!(write(2, 20), Answer::Write { way: 3, erased: None, merged: 0 });

@@ -1,5 +1,5 @@
 //! Each way of a read and of a write, and a step, with the record that it leaves (histories P4 to P7 of document 01).
-use clash::{Answer, Memory, Sizes, Store, VACANT};
+use clash::{Answer, Memory, Options, Sizes, Store, VACANT};
 
 struct Bench {
     store: Store,
@@ -9,7 +9,7 @@ struct Bench {
 fn bench() -> Bench {
     let sizes = Sizes::from([1, 4, 3, 3, 1, 9]);
     let mut memory = Memory::new(&sizes);
-    let store = Store::open(sizes, &memory.lend()).unwrap();
+    let store = Store::open(sizes, Options::default(), &memory.lend()).unwrap();
     Bench { store, memory }
 }
 

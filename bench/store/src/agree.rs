@@ -1,10 +1,11 @@
 //! Both stores on the same random histories: after each call the answers, the records, all buffers and the page must be equal. Some
-//! calls get a record with an entry spoilt, a buffer of another length or a page that is not there.
+//! openings get a size or an option that is refused, some calls a record with an entry spoilt, a buffer of another length or a page that
+//! is not there.
 use crate::plain::Plain;
 use crate::random::Random;
-use clash::{Answer, Cache, Memory, Refusal, Sizes};
+use clash::{Answer, Cache, Memory, Options, Refusal, Sizes, VACANT};
 
-const HISTORIES: u32 = 800;
+const HISTORIES: u32 = 1000;
 const CALLS: u32 = 400;
 
 /// One store with all that it is lent.
@@ -59,17 +60,13 @@ fn history(random: &mut Random, tally: &mut Tally) {
 fn opened(random: &mut Random, tally: &mut Tally) -> Option<Side> {
     let limit = 1 + random.below(60);
     let mut sizes = [1 + random.below(20), 2 + random.below(8), 1 + random.below(10), 1 + random.below(12), 1 + random.below(4), limit];
+    let mut options = [0; 4];
     let mut memory = Memory::new(&Sizes::from(sizes));
     memory.flash = random.bytes(memory.flash.len());
-    match random.below(6) {
-        0 => sizes[random.below(6) as usize] = random.of(&[0, 1, 9, 65, 129, 2049, 4097, 1_000_001, u32::MAX]),
-        1 => memory.wear[0] = limit + random.below(2),
-        2 => memory.wear.iter_mut().for_each(|worn| *worn = random.below(limit + 1)),
-        _ => {}
-    }
-    let sizes = Sizes::from(sizes);
-    let cache = Cache::open(sizes, &memory.lend());
-    assert_eq!(cache, Plain::open(sizes, &memory.lend()).map(|plain| plain.0));
+    spoil_opening(random, &mut sizes, &mut options, &mut memory);
+    let (sizes, options) = (Sizes::from(sizes), Options::from(options));
+    let cache = Cache::open(sizes, options, &memory.lend());
+    assert_eq!(cache, Plain::open(sizes, options, &memory.lend()).map(|plain| plain.0));
     tally.calls += 1;
     match cache {
         Ok(cache) => Some(Side { cache, memory, page: random.bytes(sizes.page_size as usize) }),
@@ -80,20 +77,51 @@ fn opened(random: &mut Random, tally: &mut Tally) -> Option<Side> {
     }
 }
 
+/// Perhaps a size or an option is another, blocks have been erased, or a buffer is lent that only an option asks for.
+fn spoil_opening(random: &mut Random, sizes: &mut [u32; 6], options: &mut [u32; 4], m: &mut Memory) {
+    let limit = sizes[5];
+    match random.below(6) {
+        0 => sizes[random.below(6) as usize] = random.of(&[0, 1, 9, 65, 129, 2049, 4097, 1_000_001, u32::MAX]),
+        1 => m.wear[0] = limit + random.below(2),
+        2 => m.wear.iter_mut().for_each(|worn| *worn = random.below(limit + 1)),
+        _ => {}
+    }
+    match random.below(16) {
+        0 => options[random.below(4) as usize] = random.of(&[0, 1, 2, 8, u32::MAX]),
+        1 => of_an_option(random, m).push(0),
+        _ => {}
+    }
+}
+
+fn of_an_option<'a>(random: &mut Random, m: &'a mut Memory) -> &'a mut Vec<u8> {
+    match random.below(3) {
+        0 => &mut m.codes,
+        1 => &mut m.marks,
+        _ => &mut m.shelf,
+    }
+}
+
 fn spoil(random: &mut Random, side: &mut Side) {
     let (d, m, f) = (&mut side.cache.directory, &mut side.memory, random.below(8) as usize);
-    match random.below(12) {
+    match random.below(19) {
         0 => d.slots[random.below(128) as usize] = random.below(100),
         1 => d.slots[random.below(12) as usize] = d.slots[random.below(12) as usize],
         2 => d.frames[f] = random.below(12),
         3 => d.valid[f] ^= 1 << random.below(64),
         4 => d.recency.swap(f, random.below(8) as usize),
-        5 => side.cache.sizes.pages_per_block += 1,
-        6 => side.cache.sizes.slots = random.below(140),
-        7 => m.flash.push(0),
-        8 => m.wear.push(0),
-        9 => m.pspace.push(0),
-        10 => m.bspace.push(0),
+        5 => d.uses[f] = random.below(3),
+        6 => side.cache.entries[f] = random.of(&[0, 5, VACANT - 1, VACANT]),
+        7 => side.cache.sizes.pages_per_block += 1,
+        8 => side.cache.sizes.slots = random.below(140),
+        9 => side.cache.options.policy = random.below(4),
+        10 => side.cache.options.coded = random.below(3),
+        11 => side.cache.options.shelf_pages = random.below(10),
+        12 => side.cache.options.marked = random.below(3),
+        13 => m.flash.push(0),
+        14 => m.wear.push(0),
+        15 => m.pspace.push(0),
+        16 => m.bspace.push(0),
+        17 => of_an_option(random, m).push(0),
         _ => side.page.push(0),
     }
 }

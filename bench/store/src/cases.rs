@@ -1,7 +1,7 @@
 //! The calls to time: records taken from a long random history of writes, each with a page for which the call goes the way wanted.
 use crate::plain::Plain;
 use crate::random::Random;
-use clash::{Answer, Cache, Memory, Sizes, VACANT};
+use clash::{Answer, Cache, Memory, Options, Sizes, VACANT};
 
 /// So many for each way.
 pub const CASES: usize = 32;
@@ -33,7 +33,7 @@ pub fn cases(random: &mut Random, sizes: Sizes) -> Cases {
 fn writes(random: &mut Random, sizes: Sizes) -> [Vec<Case>; 7] {
     let small = Sizes { page_size: 1, ..sizes };
     let mut memory = Memory::new(&small);
-    let mut store = Plain::open(small, &memory.lend()).expect("sizes within limits");
+    let mut store = Plain::open(small, Options::default(), &memory.lend()).expect("sizes within limits");
     let mut hot: Vec<u32> = (0..2 * sizes.frames + 8).map(|_| random.below(sizes.blocks)).collect();
     let mut found: [Vec<Case>; 7] = Default::default();
     for i in 0.. {

@@ -2,12 +2,13 @@
 //! sides in turn on the same records and buffers. Medians.
 mod agree;
 mod cases;
+mod numbers;
 mod plain;
 mod random;
 mod rows;
 mod timing;
 
-use clash::Sizes;
+use clash::{Cache, Directory, Options, Sizes};
 use random::Random;
 use rows::{Bench, Row};
 

@@ -1,5 +1,6 @@
 //! The rows of the table: which call is timed on which cases.
 use crate::cases::{cases, Case, Cases, CASES};
+use crate::numbers::Numbers;
 use crate::plain::Plain;
 use crate::random::Random;
 use crate::timing::{measure, Sides, Times};
@@ -47,8 +48,8 @@ impl Lent {
     }
 
     fn parts(&mut self) -> (Buffers<'_>, &mut [u8]) {
-        let buffers = Buffers { flash: self.flash.part(), wear: &mut self.wear, pspace: self.pspace.part(), bspace: self.bspace.part() };
-        (buffers, self.page.part())
+        let (flash, pspace, bspace) = (self.flash.part(), self.pspace.part(), self.bspace.part());
+        (Buffers { flash, wear: &mut self.wear, pspace, bspace, ..Default::default() }, self.page.part())
     }
 
     /// Each buffer starts at some multiple of 16 bytes, as memory from an allocator does.
@@ -70,12 +71,12 @@ type Calls = Sides<Lent, Result<Answer, Refusal>>;
 const TIME: Duration = Duration::from_secs(1);
 
 extern "C" {
-    fn record_sound(cache: Cache) -> bool;
+    fn record_sound(r: Numbers) -> bool;
 }
 
-const SOUND: Sides<Lent, bool> = Sides {
+const SOUND: Sides<Lent, bool, Numbers> = Sides {
     idle: |_| (),
-    proved: |c, _, _| unsafe { record_sound(*c) },
+    proved: |r, _, _| unsafe { record_sound(*r) },
     plain: |c, _, _| c.sound(),
     by_value: |c, _, _| c.sound_by_value(),
 };

@@ -14,17 +14,21 @@ pub struct Times {
     pub by_value: f64,
 }
 
-/// One call on each side, and what is done for a call on every side alike.
-pub struct Sides<L, T> {
+/// One call on each side, and what is done for a call on every side alike. The proved call takes what it needs of a record.
+pub struct Sides<L, T, R = Cache> {
     pub idle: fn(&mut L),
-    pub proved: fn(&mut Cache, u32, &mut L) -> T,
+    pub proved: fn(&mut R, u32, &mut L) -> T,
     pub plain: fn(&mut Plain, u32, &mut L) -> T,
     pub by_value: fn(&mut Plain, u32, &mut L) -> T,
 }
 
 /// Passes over the cases, the sides in turn, until the time is up and each side has gone first from each depth of the stack as often as
 /// the others. What is lent is placed anew before each turn. What a pass without calls takes, lending included, is subtracted.
-pub fn measure<L, T>(cases: &[Case], lent: &mut L, time: Duration, place: fn(&mut L), sides: &Sides<L, T>) -> Times {
+pub fn measure<L, T, R>(cases: &[Case], lent: &mut L, time: Duration, place: fn(&mut L), sides: &Sides<L, T, R>) -> Times
+where
+    R: Copy + From<Cache>,
+{
+    let proved: Vec<Case<R>> = cases.iter().map(|case| Case { record: R::from(case.record), n: case.n }).collect();
     let plain: Vec<Case<Plain>> = cases.iter().map(|case| Case { record: Plain(case.record), n: case.n }).collect();
     let mut times: [Vec<f64>; 4] = Default::default();
     let start = Instant::now();
@@ -35,7 +39,7 @@ pub fn measure<L, T>(cases: &[Case], lent: &mut L, time: Duration, place: fn(&mu
         place(lent);
         for side in [turn % 3, (turn + 1) % 3, (turn + 2) % 3, IDLE] {
             times[side].push(deeper(turn % DEPTHS, &mut || match side {
-                0 => pass(cases, lent, sides.proved),
+                0 => pass(&proved, lent, sides.proved),
                 1 => pass(&plain, lent, sides.plain),
                 2 => pass(&plain, lent, sides.by_value),
                 _ => pass(cases, lent, |_, _, lent| (sides.idle)(lent)),

@@ -30,11 +30,12 @@ pub extern "C" fn lists_sound(
     frames: &[u32; 8],
     valid: &[u64; 8],
     recency: &[u8; 8],
+    uses: &[u32; 8],
 ) -> bool
-    requires { ⌜ Shape (numbers (now slots) (now frames) (now valid) (now recency)) ⌝ }
+    requires { ⌜ Shape (numbers (now slots) (now frames) (now valid) (now recency) (now uses)) ⌝ }
     ensures { λ s. ⌜ (
-        let d = numbers (now (slots .entry)) (now (frames .entry)) (now (valid .entry)) (now (recency .entry)) in
+        let d = numbers (now (slots .entry)) (now (frames .entry)) (now (valid .entry)) (now (recency .entry)) (now (uses .entry)) in
         s ≡ sound (sizesOf sizes) d) ⌝ }
 {
-    sound::lists_sound(sizes, slots, frames, valid, recency)
+    sound::lists_sound(sizes, slots, frames, valid, recency, uses)
 }

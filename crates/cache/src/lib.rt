@@ -13,7 +13,7 @@ ghost use Rattle.cache.specs.View.{sizesOf, directoryOf};
 // What stands in a slot or a frame that holds nothing.
 pub const VACANT: u32 = 4294967295;
 
-// The five sizes and the wear limit that an opening sets.
+// What an opening sets: the five sizes, the wear limit, and the options. A store without an option has 0 there.
 #[repr(C)]
 pub struct Sizes {
     pub page_size: u32,
@@ -22,6 +22,14 @@ pub struct Sizes {
     pub slots: u32,
     pub frames: u32,
     pub wear_limit: u32,
+    // the block policy (request A5)
+    pub policy: u32,
+    // 1 where pages have codes (request A6)
+    pub coded: u32,
+    // the number of shelf pages (request A8)
+    pub shelf_pages: u32,
+    // 1 where pages have marks (request A12)
+    pub marked: u32,
 }
 
 impl Sizes {
@@ -36,10 +44,14 @@ impl Sizes {
             slots: 0,
             frames: 0,
             wear_limit: 0,
+            policy: 0,
+            coded: 0,
+            shelf_pages: 0,
+            marked: 0,
         }
     }
 
-    // Whether each size and the wear limit are within their limits.
+    // Whether each size and the wear limit are within their limits, and no option is set: none is in force yet.
     pub fn ok(self) -> bool
         ensures { λ r. ⌜ r ≡ sizesOk (sizesOf self) ⌝ }
     {
@@ -55,16 +67,21 @@ impl Sizes {
             & (self.frames <= 8)
             & (1 <= self.wear_limit)
             & (self.wear_limit <= 1000000)
+            & (self.policy == 0)
+            & (self.coded == 0)
+            & (self.shelf_pages == 0)
+            & (self.marked == 0)
     }
 }
 
-// The frames by their use (document 01's order of use), least recent first, the valid pages of each frame, a block number or
-// VACANT for each frame, and a page number or VACANT for each slot (document 01's place). The short lists stand first: the
-// compiler then builds a record where it is handed back, without a copy of its own.
+// The frames by their use (document 01's order of use), least recent first, the valid pages of each frame, its uses (request A5),
+// a block number or VACANT for each frame, and a page number or VACANT for each slot (document 01's place). The short lists stand
+// first: the compiler then builds a record where it is handed back, without a copy of its own.
 #[repr(C)]
 pub struct Directory {
     pub recency: [u8; 8],
     pub valid: [u64; 8],
+    pub uses: [u32; 8],
     pub frames: [BlockNo; 8],
     pub slots: [PageNo; 128],
 }
@@ -77,6 +94,7 @@ impl Directory {
         Directory {
             recency: [0, 1, 2, 3, 4, 5, 6, 7],
             valid: [0u64; 8],
+            uses: [0u32; 8],
             frames: [BlockNo(VACANT); 8],
             slots: [PageNo(VACANT); 128],
         }

@@ -10,4 +10,4 @@ storeWith z d u = record { cache = record { sizes = sizesOf z; directory = d }; 
 
 -- the answer, the store left and the page buffer
 abbrev pub resultWith : Answer → Sizes → Directory → Buffers → Page → Result
-resultWith a z d u page = record { answer = a; store = storeWith z d u; page = page }
+resultWith a z d u page = record { answer = a; mends = 0; store = storeWith z d u; page = page }

@@ -8,6 +8,7 @@ ghost use mathlib.Core.Path.{_≡_};
 ghost use mathlib.Core.List.{[]};
 ghost use Rattle.model.specs.Policy.{leastRecent};
 ghost use Rattle.model.specs.Soundness.{Shape};
+ghost use Rattle.model.specs.Formats.{storeFormat};
 ghost use Rattle.model.specs.Calls.{step, flush, call};
 ghost use Rattle.cache.specs.View.{numbers};
 ghost use Rattle.answer.specs.Numbers.{stepOf, flushOf};
@@ -21,23 +22,36 @@ pub fn step(
     frames: &mut [u32; 8],
     valid: &mut [u64; 8],
     recency: &[u8; 8],
+    uses: &mut [u32; 8],
     flash: &mut [u8],
+    codes: &mut [u8],
+    marks: &mut [u8],
     wear: &mut [u32],
     pspace: &[u8],
     bspace: &mut [u8],
 ) -> Step
-    requires { ⌜ Shape (numbers (now slots) (now frames) (now valid) (now recency)) ⌝ }
+    requires { ⌜ Shape (numbers (now slots) (now frames) (now valid) (now recency) (now uses)) ⌝ }
     ensures { λ r. ⌜ (
-        let d = numbers (now (slots .entry)) (now (frames .entry)) (now (valid .entry)) (now (recency .entry)) in
-        let u = buffers (now (flash .entry)) (now (wear .entry)) (now (pspace .entry)) (now (bspace .entry)) in
-        let d′ = numbers (now (slots .exit)) (now (frames .exit)) (now (valid .exit)) (now (recency .entry)) in
-        let u′ = buffers (now (flash .exit)) (now (wear .exit)) (now (pspace .entry)) (now (bspace .exit)) in
-        resultWith (stepOf r) z d′ u′ [] ≡ call leastRecent (storeWith z d u) step) ⌝ }
+        let d = numbers (now (slots .entry)) (now (frames .entry)) (now (valid .entry)) (now (recency .entry)) (now (uses .entry)) in
+        let u = buffers (now (flash .entry)) (now (codes .entry)) (now (marks .entry))
+        (now (wear .entry)) (now (pspace .entry)) (now (bspace .entry)) in
+        let d′ = numbers (now (slots .exit)) (now (frames .exit)) (now (valid .exit)) (now (recency .entry)) (now (uses .exit)) in
+        let u′ = buffers (now (flash .exit)) (now (codes .exit)) (now (marks .exit))
+        (now (wear .exit)) (now (pspace .entry)) (now (bspace .exit)) in
+        resultWith (stepOf r) z d′ u′ [] ≡ call storeFormat leastRecent (storeWith z d u) step) ⌝ }
 {
-    if !lists_sound(z, slots, frames, valid, recency) {
+    if !lists_sound(z, slots, frames, valid, recency, uses) {
         return Step::Refused(Refusal::Record);
     }
-    if !lent::lengths_ok(z, flash.len(), wear.len(), pspace.len(), bspace.len()) {
+    if !lent::lengths_ok(
+        z,
+        flash.len(),
+        codes.len(),
+        marks.len(),
+        wear.len(),
+        pspace.len(),
+        bspace.len(),
+    ) {
         return Step::Refused(Refusal::Buffer);
     }
     flushes::step(
@@ -46,7 +60,10 @@ pub fn step(
         frames,
         valid,
         recency,
+        uses,
         flash,
+        codes,
+        marks,
         wear,
         pspace,
         bspace,
@@ -60,23 +77,36 @@ pub fn flush(
     frames: &mut [u32; 8],
     valid: &mut [u64; 8],
     recency: &[u8; 8],
+    uses: &mut [u32; 8],
     flash: &mut [u8],
+    codes: &mut [u8],
+    marks: &mut [u8],
     wear: &mut [u32],
     pspace: &[u8],
     bspace: &mut [u8],
 ) -> Flush
-    requires { ⌜ Shape (numbers (now slots) (now frames) (now valid) (now recency)) ⌝ }
+    requires { ⌜ Shape (numbers (now slots) (now frames) (now valid) (now recency) (now uses)) ⌝ }
     ensures { λ r. ⌜ (
-        let d = numbers (now (slots .entry)) (now (frames .entry)) (now (valid .entry)) (now (recency .entry)) in
-        let u = buffers (now (flash .entry)) (now (wear .entry)) (now (pspace .entry)) (now (bspace .entry)) in
-        let d′ = numbers (now (slots .exit)) (now (frames .exit)) (now (valid .exit)) (now (recency .entry)) in
-        let u′ = buffers (now (flash .exit)) (now (wear .exit)) (now (pspace .entry)) (now (bspace .exit)) in
-        resultWith (flushOf r) z d′ u′ [] ≡ call leastRecent (storeWith z d u) flush) ⌝ }
+        let d = numbers (now (slots .entry)) (now (frames .entry)) (now (valid .entry)) (now (recency .entry)) (now (uses .entry)) in
+        let u = buffers (now (flash .entry)) (now (codes .entry)) (now (marks .entry))
+        (now (wear .entry)) (now (pspace .entry)) (now (bspace .entry)) in
+        let d′ = numbers (now (slots .exit)) (now (frames .exit)) (now (valid .exit)) (now (recency .entry)) (now (uses .exit)) in
+        let u′ = buffers (now (flash .exit)) (now (codes .exit)) (now (marks .exit))
+        (now (wear .exit)) (now (pspace .entry)) (now (bspace .exit)) in
+        resultWith (flushOf r) z d′ u′ [] ≡ call storeFormat leastRecent (storeWith z d u) flush) ⌝ }
 {
-    if !lists_sound(z, slots, frames, valid, recency) {
+    if !lists_sound(z, slots, frames, valid, recency, uses) {
         return Flush::Refused(Refusal::Record);
     }
-    if !lent::lengths_ok(z, flash.len(), wear.len(), pspace.len(), bspace.len()) {
+    if !lent::lengths_ok(
+        z,
+        flash.len(),
+        codes.len(),
+        marks.len(),
+        wear.len(),
+        pspace.len(),
+        bspace.len(),
+    ) {
         return Flush::Refused(Refusal::Buffer);
     }
     flushes::flush(
@@ -85,7 +115,10 @@ pub fn flush(
         frames,
         valid,
         recency,
+        uses,
         flash,
+        codes,
+        marks,
         wear,
         pspace,
         bspace,

@@ -6,7 +6,7 @@ use Prim.Native.Nat.{ℕ, _+_, _-_, _*_, _≤_, _<_, _^_}
 use native.Mathlib.Omega.{arith}
 use lib.ListN.{length, take, drop, length-append, length-drop}
 use lib.Seq.{length-take-le, take-at, drop-at, drop-drop}
-use Rattle.model.specs.Calls.{Buffers}
+use Rattle.store.specs.View.{Lent}
 use Rattle.print.specs.Print.{lineRoom}
 use Rattle.interpret.specs.Lines.{rest, outputOf}
 use Rattle.interpret.specs.View.{Memory}
@@ -15,7 +15,7 @@ use Rattle.walk.specs.declared.Walk.{Walk}
 use Rattle.walk.proofs.Onward.{rest-none}
 
 -- before each part
-pub record Running (script : List ℕ) (w : Walk) (done : ℕ) (m : Buffers) (page out : List ℕ) : Type 0 where
+pub record Running (script : List ℕ) (w : Walk) (done : ℕ) (m : Lent) (page out : List ℕ) : Type 0 where
   pub memory : Memory m page
   pub out-length : length out ≡ 49152
   pub ready : Ready script w out
@@ -25,8 +25,8 @@ pub record Running (script : List ℕ) (w : Walk) (done : ℕ) (m : Buffers) (pa
   pub bound : done ≤ 49152 * w .at
   pub first : (done ≡ 0) ⊎ (w .at < length script)
 
-module _ (script : List ℕ) (w : Walk) (done : ℕ) (m : Buffers) (page out : List ℕ) (h : Running script w done m page out) (r : Walk)
-    (m′ : Buffers) (out′ : List ℕ) (o : Onward script w m out r m′ out′) where
+module _ (script : List ℕ) (w : Walk) (done : ℕ) (m : Lent) (page out : List ℕ) (h : Running script w done m page out) (r : Walk)
+    (m′ : Lent) (out′ : List ℕ) (o : Onward script w m out r m′ out′) where
   abbrev after : List ℕ
   after = rest script (inUse r m′) (r .at) (r .number)
 

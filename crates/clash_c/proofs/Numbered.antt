@@ -1,16 +1,23 @@
 -- Refusal 0 in the numbers of an answer is an accepted call: no refusal of the model has the number 0.
-use mathlib.Core.Path.{_≡_, refl}
-use mathlib.Core.Bool.{false}
+use mathlib.Core.Path.{_≡_, refl, ap}
+use mathlib.Core.Bool.{false, not, _&&_}
+use mathlib.Core.List.{List}
 use Prim.Native.Nat.{ℕ, suc, _+_, _*_}
 use native.Mathlib.Omega.{arith}
 use lib.Dec.{leb, ltb, eqb}
-use lib.ListN.{getD}
+use lib.ListN.{length, getD}
+use borrow.Author.Tests.{eqb-false}
 use Rattle.prelude.specs.Scan.{all}
 use Rattle.prelude.proofs.Tests.{by-test}
-use Rattle.model.specs.Sizes.{Sizes, sizesOk}
+use Rattle.model.specs.Sizes.{Sizes, vacant, sizesOk}
 use Rattle.model.specs.Policy.{Choice, Plan, erasedBy, Due, clean, due, dueOf, isWorn, lowestWorn}
-use Rattle.model.specs.Calls.{Answer, openDone, isRefused, Call, read, write, part, step, flush, State, Outcome, checked, readOutcome}
-use Rattle.model.specs.Calls.{writeOutcome, partOutcome, stepOutcome, flushOutcome, decide, Buffers, lentOk, openStore}
+use Rattle.model.specs.Calls.{Answer, openDone, readDone, writeDone, stepDone, stepClean, flushDone, refused, isRefused, Call, read}
+use Rattle.model.specs.Calls.{write, part, step, flush, State, Outcome, checked, readOutcome}
+use Rattle.model.specs.Calls.{writeOutcome, partOutcome, stepOutcome, flushOutcome, decide, Buffers, lentOk, openStore, heeding}
+use Rattle.model.specs.Calls.{Page, told}
+use Rattle.model.specs.Formats.{storeFormat}
+use Rattle.model.specs.Lists.{addedCause}
+use Rattle.model.specs.Shelf.{plainly, ShelfReference, shelfBookSays, openShelf, storeOpen}
 use Rattle.replies.specs.Numbers.{numbersOf}
 
 -- the number says whether the call is refused
@@ -57,10 +64,45 @@ module _ (sz : Sizes) (k : State) where
   decide-numbered pick step = step-numbered (dueOf pick sz (k .directory))
   decide-numbered pick flush = flush-numbered pick
 
-pub opening-numbered : (sz : Sizes) (u : Buffers) → numbersOf (openStore sz u .answer) .refusal ≡ 0 → openStore sz u .answer ≡ openDone
+pub heeding-numbered : (k : State) (late : ℕ) (o : Outcome) → Numbered (o .answer) → Numbered (heeding k late o .answer)
+unfolding heeding
+heeding-numbered k late o g = by-test (isRefused (o .answer)) (λ e. rw (e, heeding) g)
+    (λ e. rw (e, heeding) (by-test (eqb late 0) (λ t. rw t g) (λ t. rw t (λ q. absurd (eqb-false late 0 t q)))))
+
+-- what the book says of a call of the store below
+pub book-numbered : (sz : Sizes) (h : ℕ) (r : ShelfReference) (pick : Choice) (c : Call Page) (a : Answer)
+    → Numbered (shelfBookSays sz h r (record { choice = pick; call = plainly c }) a .answer)
+unfolding shelfBookSays
+book-numbered sz h r pick c a = heeding-numbered (r .reference .book) (addedCause a) _
+    (decide-numbered sz (r .reference .book) pick (told c))
+
+-- the number of a refusal tells the book as much as the answer
+told-same : (a : Answer) → addedCause (refused (numbersOf a .refusal) vacant) ≡ addedCause a
+told-same openDone = refl
+told-same (readDone way) = refl
+told-same (writeDone way b m) = refl
+told-same (stepDone b m) = refl
+told-same stepClean = refl
+told-same (flushDone r m) = refl
+told-same (refused n b) = refl
+
+pub said-same : (sz : Sizes) (h : ℕ) (r : ShelfReference) (pick : Choice) (c : Call Page) (a : Answer)
+    → shelfBookSays sz h r (record { choice = pick; call = plainly c }) (refused (numbersOf a .refusal) vacant)
+    ≡ shelfBookSays sz h r (record { choice = pick; call = plainly c }) a
+unfolding shelfBookSays
+said-same sz h r pick c a = ap (λ (n : ℕ). heeding (r .reference .book) n (decide pick sz (r .reference .book) (told c))) (told-same a)
+
+below-numbered : (sz : Sizes) (u : Buffers) → numbersOf (openStore storeFormat sz u .answer) .refusal ≡ 0
+    → openStore storeFormat sz u .answer ≡ openDone
 unfolding openStore
-opening-numbered sz u = by-test (sizesOk sz)
-    (λ e. rw (e, openStore) (by-test (lentOk sz u)
+below-numbered sz u = by-test (sizesOk sz)
+    (λ e. rw (e, openStore) (by-test (lentOk storeFormat sz u)
     (λ e′. rw e′ (by-test (all (sz .N) (λ b. leb (getD (u .wear) b 0) (sz .W))) (λ e″. rw e″ (λ q. refl)) (λ e″. rw e″ (not-0 2))))
     (λ e′. rw e′ (not-0 1))))
     (λ e. rw (e, openStore) (not-0 0))
+
+pub opening-numbered : (sz : Sizes) (u : Buffers) (shelf : List ℕ) → numbersOf (storeOpen sz u shelf .answer) .refusal ≡ 0
+    → storeOpen sz u shelf .answer ≡ openDone
+unfolding openShelf
+opening-numbered sz u shelf = by-test (sizesOk sz && not (eqb (length shelf) (sz .shelfPages * sz .S)))
+    (λ e. rw (e, openShelf) (not-0 1)) (λ e. rw (e, openShelf) (below-numbered sz u))

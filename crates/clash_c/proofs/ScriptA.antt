@@ -1,17 +1,18 @@
 -- Demand 3 for C on document 01's script A: the store's calls with their answers in numbers are calls for C, and as contracted.
-use mathlib.Core.Path.{refl, ap}
+use mathlib.Core.Path.{_≡_, refl, ap, subst}
 use mathlib.Core.List.{List, [], _∷_}
-use Rattle.model.specs.Calls.{Answer, Buffers, openDone}
-use Rattle.model.specs.Lists.{opened}
+use Rattle.model.specs.Calls.{Answer, openDone}
 use Rattle.cache.specs.View.{sizesOf}
 use Rattle.answer.specs.Numbers.{readOf, writeOf, stepOf, flushOf}
 use Rattle.replies.specs.Numbers.{numbersOf}
 use Rattle.store.specs.declared.Cache.{Cache}
+use Rattle.store.specs.View.{Lent}
 use Rattle.store.specs.Histories as store
-use Rattle.store.proofs.ScriptA.{sizes, lent, opening, calls, accepted, as-contracted}
+use Rattle.store.proofs.ScriptA.{sizes, lentA, opening, turns, accepted, accepted-answer, as-contracted}
+use Rattle.store.proofs.Demand3.{codes-match}
 use Rattle.clash_c.specs.declared.Reply.{Reply}
 use Rattle.clash_c.specs.Replies.{openedInNumbers, inNumbers}
-use Rattle.clash_c.specs.Histories.{Made, read, write, part, step, flush, AsContracted, Claim}
+use Rattle.clash_c.specs.Histories.{Made, read, write, part, step, flush, replyOf, lentAfter, Contract, Turn, AsContracted, Claim}
 use Rattle.clash_c.proofs.Demand3.{demand-3}
 
 abbrev reply : Cache → Answer → Reply
@@ -22,23 +23,47 @@ abbrev forC : store.Made → Made
 forC (store.read n page out page′) = read (n .0) page (reply (out .cache) (readOf (out .answer))) page′
 forC (store.write n page out u′) = write (n .0) page (reply (out .cache) (writeOf (out .answer))) u′
 forC (store.part n first x page out u′ page′) = part (n .0) first x page (reply (out .cache) (writeOf (out .answer))) u′ page′
-forC (store.step out flash′ wear′ bspace′) = step (reply (out .cache) (stepOf (out .answer))) flash′ wear′ bspace′
-forC (store.flush out flash′ wear′ bspace′) = flush (reply (out .cache) (flushOf (out .answer))) flash′ wear′ bspace′
+forC (store.step out flash′ codes′ marks′ wear′ bspace′) = step (reply (out .cache) (stepOf
+    (out .answer))) flash′ codes′ marks′ wear′ bspace′
+forC (store.flush out flash′ codes′ marks′ wear′ bspace′) = flush (reply (out .cache) (flushOf
+    (out .answer))) flash′ codes′ marks′ wear′ bspace′
 
-abbrev allForC : List store.Made → List Made
+abbrev allForC : List store.Turn → List Turn
 allForC [] = []
-allForC (m ∷ ms) = forC m ∷ allForC ms
+allForC (t ∷ ts) = record { flash = t .flash; codes = t .codes; made = forC (t .made) } ∷ allForC ts
 
 -- as contracted for the store, as contracted for C
-contracted : (c : Cache) (u : Buffers) (ms : List store.Made) → store.AsContracted c u ms → AsContracted c u (allForC ms)
+forC-contracted : (c : Cache) (u : Lent) (m : store.Made) → store.Contract c u m → Contract c u (forC m)
+forC-contracted c u (store.read n page out page′) h = ap inNumbers h
+forC-contracted c u (store.write n page out u′) h = ap inNumbers h
+forC-contracted c u (store.part n first x page out u′ page′) h = ap inNumbers h
+forC-contracted c u (store.step out flash′ codes′ marks′ wear′ bspace′) h = ap inNumbers h
+forC-contracted c u (store.flush out flash′ codes′ marks′ wear′ bspace′) h = ap inNumbers h
+
+cache-same : (m : store.Made) → store.cacheAfter m ≡ replyOf (forC m) .cache
+cache-same (store.read n page out page′) = refl
+cache-same (store.write n page out u′) = refl
+cache-same (store.part n first x page out u′ page′) = refl
+cache-same (store.step out flash′ codes′ marks′ wear′ bspace′) = refl
+cache-same (store.flush out flash′ codes′ marks′ wear′ bspace′) = refl
+
+lent-same : (u : Lent) (m : store.Made) → store.lentAfter u m ≡ lentAfter u (forC m)
+lent-same u (store.read n page out page′) = refl
+lent-same u (store.write n page out u′) = refl
+lent-same u (store.part n first x page out u′ page′) = refl
+lent-same u (store.step out flash′ codes′ marks′ wear′ bspace′) = refl
+lent-same u (store.flush out flash′ codes′ marks′ wear′ bspace′) = refl
+
+contracted : (c : Cache) (u : Lent) (ts : List store.Turn) → store.AsContracted c u ts → AsContracted c u (allForC ts)
 contracted c u [] h = tt
-contracted c u (store.read n page out page′ ∷ ms) h = (ap inNumbers (h .0), contracted _ _ ms (h .1))
-contracted c u (store.write n page out u′ ∷ ms) h = (ap inNumbers (h .0), contracted _ _ ms (h .1))
-contracted c u (store.part n first x page out u′ page′ ∷ ms) h = (ap inNumbers (h .0), contracted _ _ ms (h .1))
-contracted c u (store.step out flash′ wear′ bspace′ ∷ ms) h = (ap inNumbers (h .0), contracted _ _ ms (h .1))
-contracted c u (store.flush out flash′ wear′ bspace′ ∷ ms) h = (ap inNumbers (h .0), contracted _ _ ms (h .1))
+contracted c u (t ∷ ts) h = let v : Lent = store.lentTo u t in (
+  forC-contracted c v (t .made) (h .0),
+  contracted _ _ ts
+      (subst (λ (d : Cache). store.AsContracted d (lentAfter v (forC (t .made))) ts) (cache-same (t .made))
+      (subst (λ (w : Lent). store.AsContracted (store.cacheAfter (t .made)) w ts) (lent-same v (t .made)) (h .1))),
+)
 
 -- what demand 3 says of script A's calls for C
-pub claim : Claim (sizesOf sizes) lent (opening .cache) lent (opened (sizesOf sizes) lent) (allForC calls)
-claim = demand-3 sizes lent (reply (opening .cache) openDone) (ap openedInNumbers accepted) refl (allForC calls)
-    (contracted (opening .cache) lent calls as-contracted)
+pub claim : Claim (sizesOf sizes) lentA (opening .cache) lentA (store.begun (sizesOf sizes) lentA) (allForC turns)
+claim = demand-3 sizes lentA (reply (opening .cache) openDone) (ap openedInNumbers accepted) refl
+    (codes-match (sizesOf sizes) lentA accepted-answer) (allForC turns) (contracted (opening .cache) lentA turns as-contracted)

@@ -6,93 +6,135 @@ use Prim.Native.Nat.{ℕ}
 use lib.ListN.{getD}
 use Rattle.prelude.specs.Pages.{laid}
 use Rattle.model.specs.Sizes as model
+use Rattle.model.specs.Sizes.{vacant}
 use Rattle.model.specs.Policy.{leastRecent}
 use Rattle.model.specs.Calls as calls
-use Rattle.model.specs.Calls.{Call, Page, Buffers, noBytes, call, openStore}
-use Rattle.model.specs.Lists.{Chosen, Reference, bookSays, fed, opened, After}
+use Rattle.model.specs.Calls.{Call, Page, Outcome, refused, noBytes, flashCells}
+use Rattle.model.specs.Formats.{storeFormat, StoreNear}
+use Rattle.model.specs.Lists.{After}
+use Rattle.model.specs.Shelf.{plainly, ShelfReference, ShelfChosen, storeOpen, storeCall, shelfBookSays, shelfFed}
 use Rattle.cache.specs.declared.Sizes.{Sizes}
 use Rattle.cache.specs.View.{sizesOf}
-use Rattle.answer.specs.Carried.{buffers}
 use Rattle.replies.specs.Numbers.{numbersOf}
 use Rattle.store.specs.declared.Cache.{Cache}
-use Rattle.store.specs.View.{storeOf}
+use Rattle.store.specs.View.{Lent, lent, storeOf}
+use Rattle.store.specs.Histories.{flippedTo, StillNear, CodesMatch, begun}
+use Rattle.clash_c.specs.declared.Options.{Options}
+use Rattle.clash_c.specs.declared.PlainSizes.{PlainSizes}
 use Rattle.clash_c.specs.declared.Reply.{Reply}
 use Rattle.clash_c.specs.Replies.{openedReply, openedInNumbers, replied, inNumbers}
+
+-- the sizes with their options
+abbrev pub withOptions : PlainSizes → Options → Sizes
+withOptions s o = record {
+  «page_size» = s .«page_size»;
+  «pages_per_block» = s .«pages_per_block»;
+  blocks = s .blocks;
+  slots = s .slots;
+  frames = s .frames;
+  «wear_limit» = s .«wear_limit»;
+  policy = o .policy;
+  coded = o .coded;
+  «shelf_pages» = o .«shelf_pages»;
+  marked = o .marked;
+}
 
 -- a call with its arguments, its reply, and those of the buffers lent to it as `&mut`, as it left them
 pub data Made : Type 0 where
   read : ℕ → Page → Reply → Page → Made
-  write : ℕ → Page → Reply → Buffers → Made
-  part : ℕ → ℕ → Page → Page → Reply → Buffers → Page → Made
-  step : Reply → List ℕ → List ℕ → List ℕ → Made
-  flush : Reply → List ℕ → List ℕ → List ℕ → Made
+  write : ℕ → Page → Reply → Lent → Made
+  part : ℕ → ℕ → Page → Page → Reply → Lent → Page → Made
+  step : Reply → List ℕ → List ℕ → List ℕ → List ℕ → List ℕ → Made
+  flush : Reply → List ℕ → List ℕ → List ℕ → List ℕ → List ℕ → Made
 
 -- the call, as the model has it
 abbrev pub callOf : Made → Call Page
 callOf (read n page r page′) = calls.read n page
 callOf (write n page r u′) = calls.write n page
 callOf (part n first x page r u′ page′) = calls.part n first x page
-callOf (step r flash′ wear′ bspace′) = calls.step
-callOf (flush r flash′ wear′ bspace′) = calls.flush
+callOf (step r flash′ codes′ marks′ wear′ bspace′) = calls.step
+callOf (flush r flash′ codes′ marks′ wear′ bspace′) = calls.flush
 
 abbrev pub replyOf : Made → Reply
 replyOf (read n page r page′) = r
 replyOf (write n page r u′) = r
 replyOf (part n first x page r u′ page′) = r
-replyOf (step r flash′ wear′ bspace′) = r
-replyOf (flush r flash′ wear′ bspace′) = r
+replyOf (step r flash′ codes′ marks′ wear′ bspace′) = r
+replyOf (flush r flash′ codes′ marks′ wear′ bspace′) = r
 
 -- the buffers after a call that was lent the buffers u
-abbrev pub buffersAfter : Buffers → Made → Buffers
-buffersAfter u (read n page r page′) = u
-buffersAfter u (write n page r u′) = u′
-buffersAfter u (part n first x page r u′ page′) = u′
-buffersAfter u (step r flash′ wear′ bspace′) = buffers flash′ wear′ (u .pspace) bspace′
-buffersAfter u (flush r flash′ wear′ bspace′) = buffers flash′ wear′ (u .pspace) bspace′
+abbrev pub lentAfter : Lent → Made → Lent
+lentAfter u (read n page r page′) = u
+lentAfter u (write n page r u′) = u′
+lentAfter u (part n first x page r u′ page′) = u′
+lentAfter u (step r flash′ codes′ marks′ wear′ bspace′) = lent flash′ codes′ marks′ wear′ (u .below .pspace) bspace′ (u .shelf)
+lentAfter u (flush r flash′ codes′ marks′ wear′ bspace′) = lent flash′ codes′ marks′ wear′ (u .below .pspace) bspace′ (u .shelf)
 
 -- the page buffer after the call; a step and a flush are lent none
 abbrev pub pageAfter : Made → Page
 pageAfter (read n page r page′) = page′
 pageAfter (write n page r u′) = page
 pageAfter (part n first x page r u′ page′) = page′
-pageAfter (step r flash′ wear′ bspace′) = []
-pageAfter (flush r flash′ wear′ bspace′) = []
+pageAfter (step r flash′ codes′ marks′ wear′ bspace′) = []
+pageAfter (flush r flash′ codes′ marks′ wear′ bspace′) = []
 
 -- the contract of a call, on record c and buffers u: this is the `ensures` of `clash_read`, `clash_write`, `clash_part`, `clash_step` and
 -- `clash_flush`
-abbrev pub Contract : Cache → Buffers → Made → Type 0
-Contract c u m = replied (replyOf m) (buffersAfter u m) (pageAfter m) ≡ inNumbers (call leastRecent (storeOf c u) (callOf m))
+abbrev pub Contract : Cache → Lent → Made → Type 0
+Contract c u m = replied (replyOf m) (lentAfter u m) (pageAfter m) ≡ inNumbers (storeCall leastRecent (storeOf c u) (plainly (callOf m)))
 
--- the contract of an opening with sizes z and buffers u: this is the `ensures` of `clash_open`
-abbrev pub OpeningContract : Sizes → Buffers → Reply → Type 0
-OpeningContract z u r = openedReply r ≡ openedInNumbers (openStore (sizesOf z) u)
+-- the contract of an opening with sizes z, options among them, and buffers u: this is the `ensures` of `clash_open`
+abbrev pub OpeningContract : Sizes → Lent → Reply → Type 0
+OpeningContract z u r = openedReply r ≡ openedInNumbers (storeOpen (sizesOf z) (u .below) (u .shelf))
 
--- each call was made on the record and the buffers that the one before it left, and its outcome is as its contract says
-abbrev pub AsContracted : Cache → Buffers → List Made → Type 0
+-- a call, before which bits of flash and codes may have flipped: flash and codes as the call finds them
+pub record Turn : Type 0 where
+  pub flash : List ℕ
+  pub codes : List ℕ
+  pub made : Made
+
+abbrev pub lentTo : Lent → Turn → Lent
+lentTo u t = flippedTo u (t .flash) (t .codes)
+
+-- each call was made on the record and the buffers that the one before it left, but for flips, and its outcome is as its contract says
+abbrev pub AsContracted : Cache → Lent → List Turn → Type 0
 AsContracted c u [] = Unit {0}
-AsContracted c u (m ∷ ms) = Contract c u m × AsContracted (replyOf m .cache) (buffersAfter u m) ms
+AsContracted c u (t ∷ ts) = Contract c (lentTo u t) (t .made)
+    × AsContracted (replyOf (t .made) .cache) (lentAfter (lentTo u t) (t .made)) ts
 
-abbrev pub leastRecentOf : Made → Chosen
-leastRecentOf m = record { choice = leastRecent; call = callOf m }
+abbrev pub leastRecentOf : Made → ShelfChosen
+leastRecentOf m = record { choice = leastRecent; call = plainly (callOf m) }
+
+-- what the book says of a call; it is told by the reply's number of refusals that requests add
+abbrev pub saidBy : model.Sizes → ShelfReference → Made → Outcome
+saidBy sz r m = shelfBookSays sz (sz .shelfPages) r (leastRecentOf m) (refused (replyOf m .answer .refusal) vacant)
+
+-- what runs beside the store, after the call on the buffers u
+abbrev pub fedBy : model.Sizes → ShelfReference → Lent → Made → ShelfReference
+fedBy sz r u m = shelfFed sz (sz .shelfPages) r (leastRecentOf m) (saidBy sz r m) (flashCells storeFormat sz (lentAfter u m .below))
 
 -- an accepted read leaves the array's page n in the page buffer, an accepted part write with bytes that page with them laid in
 abbrev pub ReadGives : List Page → Made → Type 0
 ReadGives a (read n page r page′) = r .answer .refusal ≡ 0 → page′ ≡ getD a n []
 ReadGives a (write n page r u′) = Unit {0}
 ReadGives a (part n first x page r u′ page′) = r .answer .refusal ≡ 0 → page′ ≡ cond (noBytes x) page (laid first x (getD a n []))
-ReadGives a (step r flash′ wear′ bspace′) = Unit {0}
-ReadGives a (flush r flash′ wear′ bspace′) = Unit {0}
+ReadGives a (step r flash′ codes′ marks′ wear′ bspace′) = Unit {0}
+ReadGives a (flush r flash′ codes′ marks′ wear′ bspace′) = Unit {0}
 
--- the model's claim, with what came out of these calls: the answers are the book's in numbers, and the reads the page array's
-abbrev pub Claim : model.Sizes → Buffers → Cache → Buffers → Reference → List Made → Type 0
-Claim sz u₀ c u r [] = After sz u₀ (storeOf c u) r
-Claim sz u₀ c u r (m ∷ ms) = record {
-  answers : replyOf m .answer ≡ numbersOf (bookSays sz r (leastRecentOf m) .answer);
-  reads : ReadGives (r .array) m;
-  then : Claim sz u₀ (replyOf m .cache) (buffersAfter u m) (fed sz r (callOf m) (bookSays sz r (leastRecentOf m))) ms;
+-- The model's claim, with what came out of these calls, as long as no more bits flip than the store has to bear: the answers are the
+-- book's in numbers, and the reads the page array's.
+abbrev pub Claim : model.Sizes → Lent → Cache → Lent → ShelfReference → List Turn → Type 0
+Claim sz u₀ c u r [] = (flash codes : List ℕ) → StillNear sz r (flippedTo u flash codes)
+    → After storeFormat StoreNear sz (u₀ .below) (storeOf c (flippedTo u flash codes) .store) (r .reference)
+Claim sz u₀ c u r (t ∷ ts) = StillNear sz r (lentTo u t) → record {
+  answers : replyOf (t .made) .answer ≡ numbersOf (saidBy sz r (t .made) .answer);
+  reads : ReadGives (r .reference .array) (t .made);
+  -- where no further bit flips, every cell is near still
+  near : StillNear sz (fedBy sz r (lentTo u t) (t .made)) (lentAfter (lentTo u t) (t .made));
+  then : Claim sz u₀ (replyOf (t .made) .cache) (lentAfter (lentTo u t) (t .made)) (fedBy sz r (lentTo u t) (t .made)) ts;
 }
 
--- Demand 3 for what a program links: after one accepted opening, for every list of calls.
+-- Demand 3 for what a program links: after one accepted opening of a store whose codes match, for every list of calls.
 abbrev pub Demand3 : Type 0
-Demand3 = (z : Sizes) (u : Buffers) (o : Reply) → OpeningContract z u o → o .answer .refusal ≡ 0
-    → (ms : List Made) → AsContracted (o .cache) u ms → Claim (sizesOf z) u (o .cache) u (opened (sizesOf z) u) ms
+Demand3 = (z : Sizes) (u : Lent) (o : Reply) → OpeningContract z u o → o .answer .refusal ≡ 0 → CodesMatch (sizesOf z) u
+    → (ts : List Turn) → AsContracted (o .cache) u ts → Claim (sizesOf z) u (o .cache) u (begun (sizesOf z) u) ts

@@ -3,8 +3,9 @@ use address::PageNo;
 use cache::Sizes;
 use replies::Answer;
 use store::Cache;
-ghost use Rattle.answer.specs.Carried.{buffers};
-ghost use Rattle.clash_c.specs.Histories.{Contract, OpeningContract};
+ghost use mathlib.Core.Path.{_≡_};
+ghost use Rattle.store.specs.View.{lent};
+ghost use Rattle.clash_c.specs.Histories.{withOptions, Contract, OpeningContract};
 ghost use Rattle.clash_c.specs.Histories as made;
 
 // The record after a call, and the call's answer.
@@ -14,20 +15,64 @@ pub struct Reply {
     pub answer: Answer,
 }
 
+// The sizes and the wear limit of an opening.
+#[repr(C)]
+pub struct PlainSizes {
+    pub page_size: u32,
+    pub pages_per_block: u32,
+    pub blocks: u32,
+    pub slots: u32,
+    pub frames: u32,
+    pub wear_limit: u32,
+}
+
+// The options of an opening: policy, codes, shelf pages, marks.
+#[repr(C)]
+pub struct Options {
+    pub policy: u32,
+    pub coded: u32,
+    pub shelf_pages: u32,
+    pub marked: u32,
+}
+
+// Sizes and options, as a record keeps them.
+fn with_options(s: PlainSizes, o: Options) -> Sizes
+    ensures { λ r. ⌜ r ≡ withOptions s o ⌝ }
+{
+    Sizes {
+        page_size: s.page_size,
+        pages_per_block: s.pages_per_block,
+        blocks: s.blocks,
+        slots: s.slots,
+        frames: s.frames,
+        wear_limit: s.wear_limit,
+        policy: o.policy,
+        coded: o.coded,
+        shelf_pages: o.shelf_pages,
+        marked: o.marked,
+    }
+}
+
 // Opens a store.
 #[no_mangle]
 pub extern "C" fn clash_open(
-    sizes: Sizes,
+    sizes: PlainSizes,
+    options: Options,
     flash: &[u8],
+    codes: &[u8],
+    marks: &[u8],
     wear: &[u32],
     pspace: &[u8],
     bspace: &[u8],
+    shelf: &[u8],
 ) -> Reply
     ensures { λ r. ⌜ (
-        let u = buffers (now (flash .entry)) (now (wear .entry)) (now (pspace .entry)) (now (bspace .entry)) in
-        OpeningContract sizes u r) ⌝ }
+        let u = lent (now (flash .entry)) (now (codes .entry)) (now (marks .entry))
+        (now (wear .entry)) (now (pspace .entry)) (now (bspace .entry)) (now (shelf .entry)) in
+        OpeningContract (withOptions sizes options) u r) ⌝ }
 {
-    let o = Cache::open(sizes, flash, wear, pspace, bspace);
+    let z = with_options(sizes, options);
+    let o = Cache::open(z, flash, codes, marks, wear, pspace, bspace, shelf);
     let cache = o.cache;
     let said = o.answer;
     let answer = replies::of_opening(said);
@@ -39,17 +84,31 @@ pub extern "C" fn clash_open(
 pub extern "C" fn clash_read(
     c: Cache,
     flash: &[u8],
+    codes: &[u8],
+    marks: &[u8],
     wear: &[u32],
     pspace: &[u8],
     bspace: &[u8],
+    shelf: &[u8],
     n: u32,
     page: &mut [u8],
 ) -> Reply
     ensures { λ r. ⌜ (
-        let u = buffers (now (flash .entry)) (now (wear .entry)) (now (pspace .entry)) (now (bspace .entry)) in
+        let u = lent (now (flash .entry)) (now (codes .entry)) (now (marks .entry))
+        (now (wear .entry)) (now (pspace .entry)) (now (bspace .entry)) (now (shelf .entry)) in
         Contract c u (made.read n (now (page .entry)) r (now (page .exit)))) ⌝ }
 {
-    let o = c.read(flash, wear, pspace, bspace, PageNo(n), page);
+    let o = c.read(
+        flash,
+        codes,
+        marks,
+        wear,
+        pspace,
+        bspace,
+        shelf,
+        PageNo(n),
+        page,
+    );
     let cache = o.cache;
     let said = o.answer;
     let answer = replies::of_read(said);
@@ -61,18 +120,33 @@ pub extern "C" fn clash_read(
 pub extern "C" fn clash_write(
     c: Cache,
     flash: &mut [u8],
+    codes: &mut [u8],
+    marks: &mut [u8],
     wear: &mut [u32],
     pspace: &mut [u8],
     bspace: &mut [u8],
+    shelf: &mut [u8],
     n: u32,
     page: &[u8],
 ) -> Reply
     ensures { λ r. ⌜ (
-        let u = buffers (now (flash .entry)) (now (wear .entry)) (now (pspace .entry)) (now (bspace .entry)) in
-        let u′ = buffers (now (flash .exit)) (now (wear .exit)) (now (pspace .exit)) (now (bspace .exit)) in
+        let u = lent (now (flash .entry)) (now (codes .entry)) (now (marks .entry))
+        (now (wear .entry)) (now (pspace .entry)) (now (bspace .entry)) (now (shelf .entry)) in
+        let u′ = lent (now (flash .exit)) (now (codes .exit)) (now (marks .exit))
+        (now (wear .exit)) (now (pspace .exit)) (now (bspace .exit)) (now (shelf .exit)) in
         Contract c u (made.write n (now (page .entry)) r u′)) ⌝ }
 {
-    let o = c.write(flash, wear, pspace, bspace, PageNo(n), page);
+    let o = c.write(
+        flash,
+        codes,
+        marks,
+        wear,
+        pspace,
+        bspace,
+        shelf,
+        PageNo(n),
+        page,
+    );
     let cache = o.cache;
     let said = o.answer;
     let answer = replies::of_write(said);
@@ -84,20 +158,37 @@ pub extern "C" fn clash_write(
 pub extern "C" fn clash_part(
     c: Cache,
     flash: &mut [u8],
+    codes: &mut [u8],
+    marks: &mut [u8],
     wear: &mut [u32],
     pspace: &mut [u8],
     bspace: &mut [u8],
+    shelf: &mut [u8],
     n: u32,
     first: u32,
     bytes: &[u8],
     page: &mut [u8],
 ) -> Reply
     ensures { λ r. ⌜ (
-        let u = buffers (now (flash .entry)) (now (wear .entry)) (now (pspace .entry)) (now (bspace .entry)) in
-        let u′ = buffers (now (flash .exit)) (now (wear .exit)) (now (pspace .exit)) (now (bspace .exit)) in
+        let u = lent (now (flash .entry)) (now (codes .entry)) (now (marks .entry))
+        (now (wear .entry)) (now (pspace .entry)) (now (bspace .entry)) (now (shelf .entry)) in
+        let u′ = lent (now (flash .exit)) (now (codes .exit)) (now (marks .exit))
+        (now (wear .exit)) (now (pspace .exit)) (now (bspace .exit)) (now (shelf .exit)) in
         Contract c u (made.part n first (now (bytes .entry)) (now (page .entry)) r u′ (now (page .exit)))) ⌝ }
 {
-    let o = c.write_part(flash, wear, pspace, bspace, PageNo(n), first, bytes, page);
+    let o = c.write_part(
+        flash,
+        codes,
+        marks,
+        wear,
+        pspace,
+        bspace,
+        shelf,
+        PageNo(n),
+        first,
+        bytes,
+        page,
+    );
     let cache = o.cache;
     let said = o.answer;
     let answer = replies::of_write(said);
@@ -109,15 +200,20 @@ pub extern "C" fn clash_part(
 pub extern "C" fn clash_step(
     c: Cache,
     flash: &mut [u8],
+    codes: &mut [u8],
+    marks: &mut [u8],
     wear: &mut [u32],
     pspace: &[u8],
     bspace: &mut [u8],
+    shelf: &[u8],
 ) -> Reply
     ensures { λ r. ⌜ (
-        let u = buffers (now (flash .entry)) (now (wear .entry)) (now (pspace .entry)) (now (bspace .entry)) in
-        Contract c u (made.step r (now (flash .exit)) (now (wear .exit)) (now (bspace .exit)))) ⌝ }
+        let u = lent (now (flash .entry)) (now (codes .entry)) (now (marks .entry))
+        (now (wear .entry)) (now (pspace .entry)) (now (bspace .entry)) (now (shelf .entry)) in
+        Contract c u (made.step r
+        (now (flash .exit)) (now (codes .exit)) (now (marks .exit)) (now (wear .exit)) (now (bspace .exit)))) ⌝ }
 {
-    let o = c.flush_step(flash, wear, pspace, bspace);
+    let o = c.flush_step(flash, codes, marks, wear, pspace, bspace, shelf);
     let said = o.answer;
     let answer = replies::of_step(said);
     let cache = o.cache;
@@ -129,15 +225,20 @@ pub extern "C" fn clash_step(
 pub extern "C" fn clash_flush(
     c: Cache,
     flash: &mut [u8],
+    codes: &mut [u8],
+    marks: &mut [u8],
     wear: &mut [u32],
     pspace: &[u8],
     bspace: &mut [u8],
+    shelf: &[u8],
 ) -> Reply
     ensures { λ r. ⌜ (
-        let u = buffers (now (flash .entry)) (now (wear .entry)) (now (pspace .entry)) (now (bspace .entry)) in
-        Contract c u (made.flush r (now (flash .exit)) (now (wear .exit)) (now (bspace .exit)))) ⌝ }
+        let u = lent (now (flash .entry)) (now (codes .entry)) (now (marks .entry))
+        (now (wear .entry)) (now (pspace .entry)) (now (bspace .entry)) (now (shelf .entry)) in
+        Contract c u (made.flush r
+        (now (flash .exit)) (now (codes .exit)) (now (marks .exit)) (now (wear .exit)) (now (bspace .exit)))) ⌝ }
 {
-    let o = c.flush(flash, wear, pspace, bspace);
+    let o = c.flush(flash, codes, marks, wear, pspace, bspace, shelf);
     let cache = o.cache;
     let said = o.answer;
     let answer = replies::of_flush(said);

@@ -1,64 +1,106 @@
--- The cleaning of one block: a join, the frame vacated and a rewrite.
+-- The cleaning of one block: the check beforehand; a join, the frame vacated and a rewrite.
 use mathlib.Core.Path.{_≡_, refl, sym, ap, _∙_}
-use mathlib.Core.List.{List}
-use Prim.Native.Nat.{ℕ, _<_}
+use mathlib.Core.Bool.{cond}
+use mathlib.Core.List.{List, []}
+use Prim.Native.Nat.{ℕ, suc, _≤_, _<_}
 use native.Mathlib.Omega.{arith}
-use lib.ListN.{length}
+use lib.Dec.{ltb}
+use lib.ListN.{length, getD}
+use lib.Seq.{getD-set-same}
 use Rattle.model.specs.Sizes.{Sizes}
 use Rattle.model.specs.Directory.{Directory, validAt}
 use Rattle.model.specs.Soundness.{Sound}
-use Rattle.model.specs.Policy.{due}
+use Rattle.model.specs.Policy.{due, inSlots, slotOf}
 use Rattle.model.specs.Moves.{Memory, flashPage, joined, filled, joinedPages, vacated, merged, rewrittenPages, stepped, steppedPages}
-use Rattle.model.specs.Calls.{Page, zeroPage, flashPages, slotPages, memoryOf}
+use Rattle.model.specs.Calls.{Page, Cell, zeroPage, slotPages, mergesPage, faultMet, mendsMet}
+use Rattle.model.specs.Cut.{cutRewrite}
 use Rattle.model.proofs.Kept.{joined-sound}
 use Rattle.model.proofs.Steps.{wornBy-is}
 use Rattle.model.proofs.Plan.{valid-low}
-use Rattle.answer.specs.Carried.{buffers}
+use Rattle.moves.specs.Numbers.{offsetsOf}
 use Rattle.moves.specs.Spaces.{spaces, Joined}
-use Rattle.chip.specs.Chip.{chipMemory, Rewritable, Rewritten}
-use Rattle.clean.specs.Clean.{Cleanable, BlockCleaned}
+use Rattle.cache.specs.View.{numbers}
+use Rattle.chip.specs.declared.BlockSeen.{BlockSeen}
+use Rattle.chip.specs.declared.Rewrote.{Rewrote}
+use Rattle.model.specs.Formats.{chipFor}
+use Rattle.chip.specs.Formats.{cells}
+use Rattle.chip.specs.Chip.{Lent, faultOn, mendsOn, blockReads, mendSet, chipMemory, BlockLooked, Rewritable, Rewritten}
+use Rattle.chip.proofs.Rewriting.{programmed-ext, rewritten-whole}
+use Rattle.chip.proofs.Looking.{looked-plain}
+use Rattle.clean.specs.Clean.{Lookable, MergesLooked, Cleanable, BlockCleaned, memory}
 
-module _ {sz : Sizes} {d : Directory} {flash wear pspace bspace : List ℕ} {b f : ℕ}
-    (q : Cleanable sz d (buffers flash wear pspace bspace) b f) where
-  pub frame-small : f < 8
-  frame-small = let l = q .block .f-lt in let h = q .ready .sound .limits .B-high in omega arith
+-- ---- the check beforehand
 
+-- what a merge reads, by the set that the join leaves valid
+module _ (sz : Sizes) (d : Directory) (flash codes marks : List ℕ) (b f : ℕ) (r : BlockSeen) where
+  pub merges-looked : BlockLooked sz flash codes marks b (validAt (joined sz d b f) f) r → MergesLooked sz d flash codes marks b f r
+  unfolding mergesPage blockReads
+  merges-looked h = record { fault-is = h .fault-is; mends-are = h .mends-are; mend-is = h .mend-is }
+
+module _ (sz : Sizes) (s fs vs rs us : List ℕ) (b f : ℕ) (f-lt : f < length vs) where
+  pub joined-set : validAt (joined sz (numbers s fs vs rs us) b f) f ≡ offsetsOf sz (numbers s [] [] [] []) b (getD vs f 0)
+  unfolding joined offsetsOf inSlots slotOf
+  joined-set = getD-set-same vs f _ 0 f-lt
+
+-- ---- the cleaning
+
+module _ {sz : Sizes} {d : Directory} {flash codes marks wear pspace bspace : List ℕ} {b f mend : ℕ}
+    (q : Cleanable sz d flash codes marks wear pspace bspace b f mend) where
   pub joined-is-sound : (d₁ : Directory) → d₁ ≡ joined sz d b f → Sound sz d₁
-  joined-is-sound d₁ e = let y = q .block in rw e (joined-sound sz d (q .ready .sound) b f (y .f-lt) (y .b-lt) (y .sole) (y .some))
+  joined-is-sound d₁ e = let y = q .block in rw e (joined-sound sz d (q .sound) b f (y .f-lt) (y .b-lt) (y .sole) (y .some))
 
-  pub rewritable : (d₁ : Directory) (bspace₁ : List ℕ) → Sound sz d₁ → length bspace₁ ≡ length bspace
-      → Rewritable sz (validAt d₁ f) b f flash wear bspace₁
-  rewritable d₁ bspace₁ s l = let y = q .block in let fits = q .ready .fits in record {
-    limits = q .ready .sound .limits;
-    valid-lt = valid-low sz d₁ s f (y .f-lt);
-    b-lt = y .b-lt;
-    f-lt = y .f-lt;
-    flash-length = fits .flash-length;
-    wear-length = fits .wear-length;
-    bspace-length = l ∙ fits .bspace-length;
-    unworn = q .unworn;
+  pub rewritable : (d₁ : Directory) (bspace₁ : List ℕ) → d₁ ≡ joined sz d b f → length bspace₁ ≡ length bspace
+      → Rewritable sz (validAt d₁ f) mend b f flash codes marks wear bspace₁
+  unfolding mergesPage blockReads
+  rewritable d₁ bspace₁ e l = let s = joined-is-sound d₁ e in record {
+    erasable = q .erasable;
+    valid-lt = valid-low sz d₁ s f (q .block .f-lt);
+    f-lt = q .block .f-lt;
+    bspace-length = l ∙ q .bspace-length;
+    faultless = rw e (q .faultless);
+    mend-is = rw e (q .mend-is);
   }
 
-  -- the rewrite of what the join left, with p-space beside it
-  rewritten-joined : (bspace₁ flash′ bspace′ : List ℕ) → Joined sz d b f pspace bspace (joined sz d b f) bspace₁
-      → chipMemory sz flash′ bspace′ ≡ rewrittenPages (zeroPage sz) sz (joined sz d b f) (chipMemory sz flash bspace₁) b f
-      → memoryOf sz (buffers flash′ wear pspace bspace′) ≡ steppedPages (zeroPage sz) sz d (memoryOf sz (buffers flash wear pspace bspace))
-      (due b f)
-  unfolding memoryOf steppedPages rewrittenPages joinedPages merged flashPage chipMemory filled spaces
-  rewritten-joined bspace₁ flash′ bspace′ j r =
-      let pages : List Page → Memory Page = λ l. rewrittenPages (zeroPage sz) sz (joined sz d b f)
-      (record { flash = flashPages sz flash; pspace = slotPages sz pspace; bspace = l }) b f in
-      ap (λ (m : Memory Page). record { flash = m .flash; pspace = slotPages sz pspace; bspace = m .bspace }) r ∙ ap pages (j .pages)
+  module _ (d₁ : Directory) (bspace₁ : List ℕ) (j : Joined sz d b f pspace bspace d₁ bspace₁) (ops : ℕ) (r : Rewrote)
+      (flash′ codes′ marks′ wear′ bspace′ : List ℕ)
+      (w : Rewritten sz (validAt d₁ f) b f ops flash codes marks wear bspace₁ r flash′ codes′ marks′ wear′ bspace′) where
+    set-is : validAt (joined sz d b f) f ≡ validAt d₁ f
+    set-is = sym (ap (λ (x : Directory). validAt x f) (j .directory))
 
-  pub cleaned : (d₁ : Directory) (bspace₁ : List ℕ) → Joined sz d b f pspace bspace d₁ bspace₁
-      → (reads : ℕ) (flash′ wear′ bspace′ : List ℕ) → Rewritten sz (validAt d₁ f) b f flash wear bspace₁ reads flash′ wear′ bspace′
-      → BlockCleaned sz d (buffers flash wear pspace bspace) b f (vacated d₁ f) reads (buffers flash′ wear′ pspace bspace′)
-  unfolding stepped memoryOf
-  cleaned d₁ bspace₁ j reads flash′ wear′ bspace′ r = let same = j .directory in
-      let set-is = sym (ap (λ (x : Directory). validAt x f) same) in record {
-        directory-is = ap (λ (x : Directory). vacated x f) same;
-        reads-are = r .reads-are (joined sz d b f) set-is;
-        wear-is = r .wear-is ∙ sym (wornBy-is sz (q .ready .sound .limits) wear b (q .block .b-lt));
-        pages-are = rewritten-joined bspace₁ flash′ bspace′ (record { directory = refl; pages = j .pages })
-            (r .pages-are (joined sz d b f) set-is);
-      }
+    abbrev before : Memory Cell Page
+    before = memory sz flash codes marks pspace bspace
+
+    -- what is merged is the same where the join's b-space stands beside p-space
+    joined-memory : (o : ℕ) → merged (chipFor sz) (zeroPage sz) sz (joined sz d b f) (chipMemory sz flash codes marks bspace₁) b f o
+        ≡ merged (chipFor sz) (zeroPage sz) sz (joined sz d b f) (joinedPages (zeroPage sz) sz d before b f) b f o
+    unfolding merged flashPage joinedPages filled spaces
+    joined-memory o = ap (λ (l : List Page). merged (chipFor sz) (zeroPage sz) sz (joined sz d b f)
+        (record { flash = cells sz flash codes marks; pspace = slotPages sz pspace; bspace = l }) b f o) (j .pages)
+
+    flash-is : cells sz flash′ codes′ marks′ ≡ cutRewrite (chipFor sz) (zeroPage sz) sz ops d wear before b f .flash
+    unfolding cutRewrite
+    flash-is = w .cells-are (joined sz d b f) set-is ∙ programmed-ext (chipFor sz) (zeroPage sz) ops sz (q .sound .limits)
+        (cells sz flash codes marks) b _ _ (λ o l. joined-memory o)
+
+    worn-is : wear′ ≡ cutRewrite (chipFor sz) (zeroPage sz) sz ops d wear before b f .wear
+    unfolding cutRewrite
+    worn-is = w .wear-is ∙ ap (λ (x : List ℕ). cond (ltb 0 ops) x wear) (sym (wornBy-is sz (q .sound .limits) wear b (q .block .b-lt)))
+
+    pages-are : suc (sz .K) ≤ ops → memory sz flash′ codes′ marks′ pspace bspace′
+        ≡ steppedPages (chipFor sz) (zeroPage sz) sz d before (due b f)
+    unfolding steppedPages rewrittenPages joinedPages merged flashPage filled spaces
+    pages-are l =
+        let pages : List Page → Memory Cell Page = λ x. rewrittenPages (chipFor sz) (zeroPage sz) sz (joined sz d b f)
+        (record { flash = cells sz flash codes marks; pspace = slotPages sz pspace; bspace = x }) b f in
+        ap (λ (m : Memory Cell Page). record { flash = m .flash; pspace = slotPages sz pspace; bspace = m .bspace })
+        (rewritten-whole (q .sound .limits) l w (joined sz d b f) set-is) ∙ ap pages (j .pages)
+
+    pub cleaned : BlockCleaned sz d flash codes marks wear pspace bspace b f ops (vacated d₁ f) r flash′ codes′ marks′ wear′ bspace′
+    unfolding stepped
+    cleaned = record {
+      directory-is = ap (λ (x : Directory). vacated x f) (j .directory);
+      reads-are = w .reads-are (joined sz d b f) set-is;
+      left-is = w .left-is;
+      chip-is = λ i. record { flash = flash-is i; wear = worn-is i };
+      pages-are = pages-are;
+    }

@@ -2,20 +2,96 @@
 use address::BlockNo;
 use cache::Sizes;
 use cache::VACANT;
+use chip::BlockSeen;
+use chip::Rewrote;
 use moves::join;
-ghost use Rattle.answer.specs.Carried.{buffers};
+ghost use mathlib.Core.List.{[]};
 ghost use Rattle.cache.specs.View.{sizesOf, numbers};
-ghost use Rattle.clean.specs.Clean.{Cleanable, BlockCleaned};
+ghost use Rattle.answer.specs.Carried.{buffers};
+ghost use Rattle.clean.specs.Plain as plain;
+ghost use Rattle.clean.specs.Clean.{Lookable, MergesLooked, Cleanable, BlockCleaned};
 
-// Block b's pages in slots join frame f, and the frame is vacated and rewritten: a rewrite needs only its valid set.
-// Answers the number of merge reads.
+// The check beforehand: what the merge reads of a cleaning of block b through frame f meet in flash. Nothing is changed.
+pub fn look(
+    z: Sizes,
+    slots: &[u32; 128],
+    frames: &[u32; 8],
+    valid: &[u64; 8],
+    recency: &[u8; 8],
+    uses: &[u32; 8],
+    flash: &[u8],
+    codes: &[u8],
+    marks: &[u8],
+    b: BlockNo,
+    f: usize,
+) -> BlockSeen
+    requires { ⌜ (
+        let d = numbers (now slots) (now frames) (now valid) (now recency) (now uses) in
+        Lookable (sizesOf z) d (now flash) (now codes) (now marks) (b .0) f) ⌝ }
+    ensures { λ r. ⌜ (
+        let d = numbers (now (slots .entry)) (now (frames .entry)) (now (valid .entry)) (now (recency .entry)) (now (uses .entry)) in
+        MergesLooked (sizesOf z) d (now (flash .entry)) (now (codes .entry)) (now (marks .entry)) (b .0) f r) ⌝ }
+{
+    if (z.coded != 1) & (z.marked != 1) {
+        return BlockSeen {
+            fault: 0,
+            mends: 0,
+            mend: 0,
+        };
+    }
+    let old = valid[f];
+    let v = join::offsets(z, slots, b, old);
+    chip::look_block(z, flash, codes, marks, b, v)
+}
+
+// Block b's pages in slots join frame f, and the frame is vacated and rewritten: a rewrite needs only its valid set. The check
+// beforehand found no fault, and mend has the pages that want mending. At most ops operations of the chip are done.
 pub fn clean_block(
     z: Sizes,
     slots: &mut [u32; 128],
     frames: &mut [u32; 8],
     valid: &mut [u64; 8],
     recency: &[u8; 8],
+    uses: &mut [u32; 8],
     flash: &mut [u8],
+    codes: &mut [u8],
+    marks: &mut [u8],
+    wear: &mut [u32],
+    pspace: &[u8],
+    bspace: &mut [u8],
+    b: BlockNo,
+    f: usize,
+    mend: u64,
+    ops: u32,
+) -> Rewrote
+    requires { ⌜ (
+        let d = numbers (now slots) (now frames) (now valid) (now recency) (now uses) in
+        Cleanable (sizesOf z) d (now flash) (now codes) (now marks) (now wear) (now pspace) (now bspace) (b .0) f mend) ⌝ }
+    ensures { λ r. ⌜ (
+        let d = numbers (now (slots .entry)) (now (frames .entry)) (now (valid .entry)) (now (recency .entry)) (now (uses .entry)) in
+        let d′ = numbers (now (slots .exit)) (now (frames .exit)) (now (valid .exit)) (now (recency .entry)) (now (uses .exit)) in
+        BlockCleaned (sizesOf z) d (now (flash .entry)) (now (codes .entry)) (now (marks .entry)) (now (wear .entry))
+        (now (pspace .entry)) (now (bspace .entry)) (b .0) f ops d′ r (now (flash .exit)) (now (codes .exit)) (now (marks .exit))
+        (now (wear .exit)) (now (bspace .exit))) ⌝ }
+{
+    join::join(z, slots, frames, valid, recency, uses, pspace, bspace, b, f);
+    let v = valid[f];
+    frames[f] = VACANT;
+    valid[f] = 0;
+    chip::rewrite(z, v, mend, flash, codes, marks, wear, bspace, b, f, ops)
+}
+
+// The same in a store without codes and marks, and whole. Answers the number of merge reads.
+pub fn clean_plain(
+    z: Sizes,
+    slots: &mut [u32; 128],
+    frames: &mut [u32; 8],
+    valid: &mut [u64; 8],
+    recency: &[u8; 8],
+    uses: &mut [u32; 8],
+    flash: &mut [u8],
+    codes: &mut [u8],
+    marks: &mut [u8],
     wear: &mut [u32],
     pspace: &[u8],
     bspace: &mut [u8],
@@ -23,19 +99,35 @@ pub fn clean_block(
     f: usize,
 ) -> u32
     requires { ⌜ (
-        let d = numbers (now slots) (now frames) (now valid) (now recency) in
-        let u = buffers (now flash) (now wear) (now pspace) (now bspace) in
-        Cleanable (sizesOf z) d u (b .0) f) ⌝ }
+        let d = numbers (now slots) (now frames) (now valid) (now recency) (now uses) in
+        let u = buffers (now flash) (now codes) (now marks) (now wear) (now pspace) (now bspace) in
+        plain.Cleanable (sizesOf z) d u (b .0) f) ⌝ }
     ensures { λ r. ⌜ (
-        let d = numbers (now (slots .entry)) (now (frames .entry)) (now (valid .entry)) (now (recency .entry)) in
-        let u = buffers (now (flash .entry)) (now (wear .entry)) (now (pspace .entry)) (now (bspace .entry)) in
-        let d′ = numbers (now (slots .exit)) (now (frames .exit)) (now (valid .exit)) (now (recency .entry)) in
-        let u′ = buffers (now (flash .exit)) (now (wear .exit)) (now (pspace .entry)) (now (bspace .exit)) in
-        BlockCleaned (sizesOf z) d u (b .0) f d′ r u′) ⌝ }
+        let d = numbers (now (slots .entry)) (now (frames .entry)) (now (valid .entry)) (now (recency .entry)) (now (uses .entry)) in
+        let u = buffers (now (flash .entry)) (now (codes .entry)) (now (marks .entry)) (now (wear .entry)) (now (pspace .entry))
+        (now (bspace .entry)) in
+        let d′ = numbers (now (slots .exit)) (now (frames .exit)) (now (valid .exit)) (now (recency .entry)) (now (uses .exit)) in
+        let u′ = buffers (now (flash .exit)) (now (codes .exit)) (now (marks .exit)) (now (wear .exit)) (now (pspace .entry))
+        (now (bspace .exit)) in
+        plain.BlockCleaned (sizesOf z) d u (b .0) f d′ r u′) ⌝ }
 {
-    join::join(z, slots, frames, valid, recency, pspace, bspace, b, f);
-    let v = valid[f];
-    frames[f] = VACANT;
-    valid[f] = 0;
-    chip::rewrite(z, v, flash, wear, bspace, b, f)
+    let r = clean_block(
+        z,
+        slots,
+        frames,
+        valid,
+        recency,
+        uses,
+        flash,
+        codes,
+        marks,
+        wear,
+        pspace,
+        bspace,
+        b,
+        f,
+        0,
+        4294967295,
+    );
+    r.reads
 }

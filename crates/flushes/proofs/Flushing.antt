@@ -12,13 +12,14 @@ use Rattle.model.specs.Sizes.{Sizes, vacant}
 use Rattle.model.specs.Directory.{Directory}
 use Rattle.model.specs.Policy.{inBlock, frameOf, slotCount, leastRecent, clean, due, dueOf, cached, lowestWorn}
 use Rattle.model.specs.Moves.{Memory}
-use Rattle.model.specs.Calls.{flushDone, refused, Tally, steps, flushOutcome, stepsPages, Page, Buffers, Fits, zeroPage, memoryOf}
+use Rattle.model.specs.Formats.{storeFormat, chipFor}
+use Rattle.model.specs.Calls.{flushDone, refused, Tally, steps, flushOutcome, stepsPages, Page, Cell, Buffers, Fits, zeroPage, memoryOf}
 use Rattle.model.proofs.Soundness.{pages-small}
 use Rattle.model.proofs.Steps.{Below, stepped-sound, cached-now, cached-less, stepped-below}
 use Rattle.model.proofs.Calls.{flush-below}
 use Rattle.cache.specs.View.{numbers}
 use Rattle.answer.specs.Carried.{buffers, Ready}
-use Rattle.clean.specs.Clean.{Cleanable, BlockCleaned}
+use Rattle.clean.specs.Plain.{Cleanable, BlockCleaned}
 use Rattle.flushes.specs.Flushes.{stateIn, FlushCarried, Flushable}
 use Rattle.flushes.proofs.Stepping.{block-ready}
 
@@ -34,8 +35,8 @@ pub record Underway (sz : Sizes) (d₀ : Directory) (u₀ : Buffers) (d : Direct
   pub few : count (sz .N) (cached sz d) + rewrites ≤ sz .N
   pub merges-le : merges ≤ rewrites * sz .K
   pub numbers : steps leastRecent sz (sz .N - rewrites) (tally d u rewrites merges) ≡ steps leastRecent sz (sz .N) (tally d₀ u₀ 0 0)
-  pub pages : stepsPages leastRecent sz (zeroPage sz) (sz .N - rewrites) d (memoryOf sz u)
-      ≡ stepsPages leastRecent sz (zeroPage sz) (sz .N) d₀ (memoryOf sz u₀)
+  pub pages : stepsPages leastRecent sz (chipFor sz) (zeroPage sz) (sz .N - rewrites) d (memoryOf storeFormat sz u)
+      ≡ stepsPages leastRecent sz (chipFor sz) (zeroPage sz) (sz .N) d₀ (memoryOf storeFormat sz u₀)
 
 -- ---- steps by what is due
 
@@ -45,19 +46,23 @@ module _ (sz : Sizes) (d : Directory) where
   steps-stop u r m e zero = refl
   steps-stop u r m e (suc c) = rw (← e, steps)
 
-  pages-stop : (m : Memory Page) → clean ≡ dueOf leastRecent sz d → (c : ℕ) → stepsPages leastRecent sz (zeroPage sz) c d m ≡ m
+  pages-stop : (m : Memory Cell Page) → clean ≡ dueOf leastRecent sz d → (c : ℕ)
+      → stepsPages leastRecent sz (chipFor sz) (zeroPage sz) c d m ≡ m
   unfolding stepsPages
   pages-stop m e zero = refl
   pages-stop m e (suc c) = rw (← e, stepsPages)
 
 -- ---- buffers keep their sizes
 
-pub fits-kept : {sz : Sizes} {flash wear pspace bspace : List ℕ} (flash′ wear′ bspace′ : List ℕ)
-    → Fits sz (buffers flash wear pspace bspace)
-    → length flash′ ≡ length flash → length wear′ ≡ length wear → length bspace′ ≡ length bspace
-    → Fits sz (buffers flash′ wear′ pspace bspace′)
-fits-kept flash′ wear′ bspace′ h a b c = record {
+pub fits-kept : {sz : Sizes} {flash codes marks wear pspace bspace : List ℕ} (flash′ codes′ marks′ wear′ bspace′ : List ℕ)
+    → Fits storeFormat sz (buffers flash codes marks wear pspace bspace)
+    → length flash′ ≡ length flash → length codes′ ≡ length codes → length marks′ ≡ length marks → length wear′ ≡ length wear
+    → length bspace′ ≡ length bspace
+    → Fits storeFormat sz (buffers flash′ codes′ marks′ wear′ pspace bspace′)
+fits-kept flash′ codes′ marks′ wear′ bspace′ h a e m b c = record {
   flash-length = a ∙ h .flash-length;
+  codes-length = e ∙ h .codes-length;
+  marks-length = m ∙ h .marks-length;
   wear-length = b ∙ h .wear-length;
   pspace-length = h .pspace-length;
   bspace-length = c ∙ h .bspace-length;
@@ -66,9 +71,10 @@ fits-kept flash′ wear′ bspace′ h a b c = record {
 -- ---- a refused flush, and the first turn
 
 -- the valid pages and the order of use are not looked at
-pub worn-same : (sz : Sizes) (s f v r w : List ℕ) → lowestWorn sz (numbers s f [] []) w ≡ lowestWorn sz (numbers s f v r) w
+pub worn-same : (sz : Sizes) (s f v r u w : List ℕ) → lowestWorn sz (numbers s f [] [] []) w
+    ≡ lowestWorn sz (numbers s f v r u) w
 unfolding lowestWorn cached slotCount inBlock frameOf
-worn-same sz s f v r w = refl
+worn-same sz s f v r u w = refl
 
 pub flush-worn : (sz : Sizes) (d : Directory) (u : Buffers) (b : ℕ) → b ≡ lowestWorn sz d (u .wear) → b < sz .N
     → FlushCarried sz d u (refused 6 b) d u
@@ -123,7 +129,7 @@ module _ {sz : Sizes} {d₀ : Directory} {u₀ : Buffers} {d : Directory} {u : B
       merges-small = let h = merges-next in let l = mul-le-mul-right (sz .K) left in let s = pages-small sz (k .ready .sound .limits) in
           omega arith
 
-      pub turns : Fits sz u′ → (r m : ℕ) → r ≡ suc rewrites → m ≡ reads + merges → Underway sz d₀ u₀ d′ u′ r m
+      pub turns : Fits storeFormat sz u′ → (r m : ℕ) → r ≡ suc rewrites → m ≡ reads + merges → Underway sz d₀ u₀ d′ u′ r m
       unfolding steps stepsPages
       turns fits r m er em =
           let y = block-ready (k .ready) b f e in

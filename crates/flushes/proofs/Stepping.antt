@@ -16,13 +16,13 @@ use Rattle.model.proofs.Steps as steps
 use Rattle.model.proofs.Calls.{not-worn}
 use Rattle.cache.specs.View.{numbers}
 use Rattle.answer.specs.Carried.{Ready}
-use Rattle.clean.specs.Clean.{Cleanable, BlockCleaned}
+use Rattle.clean.specs.Plain.{Cleanable, BlockCleaned}
 use Rattle.flushes.specs.Flushes.{StepCarried}
 
 -- the valid pages are not looked at
-pub due-same : (sz : Sizes) (s f v r : List ℕ) → dueOf leastRecent sz (numbers s f [] r) ≡ dueOf leastRecent sz (numbers s f v r)
+pub due-same : (sz : Sizes) (s f v r u : List ℕ) → dueOf leastRecent sz (numbers s f [] r []) ≡ dueOf leastRecent sz (numbers s f v r u)
 unfolding dueOf occupied leastRecent lowestInSlots slotCount inBlock
-due-same sz s f v r = refl
+due-same sz s f v r u = refl
 
 module _ {sz : Sizes} {d : Directory} {u : Buffers} (q : Ready sz d u) where
   -- nothing is cached

@@ -4,6 +4,7 @@ use Rattle.model.specs.Sizes.{Sizes}
 use Rattle.model.specs.Directory.{Directory}
 use Rattle.model.specs.Policy.{leastRecent, dueOf, lowestWorn}
 use Rattle.model.specs.Moves.{steppedPages}
+use Rattle.model.specs.Formats.{storeFormat, chipFor}
 use Rattle.model.specs.Calls.{Answer, State, stepOutcome, flushOutcome, stepsPages, Buffers, zeroPage, memoryOf}
 use Rattle.answer.specs.Carried.{Ready, Carried}
 
@@ -14,15 +15,17 @@ stateIn d u = record { directory = d; wear = u .wear }
 abbrev pub StepCarried : Sizes → Directory → Buffers → Answer → Directory → Buffers → Type 0
 StepCarried sz d u answer d′ u′ =
     let q = dueOf leastRecent sz d in
-    let m = memoryOf sz u in
-    Carried (stepOutcome sz (stateIn d u) q) m (steppedPages (zeroPage sz) sz d m q) answer d′ (u′ .wear) (memoryOf sz u′)
+    let m = memoryOf storeFormat sz u in
+    Carried (stepOutcome sz (stateIn d u) q) m (steppedPages (chipFor sz) (zeroPage sz) sz d m q) answer d′ (u′ .wear)
+    (memoryOf storeFormat sz u′)
 
 -- a flush gave this answer
 abbrev pub FlushCarried : Sizes → Directory → Buffers → Answer → Directory → Buffers → Type 0
 FlushCarried sz d u answer d′ u′ =
-    let m = memoryOf sz u in
-    Carried (flushOutcome leastRecent sz (stateIn d u)) m (stepsPages leastRecent sz (zeroPage sz) (sz .N) d m) answer d′ (u′ .wear)
-    (memoryOf sz u′)
+    let m = memoryOf storeFormat sz u in
+    Carried (flushOutcome leastRecent sz (stateIn d u)) m (stepsPages leastRecent sz (chipFor sz) (zeroPage sz) (sz .N) d m) answer d′
+    (u′ .wear)
+    (memoryOf storeFormat sz u′)
 
 -- no block with a page cached is worn
 pub record Flushable (sz : Sizes) (d : Directory) (u : Buffers) : Type 0 where

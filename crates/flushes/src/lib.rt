@@ -16,20 +16,25 @@ pub fn step(
     frames: &mut [u32; 8],
     valid: &mut [u64; 8],
     recency: &[u8; 8],
+    uses: &mut [u32; 8],
     flash: &mut [u8],
+    codes: &mut [u8],
+    marks: &mut [u8],
     wear: &mut [u32],
     pspace: &[u8],
     bspace: &mut [u8],
 ) -> Step
     requires { ⌜ (
-        let d = numbers (now slots) (now frames) (now valid) (now recency) in
-        let u = buffers (now flash) (now wear) (now pspace) (now bspace) in
+        let d = numbers (now slots) (now frames) (now valid) (now recency) (now uses) in
+        let u = buffers (now flash) (now codes) (now marks) (now wear) (now pspace) (now bspace) in
         Ready (sizesOf z) d u) ⌝ }
     ensures { λ r. ⌜ (
-        let d = numbers (now (slots .entry)) (now (frames .entry)) (now (valid .entry)) (now (recency .entry)) in
-        let u = buffers (now (flash .entry)) (now (wear .entry)) (now (pspace .entry)) (now (bspace .entry)) in
-        let d′ = numbers (now (slots .exit)) (now (frames .exit)) (now (valid .exit)) (now (recency .entry)) in
-        let u′ = buffers (now (flash .exit)) (now (wear .exit)) (now (pspace .entry)) (now (bspace .exit)) in
+        let d = numbers (now (slots .entry)) (now (frames .entry)) (now (valid .entry)) (now (recency .entry)) (now (uses .entry)) in
+        let u = buffers (now (flash .entry)) (now (codes .entry)) (now (marks .entry))
+        (now (wear .entry)) (now (pspace .entry)) (now (bspace .entry)) in
+        let d′ = numbers (now (slots .exit)) (now (frames .exit)) (now (valid .exit)) (now (recency .entry)) (now (uses .exit)) in
+        let u′ = buffers (now (flash .exit)) (now (codes .exit)) (now (marks .exit))
+        (now (wear .exit)) (now (pspace .entry)) (now (bspace .exit)) in
         StepCarried (sizesOf z) d u (stepOf r) d′ u′) ⌝ }
 {
     let due = policy::flush::due(z, slots, frames, recency);
@@ -39,13 +44,16 @@ pub fn step(
     if policy::flush::is_worn(z, wear, b) {
         return Step::Refused(Refusal::Worn(b));
     }
-    let merged = clean::clean_block(
+    let merged = clean::clean_plain(
         z,
         slots,
         frames,
         valid,
         recency,
+        uses,
         flash,
+        codes,
+        marks,
         wear,
         pspace,
         bspace,
@@ -62,20 +70,25 @@ pub fn flush(
     frames: &mut [u32; 8],
     valid: &mut [u64; 8],
     recency: &[u8; 8],
+    uses: &mut [u32; 8],
     flash: &mut [u8],
+    codes: &mut [u8],
+    marks: &mut [u8],
     wear: &mut [u32],
     pspace: &[u8],
     bspace: &mut [u8],
 ) -> Flush
     requires { ⌜ (
-        let d = numbers (now slots) (now frames) (now valid) (now recency) in
-        let u = buffers (now flash) (now wear) (now pspace) (now bspace) in
+        let d = numbers (now slots) (now frames) (now valid) (now recency) (now uses) in
+        let u = buffers (now flash) (now codes) (now marks) (now wear) (now pspace) (now bspace) in
         Ready (sizesOf z) d u) ⌝ }
     ensures { λ r. ⌜ (
-        let d = numbers (now (slots .entry)) (now (frames .entry)) (now (valid .entry)) (now (recency .entry)) in
-        let u = buffers (now (flash .entry)) (now (wear .entry)) (now (pspace .entry)) (now (bspace .entry)) in
-        let d′ = numbers (now (slots .exit)) (now (frames .exit)) (now (valid .exit)) (now (recency .entry)) in
-        let u′ = buffers (now (flash .exit)) (now (wear .exit)) (now (pspace .entry)) (now (bspace .exit)) in
+        let d = numbers (now (slots .entry)) (now (frames .entry)) (now (valid .entry)) (now (recency .entry)) (now (uses .entry)) in
+        let u = buffers (now (flash .entry)) (now (codes .entry)) (now (marks .entry))
+        (now (wear .entry)) (now (pspace .entry)) (now (bspace .entry)) in
+        let d′ = numbers (now (slots .exit)) (now (frames .exit)) (now (valid .exit)) (now (recency .entry)) (now (uses .exit)) in
+        let u′ = buffers (now (flash .exit)) (now (codes .exit)) (now (marks .exit))
+        (now (wear .exit)) (now (pspace .entry)) (now (bspace .exit)) in
         FlushCarried (sizesOf z) d u (flushOf r) d′ u′) ⌝ }
 {
     let worn = policy::flush::lowest_worn(z, slots, frames, wear);
@@ -88,7 +101,10 @@ pub fn flush(
         frames,
         valid,
         recency,
+        uses,
         flash,
+        codes,
+        marks,
         wear,
         pspace,
         bspace,
@@ -102,20 +118,25 @@ fn clean_all(
     frames: &mut [u32; 8],
     valid: &mut [u64; 8],
     recency: &[u8; 8],
+    uses: &mut [u32; 8],
     flash: &mut [u8],
+    codes: &mut [u8],
+    marks: &mut [u8],
     wear: &mut [u32],
     pspace: &[u8],
     bspace: &mut [u8],
 ) -> Flush
     requires { ⌜ (
-        let d = numbers (now slots) (now frames) (now valid) (now recency) in
-        let u = buffers (now flash) (now wear) (now pspace) (now bspace) in
+        let d = numbers (now slots) (now frames) (now valid) (now recency) (now uses) in
+        let u = buffers (now flash) (now codes) (now marks) (now wear) (now pspace) (now bspace) in
         Flushable (sizesOf z) d u) ⌝ }
     ensures { λ r. ⌜ (
-        let d = numbers (now (slots .entry)) (now (frames .entry)) (now (valid .entry)) (now (recency .entry)) in
-        let u = buffers (now (flash .entry)) (now (wear .entry)) (now (pspace .entry)) (now (bspace .entry)) in
-        let d′ = numbers (now (slots .exit)) (now (frames .exit)) (now (valid .exit)) (now (recency .entry)) in
-        let u′ = buffers (now (flash .exit)) (now (wear .exit)) (now (pspace .entry)) (now (bspace .exit)) in
+        let d = numbers (now (slots .entry)) (now (frames .entry)) (now (valid .entry)) (now (recency .entry)) (now (uses .entry)) in
+        let u = buffers (now (flash .entry)) (now (codes .entry)) (now (marks .entry))
+        (now (wear .entry)) (now (pspace .entry)) (now (bspace .entry)) in
+        let d′ = numbers (now (slots .exit)) (now (frames .exit)) (now (valid .exit)) (now (recency .entry)) (now (uses .exit)) in
+        let u′ = buffers (now (flash .exit)) (now (codes .exit)) (now (marks .exit))
+        (now (wear .exit)) (now (pspace .entry)) (now (bspace .exit)) in
         FlushCarried (sizesOf z) d u (flushOf r) d′ u′) ⌝ }
 {
     let mut rewrites: u32 = 0;
@@ -125,13 +146,16 @@ fn clean_all(
         let Due::Block(b, f) = due else {
             return Flush::Done { rewrites, merged };
         };
-        let reads = clean::clean_block(
+        let reads = clean::clean_plain(
             z,
             slots,
             frames,
             valid,
             recency,
+            uses,
             flash,
+            codes,
+            marks,
             wear,
             pspace,
             bspace,

@@ -17,6 +17,8 @@ fn main() {
     spoilt::entries();
     report::heading(b"records with a size beyond its limits, by every call");
     spoilt::sizes();
+    report::heading(b"records with an option, by every call");
+    spoilt::options();
 }
 
 // The arguments name a script and what it must print, in turn.

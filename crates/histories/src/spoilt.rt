@@ -1,6 +1,7 @@
 // Records that are not sound, each spoilt at one place, and how many of them every call refuses.
 use crate::report;
 use cache::Directory;
+use cache::Sizes;
 use cache::VACANT;
 use records::Entry;
 use records::filled;
@@ -13,6 +14,7 @@ fn sound() -> Cache {
     let s = records::sizes(1, 4, 8, 3, 2, 9);
     Cache {
         sizes: s,
+        entries: [VACANT; 8],
         directory: filled(s, 24, 1),
     }
 }
@@ -27,7 +29,9 @@ pub fn entries() {
     slots();
     frames();
     order();
+    uses();
     past();
+    shelf();
 }
 
 fn slots() {
@@ -59,6 +63,11 @@ fn order() {
     each(b"frame 255 in the order", 0, 2, Entry::Order(255), 2);
 }
 
+fn uses() {
+    each(b"a use counted", 0, 8, Entry::Uses(1), 8);
+    each(b"4294967295 uses counted", 0, 8, Entry::Uses(4294967295), 8);
+}
+
 fn past() {
     each(b"a page past P", 3, 128, Entry::Slot(30), 125);
     each(b"a block past B", 2, 8, Entry::Frame(5), 6);
@@ -84,11 +93,59 @@ pub fn sizes() {
 
 // A vacant record of these sizes.
 fn sized(name: &[u8], s: u32, k: u32, n: u32, p: u32, b: u32, w: u32) {
+    vacant(name, records::sizes(s, k, n, p, b, w));
+}
+
+// Each option other than 0.
+pub fn options() {
+    opted(b"policy 1", 1, 0, 0, 0);
+    opted(b"policy 2", 2, 0, 0, 0);
+    opted(b"policy 3", 3, 0, 0, 0);
+    opted(b"coded 1", 0, 1, 0, 0);
+    opted(b"coded 2", 0, 2, 0, 0);
+    opted(b"1 shelf page", 0, 0, 1, 0);
+    opted(b"9 shelf pages", 0, 0, 9, 0);
+    opted(b"marked 1", 0, 0, 0, 1);
+    opted(b"marked 2", 0, 0, 0, 2);
+}
+
+// A vacant record with these options.
+fn opted(name: &[u8], policy: u32, coded: u32, shelf_pages: u32, marked: u32) {
+    let s = records::sizes(1, 4, 8, 3, 2, 9);
+    vacant(
+        name,
+        records::with_options(s, policy, coded, shelf_pages, marked),
+    );
+}
+
+// A vacant record of these sizes and options.
+fn vacant(name: &[u8], s: Sizes) {
     let c = Cache {
-        sizes: records::sizes(s, k, n, p, b, w),
+        sizes: s,
+        entries: [VACANT; 8],
         directory: Directory::vacant(),
     };
     report::tally(name, 1, refuses::every_call(c));
+}
+
+// Each shelf entry alone in use.
+fn shelf() {
+    report::tally(b"page 0 on the shelf", 8, shelved(0));
+    report::tally(b"page vacant less 1 on the shelf", 8, shelved(4294967294));
+}
+
+// How many of the records with one shelf entry n every call refuses.
+fn shelved(n: u32) -> u64 {
+    let c = sound();
+    let mut count = 0u64;
+    let mut i = 0;
+    while i < 8 {
+        let mut record = c;
+        record.entries[i] = n;
+        count = std::num::wrapping_add_u64(count, refuses::every_call(record));
+        i += 1;
+    }
+    count
 }
 
 // The entries from one index to another, each alone replaced by x.
@@ -106,6 +163,7 @@ fn spoilt(from: usize, to: usize, x: Entry) -> u64 {
     while i < to {
         let record = Cache {
             sizes: s,
+            entries: [VACANT; 8],
             directory: with(d, i, x),
         };
         count = std::num::wrapping_add_u64(count, refuses::every_call(record));

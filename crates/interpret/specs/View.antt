@@ -1,15 +1,16 @@
 -- The program's memory, and what a line leaves in it.
 use mathlib.Core.Path.{_≡_}
-use mathlib.Core.Bool.{true}
+use mathlib.Core.Bool.{true, false}
 use mathlib.Core.List.{List}
 use Prim.Native.Nat.{ℕ, _*_, _≤_}
 use lib.ListN.{length, take}
-use Rattle.model.specs.Sizes.{Sizes, sizesOk}
-use Rattle.model.specs.Calls.{Buffers, Fits}
+use Rattle.model.specs.Sizes.{Sizes, sizesOk, isCoded, isMarked}
+use Rattle.model.specs.Calls.{Fits}
+use Rattle.model.specs.Formats.{storeFormat}
 use Rattle.print.specs.Print.{wearRoom}
 use Rattle.script.specs.Forms.{Form, opens, writes, reads, steps, flushes, wears, bad, buffersFit}
 use Rattle.cache.specs.View.{sizesOf}
-use Rattle.answer.specs.Carried.{buffers}
+use Rattle.store.specs.View.{Lent, plainLent}
 use Rattle.perform.specs.declared.Lined.{Lined}
 use Rattle.perform.specs.Effects.{Effect}
 use Rattle.perform.specs.View.{Carries}
@@ -17,8 +18,10 @@ use Rattle.interpret.specs.declared.parts.Parts.{Parts}
 
 -- ---- the store's own buffers stand at the front of the program's memory
 
--- the sizes are small enough for the memory; a blank record's are
+-- the sizes are small enough for the memory, and there are no codes and no marks; a blank record's are
 pub record Held (sz : Sizes) : Type 0 where
+  pub no-codes : isCoded sz ≡ false
+  pub no-marks : isMarked sz ≡ false
   pub S-high : sz .S ≤ 2048
   pub K-high : sz .K ≤ 64
   pub N-high : sz .N ≤ 4096
@@ -36,8 +39,8 @@ pub record PartsOf (sz : Sizes) (p : Parts) : Type 0 where
   pub page-is : p .page ≡ sz .S
 
 -- the buffers in the memory
-abbrev pub front : Sizes → List ℕ → List ℕ → List ℕ → List ℕ → Buffers
-front sz flash wear pspace bspace = buffers (take (sz .N * sz .K * sz .S) flash) (take (sz .N) wear) (take (sz .P * sz .S) pspace)
+abbrev pub front : Sizes → List ℕ → List ℕ → List ℕ → List ℕ → Lent
+front sz flash wear pspace bspace = plainLent (take (sz .N * sz .K * sz .S) flash) (take (sz .N) wear) (take (sz .P * sz .S) pspace)
     (take (sz .B * sz .K * sz .S) bspace)
 
 -- ---- what is asked, and what a line leaves
@@ -53,23 +56,23 @@ Sized wears = Unit {0}
 Sized bad = Unit {0}
 
 -- buffers and a page buffer in their sizes, and room for the line
-pub record Lent (sz : Sizes) (u : Buffers) (page out : List ℕ) : Type 0 where
-  pub fits : Fits sz u
+pub record InSizes (sz : Sizes) (u : Lent) (page out : List ℕ) : Type 0 where
+  pub fits : Fits storeFormat sz (u .below)
   pub page-length : length page ≡ sz .S
-  pub wear-room : length (u .wear) ≤ 4096
+  pub wear-room : length (u .below .wear) ≤ 4096
   pub room : wearRoom 4096 ≤ length out
 
 -- the memory's lengths
-pub record Memory (m : Buffers) (page : List ℕ) : Type 0 where
-  pub flash-length : length (m .flash) ≡ 32768
-  pub wear-length : length (m .wear) ≡ 4096
-  pub pspace-length : length (m .pspace) ≡ 32768
-  pub bspace-length : length (m .bspace) ≡ 32768
+pub record Memory (m : Lent) (page : List ℕ) : Type 0 where
+  pub flash-length : length (m .below .flash) ≡ 32768
+  pub wear-length : length (m .below .wear) ≡ 4096
+  pub pspace-length : length (m .below .pspace) ≡ 32768
+  pub bspace-length : length (m .below .bspace) ≡ 32768
   pub page-length : length page ≡ 2048
 
 -- the memory, sizes that fit it, and room for the line
 pub record Lendable (sz : Sizes) (f : Form) (flash wear pspace bspace page out : List ℕ) : Type 0 where
-  pub memory : Memory (buffers flash wear pspace bspace) page
+  pub memory : Memory (plainLent flash wear pspace bspace) page
   pub room : wearRoom 4096 ≤ length out
   pub held : Held sz
   pub sized : Sized f

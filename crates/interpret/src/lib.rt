@@ -8,11 +8,10 @@ use store::Cache;
 ghost use mathlib.Core.Path.{_≡_};
 ghost use Rattle.script.specs.View.{meant};
 ghost use Rattle.cache.specs.View.{sizesOf};
-ghost use Rattle.answer.specs.Carried.{buffers};
-ghost use Rattle.store.specs.View.{storeOf};
+ghost use Rattle.store.specs.View.{plainLent, storeOf};
 ghost use Rattle.perform.specs.View.{Carries};
 ghost use Rattle.interpret.specs.Lines.{carried, sizesAfter};
-ghost use Rattle.interpret.specs.View.{Lent, Lendable, CarriedOut, front};
+ghost use Rattle.interpret.specs.View.{InSizes, Lendable, CarriedOut, front};
 
 // Carries out the form of line n on the store in use, which stands at the front of the memory lent, and prints its line into out
 // from the first byte on.
@@ -81,11 +80,11 @@ fn carry(
     out: &mut [u8],
 ) -> Lined
     requires { ⌜ (
-        let u = buffers (now flash) (now wear) (now pspace) (now bspace) in
-        Lent (sizesAfter (sizesOf (c .sizes)) (meant form)) u (now page) (now out)) ⌝ }
+        let u = plainLent (now flash) (now wear) (now pspace) (now bspace) in
+        InSizes (sizesAfter (sizesOf (c .sizes)) (meant form)) u (now page) (now out)) ⌝ }
     ensures { λ r. ⌜ (
-        let u = buffers (now (flash .entry)) (now (wear .entry)) (now (pspace .entry)) (now (bspace .entry)) in
-        let u′ = buffers (now (flash .exit)) (now (wear .exit)) (now (pspace .exit)) (now (bspace .exit)) in
+        let u = plainLent (now (flash .entry)) (now (wear .entry)) (now (pspace .entry)) (now (bspace .entry)) in
+        let u′ = plainLent (now (flash .exit)) (now (wear .exit)) (now (pspace .exit)) (now (bspace .exit)) in
         Carries (carried (storeOf c u) (meant form) n) r u′ (now (out .exit))) ⌝ }
 {
     match form {

@@ -9,17 +9,28 @@ ghost use Rattle.model.specs.Sizes.{InLimits};
 ghost use Rattle.cache.specs.View.{sizesOf};
 ghost use Rattle.lent.specs.Lengths.{lengthsOk};
 
-// The four lengths are N*K*S bytes of flash, N wear entries, P*S bytes of p-space and B*K*S bytes of b-space.
-pub fn lengths_ok(z: Sizes, flash: usize, wear: usize, pspace: usize, bspace: usize) -> bool
+// The lengths are N*K*S bytes of flash, N wear entries, P*S bytes of p-space and B*K*S bytes of b-space; a store has no codes and no
+// marks yet.
+pub fn lengths_ok(
+    z: Sizes,
+    flash: usize,
+    codes: usize,
+    marks: usize,
+    wear: usize,
+    pspace: usize,
+    bspace: usize,
+) -> bool
     requires { ⌜ InLimits (sizesOf z) ⌝ }
-    ensures { λ r. ⌜ r ≡ lengthsOk (sizesOf z) flash wear pspace bspace ⌝ }
+    ensures { λ r. ⌜ r ≡ lengthsOk (sizesOf z) flash codes marks wear pspace bspace ⌝ }
 {
     let s = z.page_size as usize;
     let k = z.pages_per_block as usize;
     let n = z.blocks as usize;
     let p = z.slots as usize;
     let b = z.frames as usize;
-    (flash == n * k * s) & ((wear == n) & ((pspace == p * s) & (bspace == b * k * s)))
+    (flash == n * k * s)
+        & ((codes == 0)
+            & ((marks == 0) & ((wear == n) & ((pspace == p * s) & (bspace == b * k * s)))))
 }
 
 // So many bytes, from byte `first` of a page on, end within it.

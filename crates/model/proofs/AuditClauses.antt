@@ -1,5 +1,6 @@
 -- Demand 3 on script A, clause by clause, by computing the store, the page array and the rewrite book side by side.
 use mathlib.Core.Path.{_≡_, refl}
+use mathlib.Core.Bool.{false}
 use mathlib.Core.List.{List, [], _∷_}
 use Prim.Native.Nat.{ℕ}
 use lib.ListN.{take, replicate}
@@ -7,26 +8,32 @@ use Rattle.prelude.specs.Tests.{every}
 use Rattle.prelude.specs.Scan.{firstFrom, first, count, all, allPairs, nth, argmax, least, tabFrom, tab}
 use Rattle.prelude.specs.Bits.{bit, mask}
 use Rattle.prelude.specs.Pages.{pageAt, pagesOf, flat}
-use Rattle.model.specs.Sizes.{vacant, Sizes, sizesOk}
+use Rattle.model.specs.Sizes.{vacant, Sizes, plainSizes, isCoded, isMarked, sizesOk}
 use Rattle.model.specs.Directory.{inFrame, vacantDirectory, blankCache}
 use Rattle.model.specs.Soundness.{shapeOk, slotOk, frameOk, slotsDiffer, framesDiffer, cachedOnce, listedOnce, slotPast, framePast}
-use Rattle.model.specs.Soundness.{sound}
+use Rattle.model.specs.Soundness.{usesOk, sound}
 use Rattle.model.specs.Policy.{inBlock, slotOf, inSlots, frameWith, frameOf, validCount, slotCount, readWay, leastRecent, victim}
 use Rattle.model.specs.Policy.{fewestValid, evictable, anyEvictable, evictFrame, evictionPlan, plan, occupied, lowestInSlots, dueOf}
 use Rattle.model.specs.Policy.{cached, isWorn, lowestWorn}
-use Rattle.model.specs.Moves.{flashPage, programmed, worn, wornBy, recencyAfter, touched, putSlot, entered, putSlotPage, putFramePage}
+use Rattle.model.specs.Moves.{cellAt, flashPage, programmed, worn, wornBy, recencyAfter, touched, putSlot, entered, putSlotPage}
+use Rattle.model.specs.Moves.{putFramePage}
 use Rattle.model.specs.Moves.{joined, filled, joinedPages, unmet, spare, taken, givenSlot, exchanged, exchangedPages, vacated, merged}
 use Rattle.model.specs.Moves.{rewrittenPages, readDirectory, written, stepped, readPage, writtenPages, steppedPages}
 use Rattle.model.specs.Calls.{readDone, writeDone, flushDone, refused, Answer, Call, read, write, flush, checked, readOutcome}
 use Rattle.model.specs.Calls.{writeOutcome, stepOutcome, steps, flushOutcome, decide, stepsPages, callPages, Page, Buffers, lentOk}
-use Rattle.model.specs.Calls.{openStore, Store, zeroPage, flashPages, memoryOf, buffersOf, carriedOut, call, told}
-use Rattle.model.specs.Lists.{Put, Reference, opened, fed, arrayAfter, logAfter, beforeAfter, blockPages, timesCached}
+use Rattle.model.specs.Calls.{openStore, Store, zeroPage, memoryOf, buffersOf, carriedOut, call}
+use Rattle.model.specs.Calls.{flashCells, callReading, readsAll, heeding, faultOf, faultMet, somePage, mendsOf, mendsMet, sum}
+use Rattle.model.specs.Calls.{readsFlash}
+use Rattle.model.specs.Calls.{readsPage, stepsMerge, mergesPage}
+use Rattle.model.specs.Formats.{formatOf, torn, storeFormat}
+use Rattle.model.specs.Lists.{Chosen, bookSays, flashPages, baseAfter, Put, Reference, opened, fed, arrayAfter, logAfter, beforeAfter}
+use Rattle.model.specs.Lists.{blockPages, timesCached}
 
 abbrev pub sizesA : Sizes
-sizesA = record { S = 1; K = 2; N = 3; P = 2; B = 1; W = 9 }
+sizesA = plainSizes 1 2 3 2 1 9
 
 abbrev pub lentA : Buffers
-lentA = record { flash = replicate 6 255; wear = replicate 3 0; pspace = replicate 2 0; bspace = replicate 2 0 }
+lentA = record { flash = replicate 6 255; codes = []; marks = []; wear = replicate 3 0; pspace = replicate 2 0; bspace = replicate 2 0 }
 
 -- four writes, the last by way 7; a read from a frame, one from flash; a refused read and a refused write; a flush
 writesA : List (Call Page)
@@ -40,28 +47,28 @@ record Pair : Type 0 where
   store : Store
   reference : Reference
   says : List Answer
-  bookSays : List Answer
+  bookSaid : List Answer
   buffers : List Page
 
 both : Pair → List (Call Page) → Pair
 both p [] = p
 both p (c ∷ cs) =
-    let r = call leastRecent (p .store) c in
-    let o = decide leastRecent sizesA (p .reference .book) (told c) in
+    let r = call storeFormat leastRecent (p .store) c in
+    let o = bookSays sizesA (p .reference) (record { choice = leastRecent; besides = λ i. false; call = c }) (r .answer) in
     both (record {
       store = r .store;
-      reference = fed sizesA (p .reference) c o;
+      reference = fed sizesA (p .reference) c o (flashCells storeFormat sizesA (r .store .lent));
       says = r .answer ∷ p .says;
-      bookSays = o .answer ∷ p .bookSays;
+      bookSaid = o .answer ∷ p .bookSaid;
       buffers = r .page ∷ p .buffers;
     }) cs
 
 start : Pair
 start = record {
-  store = record { cache = openStore sizesA lentA .cache; lent = lentA };
-  reference = opened sizesA lentA;
+  store = record { cache = openStore storeFormat sizesA lentA .cache; lent = lentA };
+  reference = opened storeFormat sizesA lentA;
   says = [];
-  bookSays = [];
+  bookSaid = [];
   buffers = [];
 }
 
@@ -82,7 +89,7 @@ put n x = record { page = n; bytes = x }
 pub record Clauses : Type 0 where
   -- the store answers as the book does, refusals included
   answers : ran .says ≡ both-say
-  book-answers : ran .bookSays ≡ both-say
+  book-answers : ran .bookSaid ≡ both-say
   -- the page array: what was last accepted for each page, or what flash held at opening
   array : ran .reference .array ≡ (10 ∷ []) ∷ (255 ∷ []) ∷ (20 ∷ []) ∷ (40 ∷ []) ∷ (30 ∷ []) ∷ (255 ∷ []) ∷ []
   -- what was accepted, latest first: the four writes, and nothing of the refused calls, the reads and the flush
@@ -97,7 +104,7 @@ pub record Clauses : Type 0 where
       (255 ∷ []) ∷ []
   logs-before : wrote .reference .logBefore ≡ (put 4 (30 ∷ []) ∷ put 2 (20 ∷ []) ∷ put 0 (10 ∷ []) ∷ []) ∷ [] ∷ [] ∷ []
   -- every flash block is, as a whole, the array before the call of its last rewrite, or at opening
-  blocks-whole : tab 3 (blockPages sizesA (flashPages sizesA (wrote .store .lent .flash)))
+  blocks-whole : tab 3 (blockPages sizesA (flashPages storeFormat sizesA (wrote .store .lent)))
       ≡ ((10 ∷ []) ∷ (255 ∷ []) ∷ []) ∷ replicate 2 (255 ∷ []) ∷ replicate 2 (255 ∷ []) ∷ []
   -- each block's wear is the book's
   wear : ran .store .lent .wear ≡ 1 ∷ 1 ∷ 1 ∷ []
@@ -111,8 +118,10 @@ unfolding start wrote ran both writesA restA blockPages timesCached opened fed a
     memoryOf buffersOf zeroPage lentOk callPages stepsPages decide flushOutcome steps stepOutcome writeOutcome readOutcome checked
     steppedPages writtenPages readPage stepped written readDirectory rewrittenPages merged vacated exchangedPages exchanged givenSlot
     taken spare unmet joinedPages filled joined putFramePage putSlotPage entered putSlot touched recencyAfter wornBy worn programmed
-    flashPage lowestWorn isWorn cached dueOf lowestInSlots occupied plan evictionPlan evictFrame anyEvictable evictable fewestValid victim
-    leastRecent readWay slotCount validCount frameOf frameWith inSlots slotOf inBlock inFrame sound framePast slotPast listedOnce
+    flashPage formatOf torn flashCells callReading readsAll heeding faultOf faultMet somePage mendsOf mendsMet sum readsFlash readsPage
+    stepsMerge mergesPage cellAt baseAfter flashPages isCoded isMarked lowestWorn isWorn cached dueOf lowestInSlots occupied plan
+    evictionPlan evictFrame anyEvictable evictable fewestValid victim
+    leastRecent readWay slotCount validCount frameOf frameWith inSlots slotOf inBlock inFrame sound usesOk framePast slotPast listedOnce
     cachedOnce framesDiffer slotsDiffer frameOk slotOk shapeOk sizesOk vacantDirectory blankCache every first firstFrom count all allPairs
     tab tabFrom bit mask nth argmax least pageAt pagesOf flat
 clauses = record {

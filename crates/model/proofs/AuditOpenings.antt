@@ -1,25 +1,26 @@
--- Openings: their refusals in order, each size at its limits and one past, buffers of wrong lengths, the blank record, and calls after a
--- refused opening.
+-- Openings: their refusals in order, each size at its limits and one past, each option, buffers of wrong lengths, the blank record, and
+-- calls after a refused opening.
 use mathlib.Core.List.{List, [], _∷_}
 use Prim.Native.Nat.{ℕ}
 use lib.ListN.{replicate}
-use Rattle.model.specs.Sizes.{Sizes, vacant}
+use Rattle.model.specs.Sizes.{Sizes, plainSizes, vacant}
 use Rattle.model.specs.Policy.{leastRecent}
-use Rattle.model.specs.Calls.{openDone, refused, Call, read, write, part, step, flush, Page, Buffers, Opened, openStore}
+use Rattle.model.specs.Calls.{openDone, readDone, refused, Call, read, write, part, step, flush, Page, Buffers, Opened, openStore}
 use Rattle.model.specs.Calls.{Store, Result, call}
-use Rattle.model.proofs.AuditRows.{Row, sizesOf, directoryOf}
+use Rattle.model.specs.Formats.{storeFormat}
+use Rattle.model.proofs.AuditRows.{Row, way, directoryOf}
 
 -- a refused opening leaves the blank record, on which every call is refused 4
 abbrev pub blank-record : Row
 blank-record = record {
-  sizes = sizesOf 0 2 3 2 1 9;
+  sizes = plainSizes 0 2 3 2 1 9;
   wear = 0 ∷ 0 ∷ 0 ∷ [];
   calls = read 0 [] ∷ write 0 [] ∷ step ∷ flush ∷ [];
   gives = record {
     opening = refused 1 vacant;
     answers = refused 4 vacant ∷ refused 4 vacant ∷ refused 4 vacant ∷ refused 4 vacant ∷ [];
     pages = [] ∷ [] ∷ [] ∷ [] ∷ [];
-    sizes = sizesOf 0 0 0 0 0 0;
+    sizes = plainSizes 0 0 0 0 0 0;
     slots = [];
     frames = [];
     valid = [];
@@ -34,14 +35,14 @@ blank-record = record {
 -- refusal 2 looks at the lent buffers at opening, and refusal 3 at the wear
 abbrev pub short-wear : Row
 short-wear = record {
-  sizes = sizesOf 1 2 3 2 1 9;
+  sizes = plainSizes 1 2 3 2 1 9;
   wear = 0 ∷ 0 ∷ [];
   calls = [];
   gives = record {
     opening = refused 2 vacant;
     answers = [];
     pages = [];
-    sizes = sizesOf 0 0 0 0 0 0;
+    sizes = plainSizes 0 0 0 0 0 0;
     slots = [];
     frames = [];
     valid = [];
@@ -56,14 +57,14 @@ short-wear = record {
 --
 abbrev pub overworn : Row
 overworn = record {
-  sizes = sizesOf 1 2 3 2 1 9;
+  sizes = plainSizes 1 2 3 2 1 9;
   wear = 0 ∷ 10 ∷ 0 ∷ [];
   calls = [];
   gives = record {
     opening = refused 3 vacant;
     answers = [];
     pages = [];
-    sizes = sizesOf 0 0 0 0 0 0;
+    sizes = plainSizes 0 0 0 0 0 0;
     slots = [];
     frames = [];
     valid = [];
@@ -78,14 +79,14 @@ overworn = record {
 -- a page buffer of another length is refused 2, before the page number is looked at
 abbrev pub page-buffer : Row
 page-buffer = record {
-  sizes = sizesOf 1 2 3 2 1 9;
+  sizes = plainSizes 1 2 3 2 1 9;
   wear = 0 ∷ 9 ∷ 0 ∷ [];
   calls = write 0 (1 ∷ 2 ∷ []) ∷ read 9 [] ∷ write 9 (1 ∷ []) ∷ [];
   gives = record {
     opening = openDone;
     answers = refused 2 vacant ∷ refused 2 vacant ∷ refused 5 vacant ∷ [];
     pages = (1 ∷ 2 ∷ []) ∷ [] ∷ (1 ∷ []) ∷ [];
-    sizes = sizesOf 1 2 3 2 1 9;
+    sizes = plainSizes 1 2 3 2 1 9;
     slots = vacant ∷ vacant ∷ [];
     frames = vacant ∷ [];
     valid = 0 ∷ [];
@@ -100,14 +101,14 @@ page-buffer = record {
 -- after an opening refused 1 every call is refused 4, and the record stays blank
 abbrev pub after-size : Row
 after-size = record {
-  sizes = sizesOf 1 1 3 2 1 9;
+  sizes = plainSizes 1 1 3 2 1 9;
   wear = 0 ∷ 0 ∷ 0 ∷ [];
   calls = read 0 (7 ∷ []) ∷ write 0 (7 ∷ []) ∷ part 0 0 (1 ∷ []) (7 ∷ []) ∷ step ∷ flush ∷ [];
   gives = record {
     opening = refused 1 vacant;
     answers = refused 4 vacant ∷ refused 4 vacant ∷ refused 4 vacant ∷ refused 4 vacant ∷ refused 4 vacant ∷ [];
     pages = (7 ∷ []) ∷ (7 ∷ []) ∷ (7 ∷ []) ∷ [] ∷ [] ∷ [];
-    sizes = sizesOf 0 0 0 0 0 0;
+    sizes = plainSizes 0 0 0 0 0 0;
     slots = [];
     frames = [];
     valid = [];
@@ -122,14 +123,14 @@ after-size = record {
 -- after an opening refused 3 every call is refused 4, though sizes and buffers would do
 abbrev pub after-overworn : Row
 after-overworn = record {
-  sizes = sizesOf 1 2 3 2 1 9;
+  sizes = plainSizes 1 2 3 2 1 9;
   wear = 0 ∷ 10 ∷ 0 ∷ [];
   calls = read 0 (7 ∷ []) ∷ write 0 (7 ∷ []) ∷ part 0 0 (1 ∷ []) (7 ∷ []) ∷ step ∷ flush ∷ [];
   gives = record {
     opening = refused 3 vacant;
     answers = refused 4 vacant ∷ refused 4 vacant ∷ refused 4 vacant ∷ refused 4 vacant ∷ refused 4 vacant ∷ [];
     pages = (7 ∷ []) ∷ (7 ∷ []) ∷ (7 ∷ []) ∷ [] ∷ [] ∷ [];
-    sizes = sizesOf 0 0 0 0 0 0;
+    sizes = plainSizes 0 0 0 0 0 0;
     slots = [];
     frames = [];
     valid = [];
@@ -152,22 +153,31 @@ pub record Opens : Type 0 where
   pub lent : Buffers
   pub gives : Opened
 
--- a flash of so many bytes, the wear, a p-space and a b-space of so many bytes
-abbrev pub lengths : ℕ → List ℕ → ℕ → ℕ → Buffers
-lengths flash wear pspace bspace = record {
+-- a flash, codes and marks of so many bytes, the wear, a p-space and a b-space of so many bytes
+abbrev pub allLengths : ℕ → ℕ → ℕ → List ℕ → ℕ → ℕ → Buffers
+allLengths flash codes marks wear pspace bspace = record {
   flash = replicate flash 255;
+  codes = replicate codes 255;
+  marks = replicate marks 0;
   wear = wear;
   pspace = replicate pspace 0;
   bspace = replicate bspace 0;
 }
 
+-- without codes and marks
+abbrev pub lengths : ℕ → List ℕ → ℕ → ℕ → Buffers
+lengths flash wear pspace bspace = allLengths flash 0 0 wear pspace bspace
+
 -- it is refused for cause r, and the record is blank
-abbrev pub refuses : Sizes → ℕ → List ℕ → ℕ → ℕ → ℕ → Opens
-refuses sz flash wear pspace bspace r = record {
+abbrev pub refusesLent : Sizes → Buffers → ℕ → Opens
+refusesLent sz u r = record {
   sizes = sz;
-  lent = lengths flash wear pspace bspace;
-  gives = record { answer = refused r vacant; cache = record { sizes = sizesOf 0 0 0 0 0 0; directory = directoryOf [] [] [] [] } };
+  lent = u;
+  gives = record { answer = refused r vacant; cache = record { sizes = plainSizes 0 0 0 0 0 0; directory = directoryOf [] [] [] [] } };
 }
+
+abbrev pub refuses : Sizes → ℕ → List ℕ → ℕ → ℕ → ℕ → Opens
+refuses sz flash wear pspace bspace r = refusesLent sz (lengths flash wear pspace bspace) r
 
 -- it is accepted, and the record has the sizes and is all vacant
 abbrev pub opens : Sizes → ℕ → List ℕ → ℕ → ℕ → Opens
@@ -178,7 +188,7 @@ opens sz flash wear pspace bspace = record {
 }
 
 abbrev pub opened : Opens → Opened
-opened r = openStore (r .sizes) (r .lent)
+opened r = openStore storeFormat (r .sizes) (r .lent)
 
 abbrev pub openedListed : Opens → Opened
 openedListed r = r .gives
@@ -186,52 +196,102 @@ openedListed r = r .gives
 -- each size one below its limits, at both, and one above, with empty buffers: refused 1 beyond a limit, refused 2 within
 abbrev pub limits : List Opens
 limits =
-    refuses (sizesOf 0 4 5 6 7 8) 0 [] 0 0 1
-    ∷ refuses (sizesOf 1 4 5 6 7 8) 0 [] 0 0 2
-    ∷ refuses (sizesOf 2048 4 5 6 7 8) 0 [] 0 0 2
-    ∷ refuses (sizesOf 2049 4 5 6 7 8) 0 [] 0 0 1
-    ∷ refuses (sizesOf 3 1 5 6 7 8) 0 [] 0 0 1
-    ∷ refuses (sizesOf 3 2 5 6 7 8) 0 [] 0 0 2
-    ∷ refuses (sizesOf 3 64 5 6 7 8) 0 [] 0 0 2
-    ∷ refuses (sizesOf 3 65 5 6 7 8) 0 [] 0 0 1
-    ∷ refuses (sizesOf 3 4 0 6 7 8) 0 [] 0 0 1
-    ∷ refuses (sizesOf 3 4 1 6 7 8) 0 [] 0 0 2
-    ∷ refuses (sizesOf 3 4 4096 6 7 8) 0 [] 0 0 2
-    ∷ refuses (sizesOf 3 4 4097 6 7 8) 0 [] 0 0 1
-    ∷ refuses (sizesOf 3 4 5 0 7 8) 0 [] 0 0 1
-    ∷ refuses (sizesOf 3 4 5 1 7 8) 0 [] 0 0 2
-    ∷ refuses (sizesOf 3 4 5 128 7 8) 0 [] 0 0 2
-    ∷ refuses (sizesOf 3 4 5 129 7 8) 0 [] 0 0 1
-    ∷ refuses (sizesOf 3 4 5 6 0 8) 0 [] 0 0 1
-    ∷ refuses (sizesOf 3 4 5 6 1 8) 0 [] 0 0 2
-    ∷ refuses (sizesOf 3 4 5 6 8 8) 0 [] 0 0 2
-    ∷ refuses (sizesOf 3 4 5 6 9 8) 0 [] 0 0 1
-    ∷ refuses (sizesOf 3 4 5 6 7 0) 0 [] 0 0 1
-    ∷ refuses (sizesOf 3 4 5 6 7 1) 0 [] 0 0 2
-    ∷ refuses (sizesOf 3 4 5 6 7 1000000) 0 [] 0 0 2
-    ∷ refuses (sizesOf 3 4 5 6 7 1000001) 0 [] 0 0 1
+    refuses (plainSizes 0 4 5 6 7 8) 0 [] 0 0 1
+    ∷ refuses (plainSizes 1 4 5 6 7 8) 0 [] 0 0 2
+    ∷ refuses (plainSizes 2048 4 5 6 7 8) 0 [] 0 0 2
+    ∷ refuses (plainSizes 2049 4 5 6 7 8) 0 [] 0 0 1
+    ∷ refuses (plainSizes 3 1 5 6 7 8) 0 [] 0 0 1
+    ∷ refuses (plainSizes 3 2 5 6 7 8) 0 [] 0 0 2
+    ∷ refuses (plainSizes 3 64 5 6 7 8) 0 [] 0 0 2
+    ∷ refuses (plainSizes 3 65 5 6 7 8) 0 [] 0 0 1
+    ∷ refuses (plainSizes 3 4 0 6 7 8) 0 [] 0 0 1
+    ∷ refuses (plainSizes 3 4 1 6 7 8) 0 [] 0 0 2
+    ∷ refuses (plainSizes 3 4 4096 6 7 8) 0 [] 0 0 2
+    ∷ refuses (plainSizes 3 4 4097 6 7 8) 0 [] 0 0 1
+    ∷ refuses (plainSizes 3 4 5 0 7 8) 0 [] 0 0 1
+    ∷ refuses (plainSizes 3 4 5 1 7 8) 0 [] 0 0 2
+    ∷ refuses (plainSizes 3 4 5 128 7 8) 0 [] 0 0 2
+    ∷ refuses (plainSizes 3 4 5 129 7 8) 0 [] 0 0 1
+    ∷ refuses (plainSizes 3 4 5 6 0 8) 0 [] 0 0 1
+    ∷ refuses (plainSizes 3 4 5 6 1 8) 0 [] 0 0 2
+    ∷ refuses (plainSizes 3 4 5 6 8 8) 0 [] 0 0 2
+    ∷ refuses (plainSizes 3 4 5 6 9 8) 0 [] 0 0 1
+    ∷ refuses (plainSizes 3 4 5 6 7 0) 0 [] 0 0 1
+    ∷ refuses (plainSizes 3 4 5 6 7 1) 0 [] 0 0 2
+    ∷ refuses (plainSizes 3 4 5 6 7 1000000) 0 [] 0 0 2
+    ∷ refuses (plainSizes 3 4 5 6 7 1000001) 0 [] 0 0 1
     ∷ []
 
 -- each buffer one too short, then one too long; then two or three causes at once, of which the first counts: 1 and 3; 1 and 2; 1, 2 and
 -- 3; 2 and 3, thrice; then wear above W, and at W
 abbrev pub causes : List Opens
 causes =
-    refuses (sizesOf 1 2 3 2 1 9) 5 (0 ∷ 0 ∷ 0 ∷ []) 2 2 2
-    ∷ refuses (sizesOf 1 2 3 2 1 9) 6 (0 ∷ 0 ∷ []) 2 2 2
-    ∷ refuses (sizesOf 1 2 3 2 1 9) 6 (0 ∷ 0 ∷ 0 ∷ []) 1 2 2
-    ∷ refuses (sizesOf 1 2 3 2 1 9) 6 (0 ∷ 0 ∷ 0 ∷ []) 2 1 2
-    ∷ refuses (sizesOf 1 2 3 2 1 9) 7 (0 ∷ 0 ∷ 0 ∷ []) 2 2 2
-    ∷ refuses (sizesOf 1 2 3 2 1 9) 6 (0 ∷ 0 ∷ 0 ∷ 0 ∷ []) 2 2 2
-    ∷ refuses (sizesOf 1 2 3 2 1 9) 6 (0 ∷ 0 ∷ 0 ∷ []) 3 2 2
-    ∷ refuses (sizesOf 1 2 3 2 1 9) 6 (0 ∷ 0 ∷ 0 ∷ []) 2 3 2
-    ∷ refuses (sizesOf 1 2 3 2 1 0) 6 (1 ∷ 1 ∷ 1 ∷ []) 2 2 1
-    ∷ refuses (sizesOf 1 1 3 2 1 9) 7 (0 ∷ 0 ∷ 0 ∷ []) 2 2 1
-    ∷ refuses (sizesOf 1 1 3 2 1 9) 7 (10 ∷ 10 ∷ 10 ∷ []) 2 2 1
-    ∷ refuses (sizesOf 1 2 3 2 1 9) 7 (10 ∷ 0 ∷ 0 ∷ []) 2 2 2
-    ∷ refuses (sizesOf 1 2 3 2 1 9) 6 (0 ∷ 0 ∷ 10 ∷ 0 ∷ []) 2 2 2
-    ∷ refuses (sizesOf 1 2 3 2 1 9) 6 (10 ∷ 0 ∷ []) 2 2 2
-    ∷ refuses (sizesOf 1 2 3 2 1 9) 6 (0 ∷ 0 ∷ 10 ∷ []) 2 2 3
-    ∷ opens (sizesOf 1 2 3 2 1 9) 6 (9 ∷ 9 ∷ 9 ∷ []) 2 2
+    refuses (plainSizes 1 2 3 2 1 9) 5 (0 ∷ 0 ∷ 0 ∷ []) 2 2 2
+    ∷ refuses (plainSizes 1 2 3 2 1 9) 6 (0 ∷ 0 ∷ []) 2 2 2
+    ∷ refuses (plainSizes 1 2 3 2 1 9) 6 (0 ∷ 0 ∷ 0 ∷ []) 1 2 2
+    ∷ refuses (plainSizes 1 2 3 2 1 9) 6 (0 ∷ 0 ∷ 0 ∷ []) 2 1 2
+    ∷ refuses (plainSizes 1 2 3 2 1 9) 7 (0 ∷ 0 ∷ 0 ∷ []) 2 2 2
+    ∷ refuses (plainSizes 1 2 3 2 1 9) 6 (0 ∷ 0 ∷ 0 ∷ 0 ∷ []) 2 2 2
+    ∷ refuses (plainSizes 1 2 3 2 1 9) 6 (0 ∷ 0 ∷ 0 ∷ []) 3 2 2
+    ∷ refuses (plainSizes 1 2 3 2 1 9) 6 (0 ∷ 0 ∷ 0 ∷ []) 2 3 2
+    ∷ refuses (plainSizes 1 2 3 2 1 0) 6 (1 ∷ 1 ∷ 1 ∷ []) 2 2 1
+    ∷ refuses (plainSizes 1 1 3 2 1 9) 7 (0 ∷ 0 ∷ 0 ∷ []) 2 2 1
+    ∷ refuses (plainSizes 1 1 3 2 1 9) 7 (10 ∷ 10 ∷ 10 ∷ []) 2 2 1
+    ∷ refuses (plainSizes 1 2 3 2 1 9) 7 (10 ∷ 0 ∷ 0 ∷ []) 2 2 2
+    ∷ refuses (plainSizes 1 2 3 2 1 9) 6 (0 ∷ 0 ∷ 10 ∷ 0 ∷ []) 2 2 2
+    ∷ refuses (plainSizes 1 2 3 2 1 9) 6 (10 ∷ 0 ∷ []) 2 2 2
+    ∷ refuses (plainSizes 1 2 3 2 1 9) 6 (0 ∷ 0 ∷ 10 ∷ []) 2 2 3
+    ∷ opens (plainSizes 1 2 3 2 1 9) 6 (9 ∷ 9 ∷ 9 ∷ []) 2 2
+    ∷ []
+
+-- the sizes 256 2 3 2 1 9 with options: policy, coded, shelf pages, marked
+abbrev pub withOptions : ℕ → ℕ → ℕ → ℕ → Sizes
+withOptions policy coded shelfPages marked = record {
+  S = 256;
+  K = 2;
+  N = 3;
+  P = 2;
+  B = 1;
+  W = 9;
+  policy = policy;
+  coded = coded;
+  shelfPages = shelfPages;
+  marked = marked;
+}
+
+-- buffers for them, as long as a plain store's; with codes of 3 bytes and marks of 1 for each page
+abbrev plainly : Buffers
+plainly = lengths 1536 (0 ∷ 0 ∷ 0 ∷ []) 512 512
+
+abbrev codesAndMarks : ℕ → ℕ → Buffers
+codesAndMarks codes marks = allLengths 1536 codes marks (0 ∷ 0 ∷ 0 ∷ []) 512 512
+
+-- An opening with an option is refused 1, also lent what the option would ask for, and before the buffers are looked at; a store without
+-- options is lent no codes and no marks, else it is refused 2, before the wear is looked at.
+abbrev pub options : List Opens
+options =
+    -- the policies to come, and one past them
+    refusesLent (withOptions 1 0 0 0) plainly 1
+    ∷ refusesLent (withOptions 2 0 0 0) plainly 1
+    ∷ refusesLent (withOptions 3 0 0 0) plainly 1
+    -- coded, without codes and with them, and a number that is no choice
+    ∷ refusesLent (withOptions 0 1 0 0) plainly 1
+    ∷ refusesLent (withOptions 0 1 0 0) (codesAndMarks 18 0) 1
+    ∷ refusesLent (withOptions 0 2 0 0) plainly 1
+    -- shelf pages: one, and one more than there will be
+    ∷ refusesLent (withOptions 0 0 1 0) plainly 1
+    ∷ refusesLent (withOptions 0 0 9 0) plainly 1
+    -- marked, without marks and with them
+    ∷ refusesLent (withOptions 0 0 0 1) plainly 1
+    ∷ refusesLent (withOptions 0 0 0 1) (codesAndMarks 0 6) 1
+    -- an option, and buffers that fit no store
+    ∷ refusesLent (withOptions 1 0 0 0) (lengths 0 [] 0 0) 1
+    -- no option, and codes of one page or of all, marks of one or of all
+    ∷ refusesLent (withOptions 0 0 0 0) (codesAndMarks 3 0) 2
+    ∷ refusesLent (withOptions 0 0 0 0) (codesAndMarks 18 0) 2
+    ∷ refusesLent (withOptions 0 0 0 0) (codesAndMarks 0 1) 2
+    ∷ refusesLent (withOptions 0 0 0 0) (codesAndMarks 0 6) 2
+    ∷ refusesLent (withOptions 0 0 0 0) (allLengths 1536 0 6 (10 ∷ 0 ∷ 0 ∷ []) 512 512) 2
     ∷ []
 
 -- ---- calls with buffers of other lengths than at opening
@@ -242,31 +302,40 @@ pub record Lends : Type 0 where
   pub call : Call Page
   pub page : Page
 
--- sizes, the lengths of the buffers as above, the call, and the page buffer afterwards
-abbrev pub lends : Sizes → ℕ → List ℕ → ℕ → ℕ → Call Page → Page → Lends
-lends sz flash wear pspace bspace c page = record {
-  store = record { cache = record { sizes = sz; directory = directoryOf [] [] [] [] }; lent = lengths flash wear pspace bspace };
+-- sizes, the buffers, the call, and the page buffer afterwards
+abbrev pub lendsAll : Sizes → Buffers → Call Page → Page → Lends
+lendsAll sz u c page = record {
+  store = record { cache = record { sizes = sz; directory = directoryOf [] [] [] [] }; lent = u };
   call = c;
   page = page;
 }
 
+-- the lengths of the buffers as above
+abbrev pub lends : Sizes → ℕ → List ℕ → ℕ → ℕ → Call Page → Page → Lends
+lends sz flash wear pspace bspace c page = lendsAll sz (lengths flash wear pspace bspace) c page
+
 abbrev pub called : Lends → Result
-called r = call leastRecent (r .store) (r .call)
+called r = call storeFormat leastRecent (r .store) (r .call)
 
 -- each is refused 2: the record and the buffers are handed back
 abbrev pub calledListed : Lends → Result
-calledListed r = record { answer = refused 2 vacant; store = r .store; page = r .page }
+calledListed r = record { answer = refused 2 vacant; mends = 0; store = r .store; page = r .page }
 
--- each buffer one too short and one too long; the last has a page number that is too high as well
+-- each buffer one too short and one too long; then one with a page number that is too high as well; then codes and marks, of one byte and
+-- of as many as there are pages
 abbrev pub lendings : List Lends
 lendings =
-    lends (sizesOf 1 2 3 2 1 9) 5 (0 ∷ 0 ∷ 0 ∷ []) 2 2 (read 0 (7 ∷ [])) (7 ∷ [])
-    ∷ lends (sizesOf 1 2 3 2 1 9) 7 (0 ∷ 0 ∷ 0 ∷ []) 2 2 flush []
-    ∷ lends (sizesOf 1 2 3 2 1 9) 6 (0 ∷ 0 ∷ []) 2 2 step []
-    ∷ lends (sizesOf 1 2 3 2 1 9) 6 (0 ∷ 0 ∷ 0 ∷ 0 ∷ []) 2 2 (write 0 (7 ∷ [])) (7 ∷ [])
-    ∷ lends (sizesOf 1 2 3 2 1 9) 6 (0 ∷ 0 ∷ 0 ∷ []) 1 2 (part 0 0 (1 ∷ []) (7 ∷ [])) (7 ∷ [])
-    ∷ lends (sizesOf 1 2 3 2 1 9) 6 (0 ∷ 0 ∷ 0 ∷ []) 3 2 flush []
-    ∷ lends (sizesOf 1 2 3 2 1 9) 6 (0 ∷ 0 ∷ 0 ∷ []) 2 1 step []
-    ∷ lends (sizesOf 1 2 3 2 1 9) 6 (0 ∷ 0 ∷ 0 ∷ []) 2 3 (read 0 (7 ∷ [])) (7 ∷ [])
-    ∷ lends (sizesOf 1 2 3 2 1 9) 5 (0 ∷ 0 ∷ 0 ∷ []) 2 2 (write 6 (7 ∷ [])) (7 ∷ [])
+    lends (plainSizes 1 2 3 2 1 9) 5 (0 ∷ 0 ∷ 0 ∷ []) 2 2 (read 0 (7 ∷ [])) (7 ∷ [])
+    ∷ lends (plainSizes 1 2 3 2 1 9) 7 (0 ∷ 0 ∷ 0 ∷ []) 2 2 flush []
+    ∷ lends (plainSizes 1 2 3 2 1 9) 6 (0 ∷ 0 ∷ []) 2 2 step []
+    ∷ lends (plainSizes 1 2 3 2 1 9) 6 (0 ∷ 0 ∷ 0 ∷ 0 ∷ []) 2 2 (write 0 (7 ∷ [])) (7 ∷ [])
+    ∷ lends (plainSizes 1 2 3 2 1 9) 6 (0 ∷ 0 ∷ 0 ∷ []) 1 2 (part 0 0 (1 ∷ []) (7 ∷ [])) (7 ∷ [])
+    ∷ lends (plainSizes 1 2 3 2 1 9) 6 (0 ∷ 0 ∷ 0 ∷ []) 3 2 flush []
+    ∷ lends (plainSizes 1 2 3 2 1 9) 6 (0 ∷ 0 ∷ 0 ∷ []) 2 1 step []
+    ∷ lends (plainSizes 1 2 3 2 1 9) 6 (0 ∷ 0 ∷ 0 ∷ []) 2 3 (read 0 (7 ∷ [])) (7 ∷ [])
+    ∷ lends (plainSizes 1 2 3 2 1 9) 5 (0 ∷ 0 ∷ 0 ∷ []) 2 2 (write 6 (7 ∷ [])) (7 ∷ [])
+    ∷ lendsAll (plainSizes 1 2 3 2 1 9) (allLengths 6 1 0 (0 ∷ 0 ∷ 0 ∷ []) 2 2) (read 0 (7 ∷ [])) (7 ∷ [])
+    ∷ lendsAll (plainSizes 1 2 3 2 1 9) (allLengths 6 18 0 (0 ∷ 0 ∷ 0 ∷ []) 2 2) flush []
+    ∷ lendsAll (plainSizes 1 2 3 2 1 9) (allLengths 6 0 1 (0 ∷ 0 ∷ 0 ∷ []) 2 2) (write 0 (7 ∷ [])) (7 ∷ [])
+    ∷ lendsAll (plainSizes 1 2 3 2 1 9) (allLengths 6 0 6 (0 ∷ 0 ∷ 0 ∷ []) 2 2) step []
     ∷ []

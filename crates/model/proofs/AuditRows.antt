@@ -1,16 +1,13 @@
--- What a row of the audit's tables is, and what is compared: every answer, the whole page buffer after each call, and at the end the whole
--- cache record and the whole of every lent buffer.
-use mathlib.Core.List.{List, [], _∷_, _++_, reverse}
+-- What a row of the audit's tables is, and what is compared: every answer with its mends, the whole page buffer after each call, and at the
+-- end the whole cache record and the whole of every lent buffer. The store has no option: no codes, no marks, no uses counted.
+use mathlib.Core.List.{List, [], _∷_, _++_, map, reverse}
 use Prim.Native.Nat.{ℕ, _-_, _*_}
 use lib.ListN.{length, drop, replicate}
 use Rattle.model.specs.Sizes.{Sizes, vacant}
 use Rattle.model.specs.Directory.{Directory, Cache}
 use Rattle.model.specs.Policy.{leastRecent}
 use Rattle.model.specs.Calls.{Answer, writeDone, Call, Page, Buffers, openStore, Store, call}
-
--- the sizes in the order of an opening: S, K, N, P, B, W
-abbrev pub sizesOf : ℕ → ℕ → ℕ → ℕ → ℕ → ℕ → Sizes
-sizesOf s k n p b w = record { S = s; K = k; N = n; P = p; B = b; W = w }
+use Rattle.model.specs.Formats.{storeFormat}
 
 -- a write that rewrites nothing
 abbrev pub way : ℕ → Answer
@@ -19,7 +16,7 @@ way n = writeDone n vacant 0
 -- ---- what a row lists
 
 -- the opening's answer, each call's answer and its page buffer then, and at the end the record and the lent buffers. Entries of the record
--- that a row does not list are vacant, their bits 0, and their order entry is their own index.
+-- that a row does not list are vacant, their bits 0, and their order entry is their own index; mends are 0, codes and marks empty.
 pub record Gives : Type 0 where
   pub opening : Answer
   pub answers : List Answer
@@ -46,17 +43,19 @@ pub record Row : Type 0 where
 pub record Whole : Type 0 where
   pub opening : Answer
   pub answers : List Answer
+  pub mends : List ℕ
   pub pages : List Page
   pub cache : Cache
   pub lent : Buffers
 
--- 128 slots, 8 frames, 8 valid sets and 8 order entries, of which the first are listed
+-- 128 slots, 8 frames, 8 valid sets and 8 order entries, of which the first are listed, and no uses
 abbrev pub directoryOf : List ℕ → List ℕ → List ℕ → List ℕ → Directory
 directoryOf slots frames valid recency = record {
   slots = slots ++ replicate (128 - length slots) vacant;
   frames = frames ++ replicate (8 - length frames) vacant;
   valid = valid ++ replicate (8 - length valid) 0;
   recency = recency ++ drop (length recency) (0 ∷ 1 ∷ 2 ∷ 3 ∷ 4 ∷ 5 ∷ 6 ∷ 7 ∷ []);
+  uses = replicate 8 0;
 }
 
 -- what a row lists, whole
@@ -64,25 +63,36 @@ abbrev pub listed : Row → Whole
 listed r = let g = r .gives in record {
   opening = g .opening;
   answers = g .answers;
+  mends = map (λ a. 0) (g .answers);
   pages = g .pages;
   cache = record { sizes = g .sizes; directory = directoryOf (g .slots) (g .frames) (g .valid) (g .recency) };
-  lent = record { flash = g .flash; wear = g .wear; pspace = g .pspace; bspace = g .bspace };
+  lent = record { flash = g .flash; codes = []; marks = []; wear = g .wear; pspace = g .pspace; bspace = g .bspace };
 }
 
 abbrev pub erased : Sizes → List ℕ → Buffers
 erased sz w = record {
   flash = replicate (sz .N * sz .K * sz .S) 255;
+  codes = [];
+  marks = [];
   wear = w;
   pspace = replicate (sz .P * sz .S) 0;
   bspace = replicate (sz .B * sz .K * sz .S) 0;
 }
 
 -- the calls one after the other, by the definitions
-abbrev pub runs : Answer → Store → List (Call Page) → List Answer → List Page → Whole
-runs a s [] ys ps = record { opening = a; answers = reverse ys; pages = reverse ps; cache = s .cache; lent = s .lent }
-runs a s (c ∷ cs) ys ps = let r = call leastRecent s c in runs a (r .store) cs (r .answer ∷ ys) (r .page ∷ ps)
+abbrev pub runs : Answer → Store → List (Call Page) → List Answer → List ℕ → List Page → Whole
+runs a s [] ys ms ps = record {
+  opening = a;
+  answers = reverse ys;
+  mends = reverse ms;
+  pages = reverse ps;
+  cache = s .cache;
+  lent = s .lent;
+}
+runs a s (c ∷ cs) ys ms ps =
+    let r = call storeFormat leastRecent s c in runs a (r .store) cs (r .answer ∷ ys) (r .mends ∷ ms) (r .page ∷ ps)
 
 -- what the definitions give
 abbrev pub given : Row → Whole
-given r = let u = erased (r .sizes) (r .wear) in let o = openStore (r .sizes) u in
-    runs (o .answer) (record { cache = o .cache; lent = u }) (r .calls) [] []
+given r = let u = erased (r .sizes) (r .wear) in let o = openStore storeFormat (r .sizes) u in
+    runs (o .answer) (record { cache = o .cache; lent = u }) (r .calls) [] [] []

@@ -2,21 +2,24 @@
 use mathlib.Core.List.{List, [], _∷_, _++_}
 use Prim.Native.Nat.{ℕ}
 use lib.ListN.{replicate}
-use Rattle.model.specs.Sizes.{Sizes, vacant}
+use Rattle.model.specs.Sizes.{Sizes, plainSizes, vacant}
+use Rattle.model.specs.Directory.{Directory}
 use Rattle.model.specs.Policy.{leastRecent}
 use Rattle.model.specs.Calls.{Answer, readDone, refused, read, Page, Store, Result, call}
-use Rattle.model.proofs.AuditRows.{sizesOf, directoryOf, erased}
+use Rattle.model.specs.Formats.{storeFormat}
+use Rattle.model.proofs.AuditRows.{directoryOf, erased}
 
--- the record with these sizes, slots, frames, valid sets and order, and the erased buffers of the sizes 1 4 3 3 2 9
+-- the record with these sizes and numbers, and the erased buffers of the sizes 1 4 3 3 2 9
+abbrev pub storeOf : Sizes → Directory → Store
+storeOf sz d = record { cache = record { sizes = sz; directory = d }; lent = erased (plainSizes 1 4 3 3 2 9) (0 ∷ 0 ∷ 0 ∷ []) }
+
+-- with these slots, frames, valid sets and order
 abbrev pub recordOf : Sizes → List ℕ → List ℕ → List ℕ → List ℕ → Store
-recordOf sz slots frames valid recency = record {
-  cache = record { sizes = sz; directory = directoryOf slots frames valid recency };
-  lent = erased (sizesOf 1 4 3 3 2 9) (0 ∷ 0 ∷ 0 ∷ []);
-}
+recordOf sz slots frames valid recency = storeOf sz (directoryOf slots frames valid recency)
 
 -- a read of page 0 with byte 7 in the page buffer
 abbrev pub tried : Store → Result
-tried s = call leastRecent s (read 0 (7 ∷ []))
+tried s = call storeFormat leastRecent s (read 0 (7 ∷ []))
 
 -- ---- sound records
 
@@ -30,12 +33,12 @@ abbrev pub triedUnspoilt : Unspoilt → Result
 triedUnspoilt r = tried (r .store)
 
 abbrev pub unspoiltListed : Unspoilt → Result
-unspoiltListed r = record { answer = r .answer; store = r .store; page = r .page }
+unspoiltListed r = record { answer = r .answer; mends = 0; store = r .store; page = r .page }
 
 -- the record that is spoilt below
 abbrev pub held : Unspoilt
 held = record {
-  store = recordOf (sizesOf 1 4 3 3 2 9) (0 ∷ vacant ∷ 9 ∷ []) (1 ∷ 2 ∷ []) (5 ∷ 1 ∷ []) (1 ∷ 0 ∷ []);
+  store = recordOf (plainSizes 1 4 3 3 2 9) (0 ∷ vacant ∷ 9 ∷ []) (1 ∷ 2 ∷ []) (5 ∷ 1 ∷ []) (1 ∷ 0 ∷ []);
   answer = readDone 1;
   page = 0 ∷ [];
 }
@@ -43,7 +46,7 @@ held = record {
 -- no slot and no frame held
 abbrev pub vacantOnes : Unspoilt
 vacantOnes = record {
-  store = recordOf (sizesOf 1 4 3 3 2 9) (vacant ∷ vacant ∷ vacant ∷ []) (vacant ∷ vacant ∷ []) (0 ∷ 0 ∷ []) (0 ∷ 1 ∷ []);
+  store = recordOf (plainSizes 1 4 3 3 2 9) (vacant ∷ vacant ∷ vacant ∷ []) (vacant ∷ vacant ∷ []) (0 ∷ 0 ∷ []) (0 ∷ 1 ∷ []);
   answer = readDone 3;
   page = 255 ∷ [];
 }
@@ -51,7 +54,7 @@ vacantOnes = record {
 -- the highest page in a slot, and a frame with all its pages valid
 abbrev pub highest : Unspoilt
 highest = record {
-  store = recordOf (sizesOf 1 4 3 3 2 9) (11 ∷ vacant ∷ 3 ∷ []) (1 ∷ 0 ∷ []) (15 ∷ 6 ∷ []) (0 ∷ 1 ∷ []);
+  store = recordOf (plainSizes 1 4 3 3 2 9) (11 ∷ vacant ∷ 3 ∷ []) (1 ∷ 0 ∷ []) (15 ∷ 6 ∷ []) (0 ∷ 1 ∷ []);
   answer = readDone 3;
   page = 255 ∷ [];
 }
@@ -65,43 +68,81 @@ abbrev withSizes : Sizes → Store
 withSizes sz = recordOf sz (0 ∷ vacant ∷ 9 ∷ []) (1 ∷ 2 ∷ []) (5 ∷ 1 ∷ []) (1 ∷ 0 ∷ [])
 
 abbrev withSlots : List ℕ → Store
-withSlots slots = recordOf (sizesOf 1 4 3 3 2 9) slots (1 ∷ 2 ∷ []) (5 ∷ 1 ∷ []) (1 ∷ 0 ∷ [])
+withSlots slots = recordOf (plainSizes 1 4 3 3 2 9) slots (1 ∷ 2 ∷ []) (5 ∷ 1 ∷ []) (1 ∷ 0 ∷ [])
 
 abbrev withFrames : List ℕ → List ℕ → Store
-withFrames frames valid = recordOf (sizesOf 1 4 3 3 2 9) (0 ∷ vacant ∷ 9 ∷ []) frames valid (1 ∷ 0 ∷ [])
+withFrames frames valid = recordOf (plainSizes 1 4 3 3 2 9) (0 ∷ vacant ∷ 9 ∷ []) frames valid (1 ∷ 0 ∷ [])
 
 abbrev withOrder : List ℕ → Store
-withOrder recency = recordOf (sizesOf 1 4 3 3 2 9) (0 ∷ vacant ∷ 9 ∷ []) (1 ∷ 2 ∷ []) (5 ∷ 1 ∷ []) recency
+withOrder recency = recordOf (plainSizes 1 4 3 3 2 9) (0 ∷ vacant ∷ 9 ∷ []) (1 ∷ 2 ∷ []) (5 ∷ 1 ∷ []) recency
+
+-- with options: policy, coded, shelf pages, marked
+abbrev withOptions : ℕ → ℕ → ℕ → ℕ → Store
+withOptions policy coded shelfPages marked = withSizes (record {
+  S = 1;
+  K = 4;
+  N = 3;
+  P = 3;
+  B = 2;
+  W = 9;
+  policy = policy;
+  coded = coded;
+  shelfPages = shelfPages;
+  marked = marked;
+})
+
+-- with these use counts
+abbrev withUses : List ℕ → Store
+withUses uses = let d = directoryOf (0 ∷ vacant ∷ 9 ∷ []) (1 ∷ 2 ∷ []) (5 ∷ 1 ∷ []) (1 ∷ 0 ∷ []) in
+    storeOf (plainSizes 1 4 3 3 2 9) (record {
+      slots = d .slots;
+      frames = d .frames;
+      valid = d .valid;
+      recency = d .recency;
+      uses = uses;
+    })
 
 abbrev pub spoiltListed : Store → Result
-spoiltListed s = record { answer = refused 4 vacant; store = s; page = 7 ∷ [] }
+spoiltListed s = record { answer = refused 4 vacant; mends = 0; store = s; page = 7 ∷ [] }
 
 abbrev pub spoilt : List Store
 spoilt =
     -- S is 0
-    withSizes (sizesOf 0 4 3 3 2 9)
+    withSizes (plainSizes 0 4 3 3 2 9)
     -- S is 2049
-    ∷ withSizes (sizesOf 2049 4 3 3 2 9)
+    ∷ withSizes (plainSizes 2049 4 3 3 2 9)
     -- K is 1
-    ∷ withSizes (sizesOf 1 1 3 3 2 9)
+    ∷ withSizes (plainSizes 1 1 3 3 2 9)
     -- K is 65
-    ∷ withSizes (sizesOf 1 65 3 3 2 9)
+    ∷ withSizes (plainSizes 1 65 3 3 2 9)
     -- N is 0
-    ∷ withSizes (sizesOf 1 4 0 3 2 9)
+    ∷ withSizes (plainSizes 1 4 0 3 2 9)
     -- N is 4097
-    ∷ withSizes (sizesOf 1 4 4097 3 2 9)
+    ∷ withSizes (plainSizes 1 4 4097 3 2 9)
     -- P is 0
-    ∷ withSizes (sizesOf 1 4 3 0 2 9)
+    ∷ withSizes (plainSizes 1 4 3 0 2 9)
     -- P is 129
-    ∷ withSizes (sizesOf 1 4 3 129 2 9)
+    ∷ withSizes (plainSizes 1 4 3 129 2 9)
     -- B is 0
-    ∷ withSizes (sizesOf 1 4 3 3 0 9)
+    ∷ withSizes (plainSizes 1 4 3 3 0 9)
     -- B is 9
-    ∷ withSizes (sizesOf 1 4 3 3 9 9)
+    ∷ withSizes (plainSizes 1 4 3 3 9 9)
     -- W is 0
-    ∷ withSizes (sizesOf 1 4 3 3 2 0)
+    ∷ withSizes (plainSizes 1 4 3 3 2 0)
     -- W is 1000001
-    ∷ withSizes (sizesOf 1 4 3 3 2 1000001)
+    ∷ withSizes (plainSizes 1 4 3 3 2 1000001)
+    -- the policy is 1, 2, 3
+    ∷ withOptions 1 0 0 0
+    ∷ withOptions 2 0 0 0
+    ∷ withOptions 3 0 0 0
+    -- coded is 1, 2
+    ∷ withOptions 0 1 0 0
+    ∷ withOptions 0 2 0 0
+    -- there is 1 shelf page, there are 9
+    ∷ withOptions 0 0 1 0
+    ∷ withOptions 0 0 9 0
+    -- marked is 1
+    ∷ withOptions 0 0 0 1
     -- a slot holds page N×K
     ∷ withSlots (0 ∷ vacant ∷ 12 ∷ [])
     -- a slot holds a number below vacant that is no page
@@ -152,4 +193,12 @@ spoilt =
     ∷ withFrames (1 ∷ 2 ∷ []) (5 ∷ 1 ∷ 0 ∷ 0 ∷ 0 ∷ 0 ∷ 0 ∷ 0 ∷ 0 ∷ [])
     -- there are 9 order entries
     ∷ withOrder (1 ∷ 0 ∷ 2 ∷ 3 ∷ 4 ∷ 5 ∷ 6 ∷ 7 ∷ 8 ∷ [])
+    -- uses of a frame that holds a block are counted
+    ∷ withUses (1 ∷ 0 ∷ 0 ∷ 0 ∷ 0 ∷ 0 ∷ 0 ∷ 0 ∷ [])
+    -- uses of the last frame are counted
+    ∷ withUses (0 ∷ 0 ∷ 0 ∷ 0 ∷ 0 ∷ 0 ∷ 0 ∷ 1 ∷ [])
+    -- there are 7 use counts
+    ∷ withUses (0 ∷ 0 ∷ 0 ∷ 0 ∷ 0 ∷ 0 ∷ 0 ∷ [])
+    -- there are 9 use counts
+    ∷ withUses (0 ∷ 0 ∷ 0 ∷ 0 ∷ 0 ∷ 0 ∷ 0 ∷ 0 ∷ 0 ∷ [])
     ∷ []

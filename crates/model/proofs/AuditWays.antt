@@ -1,20 +1,20 @@
 -- Histories that tell the ways apart: which slot, block and frame, what becomes recent, and the slips of document 01.
 use mathlib.Core.List.{List, [], _∷_}
-use Rattle.model.specs.Sizes.{vacant}
+use Rattle.model.specs.Sizes.{plainSizes, vacant}
 use Rattle.model.specs.Calls.{openDone, readDone, writeDone, stepDone, flushDone, read, write, step, flush}
-use Rattle.model.proofs.AuditRows.{Row, sizesOf, way}
+use Rattle.model.proofs.AuditRows.{Row, way}
 
 -- a read hit in a frame makes it recent: way 7 then takes the other
 abbrev pub read-hit : Row
 read-hit = record {
-  sizes = sizesOf 1 2 5 2 2 9;
+  sizes = plainSizes 1 2 5 2 2 9;
   wear = 0 ∷ 0 ∷ 0 ∷ 0 ∷ 0 ∷ [];
   calls = write 0 (1 ∷ []) ∷ write 2 (2 ∷ []) ∷ write 4 (3 ∷ []) ∷ write 6 (4 ∷ []) ∷ read 0 (0 ∷ []) ∷ write 8 (5 ∷ []) ∷ [];
   gives = record {
     opening = openDone;
     answers = way 3 ∷ way 3 ∷ way 5 ∷ way 5 ∷ readDone 2 ∷ writeDone 7 1 1 ∷ [];
     pages = (1 ∷ []) ∷ (2 ∷ []) ∷ (3 ∷ []) ∷ (4 ∷ []) ∷ (1 ∷ []) ∷ (5 ∷ []) ∷ [];
-    sizes = sizesOf 1 2 5 2 2 9;
+    sizes = plainSizes 1 2 5 2 2 9;
     slots = 8 ∷ 6 ∷ [];
     frames = 0 ∷ 2 ∷ [];
     valid = 1 ∷ 1 ∷ [];
@@ -29,14 +29,14 @@ read-hit = record {
 -- a write hit in a frame makes it recent
 abbrev pub write-hit : Row
 write-hit = record {
-  sizes = sizesOf 1 2 5 2 2 9;
+  sizes = plainSizes 1 2 5 2 2 9;
   wear = 0 ∷ 0 ∷ 0 ∷ 0 ∷ 0 ∷ [];
   calls = write 0 (1 ∷ []) ∷ write 2 (2 ∷ []) ∷ write 4 (3 ∷ []) ∷ write 6 (4 ∷ []) ∷ write 0 (6 ∷ []) ∷ write 8 (5 ∷ []) ∷ [];
   gives = record {
     opening = openDone;
     answers = way 3 ∷ way 3 ∷ way 5 ∷ way 5 ∷ way 2 ∷ writeDone 7 1 1 ∷ [];
     pages = (1 ∷ []) ∷ (2 ∷ []) ∷ (3 ∷ []) ∷ (4 ∷ []) ∷ (6 ∷ []) ∷ (5 ∷ []) ∷ [];
-    sizes = sizesOf 1 2 5 2 2 9;
+    sizes = plainSizes 1 2 5 2 2 9;
     slots = 8 ∷ 6 ∷ [];
     frames = 0 ∷ 2 ∷ [];
     valid = 1 ∷ 1 ∷ [];
@@ -51,7 +51,7 @@ write-hit = record {
 -- hits in a slot leave the order alone, though their block has a frame
 abbrev pub slot-hit : Row
 slot-hit = record {
-  sizes = sizesOf 1 4 4 3 2 9;
+  sizes = plainSizes 1 4 4 3 2 9;
   wear = 0 ∷ 0 ∷ 0 ∷ 0 ∷ [];
   calls = write 10 (1 ∷ []) ∷ write 7 (2 ∷ []) ∷ write 15 (3 ∷ []) ∷ write 8 (4 ∷ []) ∷ write 4 (5 ∷ []) ∷ write 4 (6 ∷ [])
       ∷ read 4 (0 ∷ []) ∷ step ∷ [];
@@ -59,7 +59,7 @@ slot-hit = record {
     opening = openDone;
     answers = way 3 ∷ way 3 ∷ way 3 ∷ way 5 ∷ way 5 ∷ way 1 ∷ readDone 1 ∷ stepDone 1 2 ∷ [];
     pages = (1 ∷ []) ∷ (2 ∷ []) ∷ (3 ∷ []) ∷ (4 ∷ []) ∷ (5 ∷ []) ∷ (6 ∷ []) ∷ (6 ∷ []) ∷ [] ∷ [];
-    sizes = sizesOf 1 4 4 3 2 9;
+    sizes = plainSizes 1 4 4 3 2 9;
     slots = vacant ∷ vacant ∷ 15 ∷ [];
     frames = vacant ∷ 2 ∷ [];
     valid = 0 ∷ 5 ∷ [];
@@ -74,14 +74,14 @@ slot-hit = record {
 -- a join makes its frame recent
 abbrev pub join-recent : Row
 join-recent = record {
-  sizes = sizesOf 1 2 5 2 2 9;
+  sizes = plainSizes 1 2 5 2 2 9;
   wear = 0 ∷ 0 ∷ 0 ∷ 0 ∷ 0 ∷ [];
   calls = write 7 (1 ∷ []) ∷ write 2 (2 ∷ []) ∷ write 0 (3 ∷ []) ∷ write 3 (4 ∷ []) ∷ write 4 (5 ∷ []) ∷ write 6 (6 ∷ []) ∷ [];
   gives = record {
     opening = openDone;
     answers = way 3 ∷ way 3 ∷ way 5 ∷ way 5 ∷ way 4 ∷ writeDone 7 0 1 ∷ [];
     pages = (1 ∷ []) ∷ (2 ∷ []) ∷ (3 ∷ []) ∷ (4 ∷ []) ∷ (5 ∷ []) ∷ (6 ∷ []) ∷ [];
-    sizes = sizesOf 1 2 5 2 2 9;
+    sizes = plainSizes 1 2 5 2 2 9;
     slots = 7 ∷ 6 ∷ [];
     frames = 1 ∷ 2 ∷ [];
     valid = 3 ∷ 1 ∷ [];
@@ -96,14 +96,14 @@ join-recent = record {
 -- way 6 takes the least recent of frames with equally few pages
 abbrev pub tie-frames : Row
 tie-frames = record {
-  sizes = sizesOf 1 2 5 2 2 9;
+  sizes = plainSizes 1 2 5 2 2 9;
   wear = 0 ∷ 0 ∷ 0 ∷ 0 ∷ 0 ∷ [];
   calls = write 1 (1 ∷ []) ∷ write 3 (2 ∷ []) ∷ write 9 (3 ∷ []) ∷ write 8 (4 ∷ []) ∷ write 4 (5 ∷ []) ∷ [];
   gives = record {
     opening = openDone;
     answers = way 3 ∷ way 3 ∷ way 5 ∷ way 5 ∷ way 6 ∷ [];
     pages = (1 ∷ []) ∷ (2 ∷ []) ∷ (3 ∷ []) ∷ (4 ∷ []) ∷ (5 ∷ []) ∷ [];
-    sizes = sizesOf 1 2 5 2 2 9;
+    sizes = plainSizes 1 2 5 2 2 9;
     slots = 1 ∷ 4 ∷ [];
     frames = 4 ∷ 1 ∷ [];
     valid = 3 ∷ 2 ∷ [];
@@ -118,14 +118,14 @@ tie-frames = record {
 -- the victim is the lowest of blocks with equally many pages
 abbrev pub tie-blocks : Row
 tie-blocks = record {
-  sizes = sizesOf 1 2 5 2 2 9;
+  sizes = plainSizes 1 2 5 2 2 9;
   wear = 0 ∷ 0 ∷ 0 ∷ 0 ∷ 0 ∷ [];
   calls = write 8 (1 ∷ []) ∷ write 1 (2 ∷ []) ∷ write 4 (3 ∷ []) ∷ [];
   gives = record {
     opening = openDone;
     answers = way 3 ∷ way 3 ∷ way 5 ∷ [];
     pages = (1 ∷ []) ∷ (2 ∷ []) ∷ (3 ∷ []) ∷ [];
-    sizes = sizesOf 1 2 5 2 2 9;
+    sizes = plainSizes 1 2 5 2 2 9;
     slots = 8 ∷ 4 ∷ [];
     frames = 0 ∷ vacant ∷ [];
     valid = 2 ∷ 0 ∷ [];
@@ -140,14 +140,14 @@ tie-blocks = record {
 -- way 6 gives the old pages left to the vacated slots by slot number, not by page number
 abbrev pub slot-order : Row
 slot-order = record {
-  sizes = sizesOf 1 4 4 3 2 9;
+  sizes = plainSizes 1 4 4 3 2 9;
   wear = 0 ∷ 0 ∷ 0 ∷ 0 ∷ [];
   calls = write 10 (1 ∷ []) ∷ write 15 (2 ∷ []) ∷ write 5 (3 ∷ []) ∷ write 1 (4 ∷ []) ∷ write 8 (5 ∷ []) ∷ write 0 (6 ∷ []) ∷ [];
   gives = record {
     opening = openDone;
     answers = way 3 ∷ way 3 ∷ way 3 ∷ way 5 ∷ way 5 ∷ way 6 ∷ [];
     pages = (1 ∷ []) ∷ (2 ∷ []) ∷ (3 ∷ []) ∷ (4 ∷ []) ∷ (5 ∷ []) ∷ (6 ∷ []) ∷ [];
-    sizes = sizesOf 1 4 4 3 2 9;
+    sizes = plainSizes 1 4 4 3 2 9;
     slots = 5 ∷ 15 ∷ 0 ∷ [];
     frames = 2 ∷ 0 ∷ [];
     valid = 5 ∷ 2 ∷ [];
@@ -162,7 +162,7 @@ slot-order = record {
 -- way 6 moves the old pages before it overwrites them: each page reads as written
 abbrev pub exchange-bytes : Row
 exchange-bytes = record {
-  sizes = sizesOf 1 4 3 3 1 9;
+  sizes = plainSizes 1 4 3 3 1 9;
   wear = 0 ∷ 0 ∷ 0 ∷ [];
   calls = write 0 (10 ∷ []) ∷ write 4 (20 ∷ []) ∷ write 8 (30 ∷ []) ∷ write 9 (40 ∷ []) ∷ write 5 (50 ∷ []) ∷ read 0 (0 ∷ [])
       ∷ read 4 (0 ∷ []) ∷ read 5 (0 ∷ []) ∷ read 8 (0 ∷ []) ∷ read 9 (0 ∷ []) ∷ [];
@@ -170,7 +170,7 @@ exchange-bytes = record {
     opening = openDone;
     answers = way 3 ∷ way 3 ∷ way 3 ∷ way 5 ∷ way 6 ∷ readDone 1 ∷ readDone 1 ∷ readDone 1 ∷ readDone 2 ∷ readDone 2 ∷ [];
     pages = (10 ∷ []) ∷ (20 ∷ []) ∷ (30 ∷ []) ∷ (40 ∷ []) ∷ (50 ∷ []) ∷ (10 ∷ []) ∷ (20 ∷ []) ∷ (50 ∷ []) ∷ (30 ∷ []) ∷ (40 ∷ []) ∷ [];
-    sizes = sizesOf 1 4 3 3 1 9;
+    sizes = plainSizes 1 4 3 3 1 9;
     slots = 5 ∷ 4 ∷ 0 ∷ [];
     frames = 2 ∷ [];
     valid = 3 ∷ [];
@@ -185,7 +185,7 @@ exchange-bytes = record {
 -- way 6 with two old pages that meet no victim page, and three slots for them: offsets upward go to slots upward
 abbrev pub two-unmet : Row
 two-unmet = record {
-  sizes = sizesOf 1 5 4 5 1 9;
+  sizes = plainSizes 1 5 4 5 1 9;
   wear = 0 ∷ 0 ∷ 0 ∷ 0 ∷ [];
   calls = write 0 (1 ∷ []) ∷ write 1 (2 ∷ []) ∷ write 7 (3 ∷ []) ∷ write 8 (4 ∷ []) ∷ write 15 (5 ∷ []) ∷ write 9 (6 ∷ [])
       ∷ write 10 (7 ∷ []) ∷ write 11 (8 ∷ []) ∷ [];
@@ -193,7 +193,7 @@ two-unmet = record {
     opening = openDone;
     answers = way 3 ∷ way 3 ∷ way 3 ∷ way 3 ∷ way 3 ∷ way 5 ∷ way 3 ∷ way 6 ∷ [];
     pages = (1 ∷ []) ∷ (2 ∷ []) ∷ (3 ∷ []) ∷ (4 ∷ []) ∷ (5 ∷ []) ∷ (6 ∷ []) ∷ (7 ∷ []) ∷ (8 ∷ []) ∷ [];
-    sizes = sizesOf 1 5 4 5 1 9;
+    sizes = plainSizes 1 5 4 5 1 9;
     slots = 0 ∷ 10 ∷ 1 ∷ 11 ∷ 15 ∷ [];
     frames = 1 ∷ [];
     valid = 28 ∷ [];
@@ -208,14 +208,14 @@ two-unmet = record {
 -- a flush step leaves the order alone
 abbrev pub step-order : Row
 step-order = record {
-  sizes = sizesOf 1 2 5 2 2 9;
+  sizes = plainSizes 1 2 5 2 2 9;
   wear = 0 ∷ 0 ∷ 0 ∷ 0 ∷ 0 ∷ [];
   calls = write 0 (1 ∷ []) ∷ write 2 (2 ∷ []) ∷ write 4 (3 ∷ []) ∷ write 6 (4 ∷ []) ∷ read 0 (0 ∷ []) ∷ step ∷ [];
   gives = record {
     opening = openDone;
     answers = way 3 ∷ way 3 ∷ way 5 ∷ way 5 ∷ readDone 2 ∷ stepDone 1 1 ∷ [];
     pages = (1 ∷ []) ∷ (2 ∷ []) ∷ (3 ∷ []) ∷ (4 ∷ []) ∷ (1 ∷ []) ∷ [] ∷ [];
-    sizes = sizesOf 1 2 5 2 2 9;
+    sizes = plainSizes 1 2 5 2 2 9;
     slots = 4 ∷ 6 ∷ [];
     frames = 0 ∷ vacant ∷ [];
     valid = 1 ∷ 0 ∷ [];
@@ -230,14 +230,14 @@ step-order = record {
 -- a step's merge reads are counted after the join
 abbrev pub merge-count : Row
 merge-count = record {
-  sizes = sizesOf 1 4 4 3 2 9;
+  sizes = plainSizes 1 4 4 3 2 9;
   wear = 0 ∷ 0 ∷ 0 ∷ 0 ∷ [];
   calls = write 4 (1 ∷ []) ∷ write 8 (2 ∷ []) ∷ write 12 (3 ∷ []) ∷ write 5 (4 ∷ []) ∷ step ∷ [];
   gives = record {
     opening = openDone;
     answers = way 3 ∷ way 3 ∷ way 3 ∷ way 5 ∷ stepDone 1 2 ∷ [];
     pages = (1 ∷ []) ∷ (2 ∷ []) ∷ (3 ∷ []) ∷ (4 ∷ []) ∷ [] ∷ [];
-    sizes = sizesOf 1 4 4 3 2 9;
+    sizes = plainSizes 1 4 4 3 2 9;
     slots = vacant ∷ 8 ∷ 12 ∷ [];
     frames = vacant ∷ vacant ∷ [];
     valid = 0 ∷ 0 ∷ [];
@@ -252,14 +252,14 @@ merge-count = record {
 -- a flush goes over frames, then slots: 4 blocks cached, 4 rewrites
 abbrev pub flush-all : Row
 flush-all = record {
-  sizes = sizesOf 1 2 5 2 2 9;
+  sizes = plainSizes 1 2 5 2 2 9;
   wear = 0 ∷ 0 ∷ 0 ∷ 0 ∷ 0 ∷ [];
   calls = write 0 (1 ∷ []) ∷ write 2 (2 ∷ []) ∷ write 4 (3 ∷ []) ∷ write 9 (4 ∷ []) ∷ flush ∷ read 0 (0 ∷ []) ∷ read 9 (0 ∷ []) ∷ [];
   gives = record {
     opening = openDone;
     answers = way 3 ∷ way 3 ∷ way 5 ∷ way 5 ∷ flushDone 4 4 ∷ readDone 3 ∷ readDone 3 ∷ [];
     pages = (1 ∷ []) ∷ (2 ∷ []) ∷ (3 ∷ []) ∷ (4 ∷ []) ∷ [] ∷ (1 ∷ []) ∷ (4 ∷ []) ∷ [];
-    sizes = sizesOf 1 2 5 2 2 9;
+    sizes = plainSizes 1 2 5 2 2 9;
     slots = vacant ∷ vacant ∷ [];
     frames = vacant ∷ vacant ∷ [];
     valid = 0 ∷ 0 ∷ [];
@@ -274,14 +274,14 @@ flush-all = record {
 -- a read from flash caches nothing
 abbrev pub read-miss : Row
 read-miss = record {
-  sizes = sizesOf 1 2 5 2 2 9;
+  sizes = plainSizes 1 2 5 2 2 9;
   wear = 0 ∷ 0 ∷ 0 ∷ 0 ∷ 0 ∷ [];
   calls = read 3 (0 ∷ []) ∷ write 5 (2 ∷ []) ∷ write 3 (3 ∷ []) ∷ write 3 (4 ∷ []) ∷ read 3 (0 ∷ []) ∷ [];
   gives = record {
     opening = openDone;
     answers = readDone 3 ∷ way 3 ∷ way 3 ∷ way 1 ∷ readDone 1 ∷ [];
     pages = (255 ∷ []) ∷ (2 ∷ []) ∷ (3 ∷ []) ∷ (4 ∷ []) ∷ (4 ∷ []) ∷ [];
-    sizes = sizesOf 1 2 5 2 2 9;
+    sizes = plainSizes 1 2 5 2 2 9;
     slots = 5 ∷ 3 ∷ [];
     frames = vacant ∷ vacant ∷ [];
     valid = 0 ∷ 0 ∷ [];
@@ -296,14 +296,14 @@ read-miss = record {
 -- a block that has a frame gets no second one
 abbrev pub one-frame : Row
 one-frame = record {
-  sizes = sizesOf 1 2 5 2 2 9;
+  sizes = plainSizes 1 2 5 2 2 9;
   wear = 0 ∷ 0 ∷ 0 ∷ 0 ∷ 0 ∷ [];
   calls = write 5 (1 ∷ []) ∷ write 7 (2 ∷ []) ∷ write 4 (3 ∷ []) ∷ write 8 (4 ∷ []) ∷ write 6 (5 ∷ []) ∷ [];
   gives = record {
     opening = openDone;
     answers = way 3 ∷ way 3 ∷ way 5 ∷ way 4 ∷ way 5 ∷ [];
     pages = (1 ∷ []) ∷ (2 ∷ []) ∷ (3 ∷ []) ∷ (4 ∷ []) ∷ (5 ∷ []) ∷ [];
-    sizes = sizesOf 1 2 5 2 2 9;
+    sizes = plainSizes 1 2 5 2 2 9;
     slots = 8 ∷ 6 ∷ [];
     frames = 2 ∷ 3 ∷ [];
     valid = 3 ∷ 2 ∷ [];
@@ -318,14 +318,14 @@ one-frame = record {
 -- merge reads come before the erasure: pages that were not cached survive a rewrite
 abbrev pub merge-first : Row
 merge-first = record {
-  sizes = sizesOf 1 4 4 3 2 9;
+  sizes = plainSizes 1 4 4 3 2 9;
   wear = 0 ∷ 0 ∷ 0 ∷ 0 ∷ [];
   calls = write 7 (1 ∷ []) ∷ flush ∷ write 4 (3 ∷ []) ∷ step ∷ read 7 (0 ∷ []) ∷ read 4 (0 ∷ []) ∷ [];
   gives = record {
     opening = openDone;
     answers = way 3 ∷ flushDone 1 3 ∷ way 3 ∷ stepDone 1 3 ∷ readDone 3 ∷ readDone 3 ∷ [];
     pages = (1 ∷ []) ∷ [] ∷ (3 ∷ []) ∷ [] ∷ (1 ∷ []) ∷ (3 ∷ []) ∷ [];
-    sizes = sizesOf 1 4 4 3 2 9;
+    sizes = plainSizes 1 4 4 3 2 9;
     slots = vacant ∷ vacant ∷ vacant ∷ [];
     frames = vacant ∷ vacant ∷ [];
     valid = 0 ∷ 0 ∷ [];
@@ -340,7 +340,7 @@ merge-first = record {
 -- way 7 with two pages of the rewritten block in slots: no merge read is left, their slots are vacated, and flash has them
 abbrev pub stragglers : Row
 stragglers = record {
-  sizes = sizesOf 1 4 4 4 2 9;
+  sizes = plainSizes 1 4 4 4 2 9;
   wear = 0 ∷ 0 ∷ 0 ∷ 0 ∷ [];
   calls = write 6 (10 ∷ []) ∷ write 11 (20 ∷ []) ∷ write 4 (30 ∷ []) ∷ write 12 (40 ∷ []) ∷ write 9 (50 ∷ []) ∷ write 14 (60 ∷ [])
       ∷ write 10 (70 ∷ []) ∷ write 15 (80 ∷ []) ∷ write 8 (90 ∷ []) ∷ write 2 (100 ∷ []) ∷ read 10 (0 ∷ []) ∷ read 8 (0 ∷ []) ∷ [];
@@ -349,7 +349,7 @@ stragglers = record {
     answers = way 3 ∷ way 3 ∷ way 3 ∷ way 3 ∷ way 5 ∷ way 3 ∷ way 5 ∷ way 3 ∷ way 6 ∷ writeDone 7 2 0 ∷ readDone 3 ∷ readDone 3 ∷ [];
     pages = (10 ∷ []) ∷ (20 ∷ []) ∷ (30 ∷ []) ∷ (40 ∷ []) ∷ (50 ∷ []) ∷ (60 ∷ []) ∷ (70 ∷ []) ∷ (80 ∷ []) ∷ (90 ∷ []) ∷ (100 ∷ [])
         ∷ (70 ∷ []) ∷ (90 ∷ []) ∷ [];
-    sizes = sizesOf 1 4 4 4 2 9;
+    sizes = plainSizes 1 4 4 4 2 9;
     slots = 2 ∷ vacant ∷ vacant ∷ vacant ∷ [];
     frames = 3 ∷ 1 ∷ [];
     valid = 13 ∷ 5 ∷ [];

@@ -1,7 +1,7 @@
 -- What every call keeps: a sound record stays sound, and no wear passes W. A flush is steps until clean, one for each cached block.
 use mathlib.Core.Path.{_≡_, refl, ap, _∙_}
 use mathlib.Core.Logic.{_⊎_, inl, inr}
-use mathlib.Core.Bool.{true, false, _&&_}
+use mathlib.Core.Bool.{Bool, true, false, _&&_}
 use mathlib.Core.List.{List}
 use Prim.Native.Nat.{ℕ, zero, suc, _+_, _-_, _*_, _≤_, _<_}
 use native.Mathlib.Omega.{arith}
@@ -16,10 +16,10 @@ use Rattle.model.specs.Directory.{Directory}
 use Rattle.model.specs.Soundness.{sound, Sound}
 use Rattle.model.specs.Policy.{inSlots, frameWith, slotCount, readWay, Choice, victim, Plan, plan, erasedBy, mergeReads, clean, due}
 use Rattle.model.specs.Policy.{occupied, lowestInSlots, dueOf, cached, isWorn, lowestWorn}
-use Rattle.model.specs.Moves.{wornBy, joined, readDirectory, written, stepped}
+use Rattle.model.specs.Moves.{Chip, Memory, flashPage, cellAt, wornBy, joined, readDirectory, written, stepped}
 use Rattle.model.specs.Calls.{stepDone, stepClean, flushDone, isRefused, Call, read, write, part, step, flush, State, Outcome}
-use Rattle.model.specs.Calls.{checked, readOutcome, writeOutcome, partOutcome, stepOutcome, Tally, steps, flushOutcome, decide, Page}
-use Rattle.model.specs.Calls.{lentOk, Store, Result, stateOf, told, carriedOut, call}
+use Rattle.model.specs.Calls.{checked, readOutcome, writeOutcome, partOutcome, stepOutcome, Tally, steps, flushOutcome, decide}
+use Rattle.model.specs.Calls.{heeding, Page, Format, lentOk, Store, Result, stateOf, told, faultOf, carriedOut, callReading}
 use Rattle.model.specs.Lists.{Picks}
 use Rattle.model.specs.RulesCalls.{StepsUntilClean}
 use Rattle.model.proofs.Soundness.{sound-facts, facts-sound}
@@ -37,7 +37,10 @@ module _ (sz : Sizes) (d : Directory) (s : Sound sz d) where
   abbrev units : ℕ → List (Unit {0})
   units n = replicate n tt
 
-  bare : Consistent tt sz d (record { flash = units (sz .N * sz .K); pspace = units (sz .P); bspace = units (sz .B * sz .K) })
+  abbrev unitChip : Chip (Unit {0}) (Unit {0})
+  unitChip = record { page = λ c. tt; fault = λ c. 0; mends = λ c. 0; erased = tt; cell = λ x. tt }
+
+  bare : Consistent unitChip tt sz d (record { flash = units (sz .N * sz .K); pspace = units (sz .P); bspace = units (sz .B * sz .K) })
       (units (sz .N * sz .K))
   bare = record {
     numbers = s;
@@ -50,7 +53,7 @@ module _ (sz : Sizes) (d : Directory) (s : Sound sz d) where
 
   pub written-sound : (pick : Choice) → Picks pick → (w : List ℕ) (n : ℕ) → n < sz .N * sz .K
       → Sound sz (written sz d n (plan pick sz d w n))
-  written-sound pick picks w n l = write-good tt pick picks sz d w _ _ bare n l tt .numbers
+  written-sound pick picks w n l = write-good unitChip tt pick picks sz d w _ (λ b f o. refl) _ bare n l tt .numbers
 
   read-sound : (n : ℕ) → Sound sz (readDirectory sz d n)
   unfolding readDirectory readWay
@@ -167,29 +170,38 @@ module _ (pick : Choice) (picks : Picks pick) (sz : Sizes) (k : State) (s : Soun
   decide-kept step = step-kept
   decide-kept flush = flush-kept
 
+  -- also where a cause that a request adds is heeded
+  pub heeding-kept : (late : ℕ) (o : Outcome) → Keeps o → Keeps (heeding k late o)
+  unfolding heeding
+  heeding-kept late o h = by-test (isRefused (o .answer))
+      (λ e. rw (e, heeding) h)
+      (λ e. rw (e, heeding) (by-test (eqb late 0) (λ e′. rw e′ h) (λ e′. rw e′ same)))
+
 -- ---- a call over buffers
 
 -- a call on a sound record hands back a sound record, whatever the buffers
-module _ (pick : Choice) (picks : Picks pick) (s : Store) (c : Call Page) (h : sound (s .cache .sizes) (s .cache .directory) ≡ true) where
+module _ (fmt : Format) (pick : Choice) (picks : Picks pick) (besides : ℕ → Bool) (s : Store) (c : Call Page)
+    (h : sound (s .cache .sizes) (s .cache .directory) ≡ true) where
   abbrev SoundStore : Result → Type 0
   SoundStore r = sound (r .store .cache .sizes) (r .store .cache .directory) ≡ true
 
-  wear-long : lentOk (s .cache .sizes) (s .lent) ≡ true → length (s .lent .wear) ≡ s .cache .sizes .N
+  wear-long : lentOk fmt (s .cache .sizes) (s .lent) ≡ true → length (s .lent .wear) ≡ s .cache .sizes .N
   unfolding lentOk
-  wear-long e = eqb-true _ _ (each _ e .1 .0)
+  wear-long e = eqb-true _ _ (each _ e .1 .1 .1 .0)
 
-  carried-sound : length (s .lent .wear) ≡ s .cache .sizes .N → SoundStore
-      (carriedOut pick s c (decide pick (s .cache .sizes) (stateOf s) (told c)))
+  carried-sound : length (s .lent .wear) ≡ s .cache .sizes .N → (late : ℕ)
+      → SoundStore (carriedOut fmt pick s c besides (heeding (stateOf s) late (decide pick (s .cache .sizes) (stateOf s) (told c))))
   unfolding carriedOut
-  carried-sound wl = let sz = s .cache .sizes in let o = decide pick sz (stateOf s) (told c) in by-test (isRefused (o .answer))
+  carried-sound wl late = let sz = s .cache .sizes in let o = heeding (stateOf s) late (decide pick sz (stateOf s) (told c)) in
+      let d = sound-facts sz (s .cache .directory) h in by-test (isRefused (o .answer))
       (λ e. rw (e, carriedOut) h)
       (λ e. rw (e, carriedOut) (facts-sound sz (o .state .directory)
-      (decide-kept pick picks sz (stateOf s) (sound-facts sz (s .cache .directory) h) wl (told c) .numbers)))
+      (heeding-kept pick picks sz (stateOf s) d wl late _ (decide-kept pick picks sz (stateOf s) d wl (told c)) .numbers)))
 
-  pub call-sound : SoundStore (call pick s c)
-  unfolding call
-  call-sound = rw (h, call) (by-test (lentOk (s .cache .sizes) (s .lent))
-      (λ e. rw e (carried-sound (wear-long e)))
+  pub call-sound : SoundStore (callReading fmt pick besides s c)
+  unfolding callReading
+  call-sound = rw (h, callReading) (by-test (lentOk fmt (s .cache .sizes) (s .lent))
+      (λ e. rw e (carried-sound (wear-long e) _))
       (λ e. rw e h))
 
 -- ---- a flush is steps until clean

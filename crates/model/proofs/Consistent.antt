@@ -16,14 +16,15 @@ use Rattle.model.specs.Directory.{Directory, slotAt, frameAt, validAt, i
 use Rattle.model.specs.Soundness.{Sound}
 use Rattle.model.specs.Policy.{slotOf, inSlots, frameWith, frameOf, validCount, slotCount, Choice, victim, Plan, frameHit, exchange}
 use Rattle.model.specs.Policy.{evict, evictionPlan, plan, due}
-use Rattle.model.specs.Moves.{Memory, programmed, touched, putSlot, entered, putSlotPage, putFramePage, joined, filled, joinedPages}
-use Rattle.model.specs.Moves.{exchanged, exchangedPages, vacated, rewrittenPages, stepped, written, steppedPages, writtenPages}
+use Rattle.model.specs.Moves.{Chip, Memory, programmed, flashPage, touched, putSlot, entered, putSlotPage, putFramePage, joined}
+use Rattle.model.specs.Moves.{filled, joinedPages, exchanged, exchangedPages, vacated, rewrittenPages, stepped, written, steppedPages}
+use Rattle.model.specs.Moves.{writtenPages}
 use Rattle.model.specs.Lists.{Picks}
 use Rattle.model.proofs.Soundness.{pages-small}
 use Rattle.model.proofs.Lookup.{NoSlot, NoFrame, block-vacant, block-lt, found-slot, not-in-slots, frame-has, frame-is, no-frame}
 use Rattle.model.proofs.Lookup.{no-frame-with}
-use Rattle.model.proofs.Reflects.{Reflects, joined-frame, joined-reflects, exchanged-reflects, rewritten-reflects, put-slot-reflects}
-use Rattle.model.proofs.Reflects.{put-frame-reflects}
+use Rattle.model.proofs.Reflects.{Own, OwnAll, Reflects, joined-frame, joined-reflects, exchanged-reflects, rewritten-reflects}
+use Rattle.model.proofs.Reflects.{put-slot-reflects, put-frame-reflects}
 use Rattle.model.proofs.Kept.{exchanged-vacant, enough, touched-sound, joined-sound, exchanged-sound, vacated-sound, put-sound}
 use Rattle.model.proofs.Kept.{joined-absent, exchanged-absent}
 use Rattle.model.proofs.Plan.{victim-lt, victim-pos, some-bit, joined-vacant, sole-own, occupied-all, vacant-bits, fewest-pick}
@@ -35,20 +36,20 @@ unfolding putSlot
 put-same d i n e = with-slots (ap (set (d .slots) i) (sym e) ∙ set-getD (d .slots) i 0)
   where
     with-slots : {l : List ℕ} → l ≡ d .slots → _≡_ {A = Directory}
-        (record { slots = l; frames = d .frames; valid = d .valid; recency = d .recency }) d
-    with-slots p = λ i. record { slots = p i; frames = d .frames; valid = d .valid; recency = d .recency }
+        (record { slots = l; frames = d .frames; valid = d .valid; recency = d .recency; uses = d .uses }) d
+    with-slots p = λ i. record { slots = p i; frames = d .frames; valid = d .valid; recency = d .recency; uses = d .uses }
 
-module _ {A : Type 0} (filler : A) where
+module _ {C A : Type 0} (chip : Chip C A) (filler : A) where
   -- directory d and pages m hold the page array v
-  pub record Consistent (sz : Sizes) (d : Directory) (m : Memory A) (v : List A) : Type 0 where
+  pub record Consistent (sz : Sizes) (d : Directory) (m : Memory C A) (v : List A) : Type 0 where
     pub numbers : Sound sz d
-    pub reflects : Reflects filler sz d m v
+    pub reflects : Reflects chip filler sz d m v
     pub flash-length : length (m .flash) ≡ sz .N * sz .K
     pub pspace-length : length (m .pspace) ≡ sz .P
     pub bspace-length : length (m .bspace) ≡ sz .B * sz .K
     pub array-length : length v ≡ sz .N * sz .K
 
-  module _ (sz : Sizes) (d : Directory) (m : Memory A) (v : List A) (g : Consistent sz d m v) where
+  module _ (sz : Sizes) (d : Directory) (m : Memory C A) (v : List A) (g : Consistent sz d m v) where
     pub touched-good : (f : ℕ) → f < sz .B → Consistent sz (touched sz d f) m v
     unfolding touched inFrame
     touched-good f l = record {
@@ -67,7 +68,7 @@ module _ {A : Type 0} (filler : A) where
     unfolding joinedPages filled
     joined-good b f fl bl own sole some = let u = g .numbers in record {
       numbers = joined-sound sz d u b f fl bl sole some;
-      reflects = joined-reflects sz (u .limits) d (u .shape) b f fl filler m v (g .reflects) bl own;
+      reflects = joined-reflects sz (u .limits) d (u .shape) b f fl filler m chip v (g .reflects) bl own;
       flash-length = g .flash-length;
       pspace-length = g .pspace-length;
       bspace-length = length-tab (sz .B * sz .K) _;
@@ -81,7 +82,7 @@ module _ {A : Type 0} (filler : A) where
     exchanged-good b f fl bl more al sole = let u = g .numbers in
         let en = enough sz (u .limits) d (u .shape) (u .entries) b f fl bl more in record {
           numbers = exchanged-sound sz d u b f fl bl more al sole;
-          reflects = exchanged-reflects sz (u .limits) d (u .shape) b f fl (omega arith) bl filler m v (g .reflects);
+          reflects = exchanged-reflects sz (u .limits) d (u .shape) b f fl (omega arith) bl chip filler m v (g .reflects);
           flash-length = g .flash-length;
           pspace-length = length-tab (sz .P) _;
           bspace-length = length-tab (sz .B * sz .K) _;
@@ -89,11 +90,12 @@ module _ {A : Type 0} (filler : A) where
         }
 
     -- frame f of block b is rewritten and vacated
-    rewritten-good : (b f : ℕ) → f < sz .B → frameAt d f ≡ b → Consistent sz (vacated d f) (rewrittenPages filler sz d m b f) v
+    rewritten-good : (b f : ℕ) → Own chip filler sz d m b f → f < sz .B → frameAt d f ≡ b
+        → Consistent sz (vacated d f) (rewrittenPages chip filler sz d m b f) v
     unfolding rewrittenPages programmed
-    rewritten-good b f fl e = let u = g .numbers in record {
+    rewritten-good b f own fl e = let u = g .numbers in record {
       numbers = vacated-sound sz d u f fl;
-      reflects = (rw e at (rewritten-reflects sz (u .limits) d (u .shape) f fl filler m v (g .reflects)));
+      reflects = (rw e at (rewritten-reflects sz (u .limits) d (u .shape) f fl chip filler m v (g .reflects) (λ o. rw e (own o))));
       flash-length = length-tab (sz .N * sz .K) _;
       pspace-length = g .pspace-length;
       bspace-length = length-tab (sz .B * sz .K) _;
@@ -106,8 +108,8 @@ module _ {A : Type 0} (filler : A) where
     unfolding putSlotPage
     put-good i n x il nl np nf e = let u = g .numbers in record {
       numbers = put-sound sz d u i n il nl np nf;
-      reflects = put-slot-reflects sz d (u .shape) filler m v (g .reflects) n x nl (g .array-length) (u .limits) i il (g .pspace-length)
-          (λ j l h. np j l) nf (inr e);
+      reflects = put-slot-reflects sz d (u .shape) chip filler m v (g .reflects) n x nl (g .array-length) (u .limits) i il
+          (g .pspace-length) (λ j l h. np j l) nf (inr e);
       flash-length = g .flash-length;
       pspace-length = length-set (m .pspace) i x ∙ g .pspace-length;
       bspace-length = g .bspace-length;
@@ -119,7 +121,7 @@ module _ {A : Type 0} (filler : A) where
     unfolding putSlotPage
     slot-hit-good i n x il nl e = let u = g .numbers in
         let vl : slotAt d i < vacant = (let h = pages-small sz (u .limits) in omega arith) in
-        let s = put-slot-reflects sz d (u .shape) filler m v (g .reflects) n x nl (g .array-length) (u .limits) i il (g .pspace-length)
+        let s = put-slot-reflects sz d (u .shape) chip filler m v (g .reflects) n x nl (g .array-length) (u .limits) i il (g .pspace-length)
         (λ j l h q. h (u .entries .slots-apart j i l il (let h2 = pages-small sz (u .limits) in omega arith) (q ∙ sym e)))
         (λ f l q. u .entries .once i f il l vl (rw e q)) (inl e) in
         record {
@@ -137,8 +139,8 @@ module _ {A : Type 0} (filler : A) where
     unfolding putFramePage
     frame-hit-good f n x fl nl np h = let u = g .numbers in record {
       numbers = u;
-      reflects = put-frame-reflects sz d (u .shape) filler m v (g .reflects) n x nl (g .array-length) (u .limits) f fl (g .bspace-length)
-          np h
+      reflects = put-frame-reflects sz d (u .shape) chip filler m v (g .reflects) n x nl (g .array-length) (u .limits) f fl
+          (g .bspace-length) np h
           (λ k kl ne q. ne (u .entries .frames-apart k f kl fl (rw (frame-has sz d n k q .0)
           (block-vacant sz (u .limits) _ (block-lt sz (u .limits) n nl))) (frame-has sz d n k q .0 ∙ sym (frame-has sz d n f h .0))));
       flash-length = g .flash-length;
@@ -151,15 +153,16 @@ module _ {A : Type 0} (filler : A) where
     joined-ready b f y = joined-good b f (y .f-lt) (y .b-lt) (y .own) (y .sole) (y .some)
 
   -- a flush step of block b through frame f
-  pub step-good : (sz : Sizes) (d : Directory) (m : Memory A) (v : List A) → Consistent sz d m v → (b f : ℕ) → Ready sz d b f
-      → Consistent sz (stepped sz d (due b f)) (steppedPages filler sz d m (due b f)) v
+  pub step-good : (sz : Sizes) (d : Directory) (m : Memory C A) → OwnAll chip filler sz d m → (v : List A) → Consistent sz d m v
+      → (b f : ℕ) → Ready sz d b f
+      → Consistent sz (stepped sz d (due b f)) (steppedPages chip filler sz d m (due b f)) v
   unfolding stepped steppedPages
-  step-good sz d m v g b f y = rewritten-good sz (joined sz d b f) (joinedPages filler sz d m b f) v (joined-ready sz d m v g b f y) b f
-      (y .f-lt)
+  step-good sz d m own v g b f y = rewritten-good sz (joined sz d b f) (joinedPages filler sz d m b f) v (joined-ready sz d m v g b f y) b
+      f (own b f) (y .f-lt)
       (joined-frame sz (g .numbers .limits) d (g .numbers .shape) b f (y .f-lt))
 
   -- n goes into the first vacant slot, after frame f became recent
-  module _ (sz : Sizes) (d : Directory) (m : Memory A) (v : List A) (g : Consistent sz d m v) (n : ℕ) (n-lt : n < sz .N * sz .K)
+  module _ (sz : Sizes) (d : Directory) (m : Memory C A) (v : List A) (g : Consistent sz d m v) (n : ℕ) (n-lt : n < sz .N * sz .K)
       (np : NoSlot sz d n) (nf : NoFrame sz d n) where
     entered-good : (x : A) (f : ℕ) → f < sz .B → inSlots sz d vacant ≡ true
         → Consistent sz (entered sz (touched sz d f) n) (putSlotPage m (slotOf sz d vacant) x) (set v n x)
@@ -168,7 +171,7 @@ module _ {A : Type 0} (filler : A) where
         (slotOf sz d vacant) n x (k .0) n-lt np nf (k .1)
 
   -- block b's pages join frame f, and n enters
-  module _ (sz : Sizes) (d : Directory) (m : Memory A) (v : List A) (g : Consistent sz d m v) (n : ℕ) (n-lt : n < sz .N * sz .K)
+  module _ (sz : Sizes) (d : Directory) (m : Memory C A) (v : List A) (g : Consistent sz d m v) (n : ℕ) (n-lt : n < sz .N * sz .K)
       (np : NoSlot sz d n) (nf : NoFrame sz d n) where
     joined-entered : (x : A) (b f : ℕ) → f < sz .B → b < sz .N → 0 < slotCount sz d b → ((frameAt d f ≡ b) ⊎ (validAt d f ≡ 0))
         → ((h : ℕ) → h < sz .B → (h ≡ f → ⊥) → frameAt d h ≡ b → ⊥)
@@ -182,10 +185,11 @@ module _ {A : Type 0} (filler : A) where
 
 -- ---- the write
 
-module _ {A : Type 0} (filler : A) (pick : Choice) (picks : Picks pick) (sz : Sizes) (d : Directory) (w : List ℕ) (m : Memory A)
-    (v : List A) (g : Consistent filler sz d m v) (n : ℕ) (n-lt : n < sz .N * sz .K) (x : A) where
+module _ {C A : Type 0} (chip : Chip C A) (filler : A) (pick : Choice) (picks : Picks pick) (sz : Sizes) (d : Directory) (w : List ℕ)
+    (m : Memory C A) (own : OwnAll chip filler sz d m) (v : List A) (g : Consistent chip filler sz d m v) (n : ℕ)
+    (n-lt : n < sz .N * sz .K) (x : A) where
   abbrev Wrote : Plan → Type 0
-  Wrote p = Consistent filler sz (written sz d n p) (writtenPages filler sz d m n x p) (set v n x)
+  Wrote p = Consistent chip filler sz (written sz d n p) (writtenPages chip filler sz d m n x p) (set v n x)
 
   evict-wrote : (b f : ℕ) → f < sz .B → frameAt d f < sz .N → b < sz .N → 0 < slotCount sz d b
       → ((h : ℕ) → h < sz .B → frameAt d h ≡ b → ⊥) → NoSlot sz d n → NoFrame sz d n → Wrote (evict b f)
@@ -194,8 +198,8 @@ module _ {A : Type 0} (filler : A) (pick : Choice) (picks : Picks pick) (sz : Si
       let u = g .numbers in let a : ℕ = frameAt d f in
       let y = ready-frame sz d u f fl (block-vacant sz (u .limits) a al) in
       let ab = stepped-absent sz d u a f y n n-lt np nf in
-      joined-entered filler sz (stepped sz d (due a f)) (steppedPages filler sz d m (due a f)) v (step-good filler sz d m v g a f y) n n-lt
-      (ab .0) (ab .1) x b f fl bl
+      joined-entered chip filler sz (stepped sz d (due a f)) (steppedPages chip filler sz d m (due a f)) v
+      (step-good chip filler sz d m own v g a f y) n n-lt (ab .0) (ab .1) x b f fl bl
       (rw (stepped-count sz d u a f y b (λ e. sole f fl (sym e))) pos)
       (inr (stepped-bits sz d u a f y)) (λ h hl ne e. sole h hl (sym (stepped-frame′ sz d u a f y h ne) ∙ e))
 
@@ -205,13 +209,13 @@ module _ {A : Type 0} (filler : A) (pick : Choice) (picks : Picks pick) (sz : Si
   exchange-wrote b f fl bl more al sole np nf =
       let u = g .numbers in
       let ab = exchanged-absent sz d u n n-lt np nf b f fl bl more in
-      entered-good filler sz (exchanged sz d b f) (exchangedPages filler sz d m b f) v
-      (exchanged-good filler sz d m v g b f fl bl more al sole)
+      entered-good chip filler sz (exchanged sz d b f) (exchangedPages filler sz d m b f) v
+      (exchanged-good chip filler sz d m v g b f fl bl more al sole)
       n n-lt (ab .0) (ab .1) x f fl (lt-ltb _ (sz .P) (exchanged-vacant sz (u .limits) d (u .shape) (u .entries) b f fl bl more al sole))
 
   frame-hit-wrote : inSlots sz d n ≡ false → frameWith sz d n < sz .B → Wrote (frameHit (frameWith sz d n))
   unfolding written writtenPages frameWith
-  frame-hit-wrote h l = touched-good filler sz d _ _ (frame-hit-good filler sz d m v g (frameWith sz d n) n x l n-lt
+  frame-hit-wrote h l = touched-good chip filler sz d _ _ (frame-hit-good chip filler sz d m v g (frameWith sz d n) n x l n-lt
       (not-in-slots sz d n h) (first-hit (sz .B) (inFrame sz d n) l)) (frameWith sz d n) l
 
   -- no slot is vacant: ways 4 to 7
@@ -220,9 +224,9 @@ module _ {A : Type 0} (filler : A) (pick : Choice) (picks : Picks pick) (sz : Si
   eviction-wrote np nf full =
       let u = g .numbers in let b : ℕ = victim sz d in let bl = victim-lt sz d u in let pos = victim-pos sz d u full in
       eviction-elim pick sz d w Wrote b
-      (λ q. let e = frame-is sz d b q in joined-entered filler sz d m v g n n-lt np nf x b (frameOf sz d b) q bl pos (inl e)
+      (λ q. let e = frame-is sz d b q in joined-entered chip filler sz d m v g n n-lt np nf x b (frameOf sz d b) q bl pos (inl e)
       (sole-own sz d u b (frameOf sz d b) bl q e))
-      (λ s q. joined-entered filler sz d m v g n n-lt np nf x b (frameOf sz d vacant) q bl pos
+      (λ s q. joined-entered chip filler sz d m v g n n-lt np nf x b (frameOf sz d vacant) q bl pos
       (inr (vacant-bits sz d u _ q (frame-is sz d vacant q))) (λ h hl ne e. no-frame sz d b s h hl e))
       (λ s o q. let p = fewest-pick sz d u pick picks _ refl in exchange-wrote b _ (p .0) bl (rw (p .1) q) (occupied-all sz d u o _ (p .0))
       (no-frame sz d b s) np nf)
@@ -231,8 +235,8 @@ module _ {A : Type 0} (filler : A) (pick : Choice) (picks : Picks pick) (sz : Si
   pub write-good : Wrote (plan pick sz d w n)
   unfolding written writtenPages
   write-good = plan-elim pick sz d w Wrote n
-      (λ h. let k = found-slot sz d n h in slot-hit-good filler sz d m v g (slotOf sz d n) n x (k .0) n-lt (k .1))
+      (λ h. let k = found-slot sz d n h in slot-hit-good chip filler sz d m v g (slotOf sz d n) n x (k .0) n-lt (k .1))
       (λ h l. frame-hit-wrote h l)
-      (λ h k h2. let q = found-slot sz d vacant h2 in put-good filler sz d m v g (slotOf sz d vacant) n x (q .0) n-lt
+      (λ h k h2. let q = found-slot sz d vacant h2 in put-good chip filler sz d m v g (slotOf sz d vacant) n x (q .0) n-lt
       (not-in-slots sz d n h) (no-frame-with sz d n k) (q .1))
       (λ h k full. eviction-wrote (not-in-slots sz d n h) (no-frame-with sz d n k) full)

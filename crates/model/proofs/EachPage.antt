@@ -2,6 +2,7 @@
 -- the histories are checked before the proofs, so that a definition that breaks one is refused there
 use Rattle.model.proofs.AuditClauses
 use Rattle.model.proofs.AuditTable
+use Rattle.model.proofs.AuditCells
 use mathlib.Core.Path.{_≡_, refl}
 use mathlib.Core.Bool.{Bool, true, false, cond, _&&_}
 use mathlib.Core.List.{List}
@@ -18,96 +19,100 @@ use Rattle.model.specs.Sizes.{Sizes}
 use Rattle.model.specs.Directory.{Directory, frameAt, validAt}
 use Rattle.model.specs.Policy.{inBlock, slotOf, inSlots, frameWith, Choice, Plan, slotHit, frameHit, freeSlot, join, fill, exchange}
 use Rattle.model.specs.Policy.{evict, Due, clean, due, dueOf}
-use Rattle.model.specs.Moves.{Memory, flashPage, programmed, putSlotPage, putFramePage, filled, joinedPages, taken, exchangedPages}
-use Rattle.model.specs.Moves.{merged, rewrittenPages, stepped, readPage, writtenPages, steppedPages}
+use Rattle.model.specs.Moves.{Chip, Memory, cellAt, flashPage, programmed, putSlotPage, putFramePage, filled, joinedPages, taken}
+use Rattle.model.specs.Moves.{exchangedPages, merged, rewrittenPages, stepped, readPage, writtenPages, steppedPages}
 use Rattle.model.specs.Calls.{stepsPages}
 
 due-cases : {X : Type 0} (e′ : Due) → (e′ ≡ clean → X) → ((b f : ℕ) → e′ ≡ due b f → X) → X
 due-cases clean p q = p refl
 due-cases (due b f) p q = q b f refl
 
-module _ {A : Type 0} (filler : A) (Q : A → Type 0) (q : Q filler) where
-  abbrev pub Each : List A → Type 0
-  Each l = (i : ℕ) → Q (getD l i filler)
+abbrev pub Each : {A : Type 0} → A → (A → Type 0) → List A → Type 0
+Each filler Q l = (i : ℕ) → Q (getD l i filler)
 
-  pub record EachM (m : Memory A) : Type 0 where
-    pub flash : Each (m .flash)
-    pub pspace : Each (m .pspace)
-    pub bspace : Each (m .bspace)
+each-cond : {A : Type 0} (Q : A → Type 0) (t : Bool) (x y : A) → Q x → Q y → Q (cond t x y)
+each-cond Q true x y hx hy = hx
+each-cond Q false x y hx hy = hy
 
-  each-tab : (n : ℕ) (f : ℕ → A) → ((i : ℕ) → Q (f i)) → Each (tab n f)
-  each-tab n f h i = by-test (ltb i n)
+module _ {A : Type 0} (filler : A) (Q : A → Type 0) where
+  each-tab : Q filler → (n : ℕ) (f : ℕ → A) → ((i : ℕ) → Q (f i)) → Each filler Q (tab n f)
+  each-tab q n f h i = by-test (ltb i n)
       (λ e. rw (getD-tab n f filler i (ltb-true i n e)) (h i))
       (λ e. rw (List·getD-eq-default (tab n f) filler {n = i} (rw length-tab (ltb-false i n e))) q)
 
-  each-set : (l : List A) (i : ℕ) (x : A) → Each l → Q x → Each (set l i x)
+  each-set : (l : List A) (i : ℕ) (x : A) → Each filler Q l → Q x → Each filler Q (set l i x)
   each-set l i x h hx j = by-test (eqb j i)
       (λ e. by-test (ltb i (length l))
       (λ e′. rw (eqb-true j i e, getD-set-same l i x filler (ltb-true i (length l) e′)) hx)
       (λ e′. rw (set-out l i x (ltb-false i (length l) e′)) (h j)))
       (λ e. rw (getD-set-other l i j x filler (eqb-false j i e)) (h j))
 
-  each-cond : (t : Bool) (x y : A) → Q x → Q y → Q (cond t x y)
-  each-cond true x y hx hy = hx
-  each-cond false x y hx hy = hy
+-- R holds of every cell, and Q of every page
+module _ {C A : Type 0} (chip : Chip C A) (filler : A) (R : C → Type 0) (Q : A → Type 0) where
+  pub record EachM (m : Memory C A) : Type 0 where
+    pub flash : Each (chip .cell filler) R (m .flash)
+    pub pspace : Each filler Q (m .pspace)
+    pub bspace : Each filler Q (m .bspace)
 
-  module _ (sz : Sizes) where
-    filled-each : (d : Directory) (m : Memory A) (b f : ℕ) → EachM m → Each (filled filler sz d m b f)
+  module _ (q : Q filler) (kept : (x : A) → Q x → R (chip .cell x)) (given : (c : C) → R c → Q (chip .page c)) (sz : Sizes) where
+    filled-each : (d : Directory) (m : Memory C A) (b f : ℕ) → EachM m → Each filler Q (filled filler sz d m b f)
     unfolding filled
-    filled-each d m b f h = each-tab (sz .B * sz .K) (λ k. cond (eqb (k / sz .K) f && inSlots sz d (b * sz .K + k % sz .K))
+    filled-each d m b f h = each-tab filler Q q (sz .B * sz .K) (λ k. cond (eqb (k / sz .K) f && inSlots sz d (b * sz .K + k % sz .K))
         (getD (m .pspace) (slotOf sz d (b * sz .K + k % sz .K)) filler) (getD (m .bspace) k filler))
-        (λ k. each-cond (eqb (k / sz .K) f && inSlots sz d (b * sz .K + k % sz .K)) _ _ (h .pspace (slotOf sz d (b * sz .K + k % sz .K)))
+        (λ k. each-cond Q (eqb (k / sz .K) f && inSlots sz d (b * sz .K + k % sz .K)) _ _ (h .pspace (slotOf sz d (b * sz .K + k % sz .K)))
         (h .bspace k))
 
-    joined-each : (d : Directory) (m : Memory A) (b f : ℕ) → EachM m → EachM (joinedPages filler sz d m b f)
+    pub joined-each : (d : Directory) (m : Memory C A) (b f : ℕ) → EachM m → EachM (joinedPages filler sz d m b f)
     unfolding joinedPages
     joined-each d m b f h = record { flash = h .flash; pspace = h .pspace; bspace = filled-each d m b f h }
 
-    exchanged-each : (d : Directory) (m : Memory A) (b f : ℕ) → EachM m → EachM (exchangedPages filler sz d m b f)
+    exchanged-each : (d : Directory) (m : Memory C A) (b f : ℕ) → EachM m → EachM (exchangedPages filler sz d m b f)
     unfolding exchangedPages
     exchanged-each d m b f h = record {
       flash = h .flash;
-      pspace = each-tab (sz .P) (λ i. cond (inBlock sz d b i && ltb (taken sz d b f i) (sz .K))
+      pspace = each-tab filler Q q (sz .P) (λ i. cond (inBlock sz d b i && ltb (taken sz d b f i) (sz .K))
           (getD (m .bspace) (f * sz .K + taken sz d b f i) filler) (getD (m .pspace) i filler))
-          (λ i. each-cond (inBlock sz d b i && ltb (taken sz d b f i) (sz .K)) _ _ (h .bspace (f * sz .K + taken sz d b f i))
+          (λ i. each-cond Q (inBlock sz d b i && ltb (taken sz d b f i) (sz .K)) _ _ (h .bspace (f * sz .K + taken sz d b f i))
           (h .pspace i));
       bspace = filled-each d m b f h;
     }
 
-    merged-each : (d : Directory) (m : Memory A) (b f o : ℕ) → EachM m → Q (merged filler sz d m b f o)
-    unfolding merged flashPage
-    merged-each d m b f o h = each-cond (bit (validAt d f) o) _ _ (h .bspace (f * sz .K + o)) (h .flash (b * sz .K + o))
+    pub merged-each : (d : Directory) (m : Memory C A) (b f o : ℕ) → EachM m → Q (merged chip filler sz d m b f o)
+    unfolding merged flashPage cellAt
+    merged-each d m b f o h = each-cond Q (bit (validAt d f) o) _ _ (h .bspace (f * sz .K + o)) (given _ (h .flash (b * sz .K + o)))
 
-    rewritten-each : (d : Directory) (m : Memory A) (b f : ℕ) → EachM m → EachM (rewrittenPages filler sz d m b f)
-    unfolding rewrittenPages programmed
+    rewritten-each : (d : Directory) (m : Memory C A) (b f : ℕ) → EachM m → EachM (rewrittenPages chip filler sz d m b f)
+    unfolding rewrittenPages programmed cellAt
     rewritten-each d m b f h = record {
-      flash = each-tab (sz .N * sz .K) (λ n. cond (eqb (n / sz .K) b) (merged filler sz d m b f (n % sz .K)) (getD (m .flash) n filler))
-          (λ n. each-cond (eqb (n / sz .K) b) _ _ (merged-each d m b f (n % sz .K) h) (h .flash n));
+      flash = each-tab (chip .cell filler) R (kept filler q) (sz .N * sz .K)
+          (λ n. cond (eqb (n / sz .K) b) (chip .cell (merged chip filler sz d m b f (n % sz .K))) (getD (m .flash) n (chip .cell filler)))
+          (λ n. each-cond R (eqb (n / sz .K) b) _ _ (kept _ (merged-each d m b f (n % sz .K) h)) (h .flash n));
       pspace = h .pspace;
-      bspace = each-tab (sz .B * sz .K) (λ k. cond (eqb (k / sz .K) f) (merged filler sz d m b f (k % sz .K)) (getD (m .bspace) k filler))
-          (λ k. each-cond (eqb (k / sz .K) f) _ _ (merged-each d m b f (k % sz .K) h) (h .bspace k));
+      bspace = each-tab filler Q q (sz .B * sz .K) (λ k. cond (eqb (k / sz .K) f) (merged chip filler sz d m b f (k % sz .K))
+          (getD (m .bspace) k filler)) (λ k. each-cond Q (eqb (k / sz .K) f) _ _ (merged-each d m b f (k % sz .K) h) (h .bspace k));
     }
 
-    put-each : (m : Memory A) (i : ℕ) (x : A) → EachM m → Q x → EachM (putSlotPage m i x)
+    put-each : (m : Memory C A) (i : ℕ) (x : A) → EachM m → Q x → EachM (putSlotPage m i x)
     unfolding putSlotPage
-    put-each m i x h hx = record { flash = h .flash; pspace = each-set (m .pspace) i x (h .pspace) hx; bspace = h .bspace }
+    put-each m i x h hx = record { flash = h .flash; pspace = each-set filler Q (m .pspace) i x (h .pspace) hx; bspace = h .bspace }
 
-    frame-page-each : (m : Memory A) (i : ℕ) (x : A) → EachM m → Q x → EachM (putFramePage m i x)
+    frame-page-each : (m : Memory C A) (i : ℕ) (x : A) → EachM m → Q x → EachM (putFramePage m i x)
     unfolding putFramePage
-    frame-page-each m i x h hx = record { flash = h .flash; pspace = h .pspace; bspace = each-set (m .bspace) i x (h .bspace) hx }
+    frame-page-each m i x h hx = record { flash = h .flash; pspace = h .pspace; bspace = each-set filler Q (m .bspace) i x (h .bspace) hx }
 
-    pub read-each : (d : Directory) (m : Memory A) (n : ℕ) → EachM m → Q (readPage filler sz d m n)
-    unfolding readPage flashPage
+    pub read-each : (d : Directory) (m : Memory C A) (n : ℕ) → EachM m → Q (readPage chip filler sz d m n)
+    unfolding readPage flashPage cellAt
     read-each d m n h = by-test (inSlots sz d n)
         (λ e. rw (e, readPage) (h .pspace (slotOf sz d n)))
-        (λ e. rw (e, readPage) (by-test (ltb (frameWith sz d n) (sz .B)) (λ e′. rw e′ (h .bspace _)) (λ e′. rw e′ (h .flash n))))
+        (λ e. rw (e, readPage) (by-test (ltb (frameWith sz d n) (sz .B)) (λ e′. rw e′ (h .bspace _)) (λ e′. rw e′ (given _ (h .flash n)))))
 
-    pub step-each : (d : Directory) (m : Memory A) (e′ : Due) → EachM m → EachM (steppedPages filler sz d m e′)
+    pub step-each : (d : Directory) (m : Memory C A) (e′ : Due) → EachM m → EachM (steppedPages chip filler sz d m e′)
     unfolding steppedPages
     step-each d m clean h = h
     step-each d m (due b f) h = rewritten-each _ _ b f (joined-each d m b f h)
 
-    pub written-each : (d : Directory) (m : Memory A) (n : ℕ) (x : A) (p : Plan) → EachM m → Q x → EachM (writtenPages filler sz d m n x p)
+    pub written-each : (d : Directory) (m : Memory C A) (n : ℕ) (x : A) (p : Plan) → EachM m → Q x
+        → EachM (writtenPages chip filler sz d m n x p)
     unfolding writtenPages
     written-each d m n x (slotHit i) h hx = put-each m i x h hx
     written-each d m n x (frameHit f) h hx = frame-page-each m _ x h hx
@@ -118,7 +123,7 @@ module _ {A : Type 0} (filler : A) (Q : A → Type 0) (q : Q filler) where
     written-each d m n x (evict v f) h hx = put-each _ _ x (joined-each (stepped sz d (due (frameAt d f) f)) _ v f
         (step-each d m (due (frameAt d f) f) h)) hx
 
-    pub flush-each : (pick : Choice) (c : ℕ) (d : Directory) (m : Memory A) → EachM m → EachM (stepsPages pick sz filler c d m)
+    pub flush-each : (pick : Choice) (c : ℕ) (d : Directory) (m : Memory C A) → EachM m → EachM (stepsPages pick sz chip filler c d m)
     unfolding stepsPages
     flush-each pick zero d m h = h
     flush-each pick (suc c) d m h = due-cases (dueOf pick sz d)

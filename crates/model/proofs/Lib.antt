@@ -9,7 +9,9 @@ pub mod Flush
 pub mod Opening
 pub mod EachPage
 pub mod Buffers
+pub mod Calls
 pub mod Demand3
+pub mod Formats
 pub mod AuditClauses
 pub mod AuditRows
 pub mod AuditPaper
@@ -20,8 +22,16 @@ pub mod AuditParts
 pub mod AuditOpenings
 pub mod AuditSpoilt
 pub mod AuditTable
-pub mod Calls
 pub mod ScriptA
+pub mod Cut
+pub mod Shelf
+pub mod AuditCells
+pub mod Torn
+pub mod Parts
+pub mod Merges
+pub mod Plain
+pub mod Copies
+pub mod AuditLayers
 pub mod RulesWords
 pub mod RulesRecord
 pub mod RulesMoves
@@ -30,6 +40,8 @@ pub mod RulesPolicy
 pub mod RulesWays
 pub mod RulesWrites
 pub mod RulesCalls
+pub mod RulesReads
 pub mod RulesBytes
 pub mod RulesLists
 pub mod RulesDemand3
+pub mod Unshelved

@@ -2,6 +2,7 @@
 use mathlib.Core.Path.{_≡_, refl, sym, ap, _∙_}
 use mathlib.Core.Logic.{inl}
 use mathlib.Core.Bool.{Bool, true}
+use mathlib.Core.List.{List}
 use Prim.Native.Nat.{ℕ, _-_, _*_, _≤_, _<_}
 use native.Mathlib.Omega.{arith}
 use lib.Dec.{leb, ltb, eqb}
@@ -14,10 +15,10 @@ use Rattle.prelude.proofs.Scan.{first-hit, first-at, count-none, count-one}
 use Rattle.prelude.proofs.Tab.{length-tab, getD-tab}
 use Rattle.prelude.proofs.Bits.{bit-zero}
 use Rattle.model.specs.Sizes.{Sizes, vacant, sizesOk, InLimits}
-use Rattle.model.specs.Directory.{Directory, slotAt, frameAt, validAt, recencyAt, inFrame, vacantDirectory}
+use Rattle.model.specs.Directory.{Directory, slotAt, frameAt, validAt, recencyAt, usesAt, inFrame, vacantDirectory}
 use Rattle.model.specs.Soundness.{Shape, Sound}
-use Rattle.model.specs.Moves.{Memory}
-use Rattle.model.specs.Calls.{openDone, isRefused, Buffers, lentOk, openStore}
+use Rattle.model.specs.Moves.{Chip, Memory, flashPage}
+use Rattle.model.specs.Calls.{openDone, isRefused, Format, Buffers, lentOk, openStore}
 use Rattle.model.specs.Lists.{timesCached}
 use Rattle.model.proofs.Soundness.{pages-small}
 use Rattle.model.proofs.Lookup.{block-vacant, block-lt, frame-has}
@@ -39,6 +40,10 @@ vacant-recency : (f : ℕ) → f < 8 → recencyAt vacantDirectory f ≡ f
 unfolding vacantDirectory
 vacant-recency f l = getD-tab 8 (λ i. i) 0 f l
 
+vacant-uses : (f : ℕ) → f < 8 → usesAt vacantDirectory f ≡ 0
+unfolding vacantDirectory
+vacant-uses f l = getD-replicate 8 f 0 0 l
+
 vacant-shape : Shape vacantDirectory
 unfolding vacantDirectory
 vacant-shape = record {
@@ -46,6 +51,7 @@ vacant-shape = record {
   frames-length = length-replicate 8 vacant;
   valid-length = length-replicate {A = ℕ} 8 0;
   recency-length = length-tab 8 _;
+  uses-length = length-replicate {A = ℕ} 8 0;
 }
 
 module _ (sz : Sizes) (limits : InLimits sz) where
@@ -70,22 +76,24 @@ module _ (sz : Sizes) (limits : InLimits sz) where
           slot-past = λ i l k. vacant-slot i k;
           frame-past = λ f l k. (vacant-frame f k, vacant-bits f k, vacant-recency f k);
         };
+        counted = vacant-uses;
       }
 
-  module _ {A : Type 0} (filler : A) (m : Memory A) (fl : length (m .flash) ≡ sz .N * sz .K) (pl : length (m .pspace) ≡ sz .P)
-      (bl : length (m .bspace) ≡ sz .B * sz .K) where
-    pub opened-good : Consistent filler sz vacantDirectory m (m .flash)
+  module _ {C A : Type 0} (chip : Chip C A) (filler : A) (m : Memory C A) (v : List A) (vl : length v ≡ sz .N * sz .K)
+      (is : (n : ℕ) → n < sz .N * sz .K → flashPage chip filler m n ≡ getD v n filler) (fl : length (m .flash) ≡ sz .N * sz .K)
+      (pl : length (m .pspace) ≡ sz .P) (bl : length (m .bspace) ≡ sz .B * sz .K) where
+    pub opened-good : Consistent chip filler sz vacantDirectory m v
     opened-good = let pm = limits .P-high in let bm = limits .B-high in record {
       numbers = opened-sound;
       reflects = record {
         in-slot = λ i l v. absurd (let q = vacant-slot i (omega arith) in omega arith);
         in-frame = λ f o l ol h. clash h (ap (λ (x : ℕ). bit x o) (vacant-bits f (omega arith)) ∙ bit-zero o);
-        in-flash = λ n l np nf. refl;
+        in-flash = λ n l np nf. is n l;
       };
       flash-length = fl;
       pspace-length = pl;
       bspace-length = bl;
-      array-length = fl;
+      array-length = vl;
     }
 
 -- ---- an accepted opening passed refusals 1, 2 and 3
@@ -93,16 +101,16 @@ module _ (sz : Sizes) (limits : InLimits sz) where
 abbrev pub wearOk : Sizes → Buffers → Bool
 wearOk sz u = all (sz .N) (λ b. leb (getD (u .wear) b 0) (sz .W))
 
-pub record Accept (sz : Sizes) (u : Buffers) : Type 0 where
+pub record Accept (fmt : Format) (sz : Sizes) (u : Buffers) : Type 0 where
   pub sizes-ok : sizesOk sz ≡ true
-  pub lent-ok : lentOk sz u ≡ true
+  pub lent-ok : lentOk fmt sz u ≡ true
   pub wear-ok : wearOk sz u ≡ true
-  pub cache-is : openStore sz u .cache ≡ record { sizes = sz; directory = vacantDirectory }
+  pub cache-is : openStore fmt sz u .cache ≡ record { sizes = sz; directory = vacantDirectory }
 
-pub open-accepted : (sz : Sizes) (u : Buffers) → openStore sz u .answer ≡ openDone → Accept sz u
+pub open-accepted : (fmt : Format) (sz : Sizes) (u : Buffers) → openStore fmt sz u .answer ≡ openDone → Accept fmt sz u
 unfolding openStore
-open-accepted sz u = by-test (sizesOk sz)
-    (λ a. by-test (lentOk sz u)
+open-accepted fmt sz u = by-test (sizesOk sz)
+    (λ a. by-test (lentOk fmt sz u)
     (λ b. by-test (wearOk sz u)
     (λ c. λ h. record { sizes-ok = a; lent-ok = b; wear-ok = c; cache-is = rw (a, openStore) (rw b (rw c)) })
     (λ c. rw (a, openStore) (rw b (rw c (λ h. clash refl (ap isRefused h))))))

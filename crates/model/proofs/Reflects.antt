@@ -20,19 +20,27 @@ use Rattle.model.specs.Sizes.{Sizes, vacant, InLimits}
 use Rattle.model.specs.Directory.{Directory, slotAt, frameAt, validAt, inFrame}
 use Rattle.model.specs.Soundness.{Shape}
 use Rattle.model.specs.Policy.{inBlock, slotOf, inSlots}
-use Rattle.model.specs.Moves.{Memory, flashPage, programmed, putSlot, putSlotPage, putFramePage, joined, filled, joinedPages, unmet}
-use Rattle.model.specs.Moves.{spare, taken, givenSlot, exchanged, exchangedPages, vacated, merged, rewrittenPages}
+use Rattle.model.specs.Moves.{Chip, Memory, cellAt, flashPage, programmed, putSlot, putSlotPage, putFramePage, joined, filled}
+use Rattle.model.specs.Moves.{joinedPages, unmet, spare, taken, givenSlot, exchanged, exchangedPages, vacated, merged, rewrittenPages}
 use Rattle.model.proofs.Soundness.{pages-small}
 use Rattle.model.proofs.Lookup.{NoSlot, NoFrame, page-div, page-mod, page-vacant, offset-lt, page-split, found-slot, in-slots}
 use Rattle.model.proofs.Lookup.{block-of, in-block, frame-has, has-frame, own-block}
 
-module _ {A : Type 0} (filler : A) where
+-- what a rewrite of frame f, of block b, programs is read as it is
+abbrev pub Own : {C A : Type 0} → Chip C A → A → Sizes → Directory → Memory C A → ℕ → ℕ → Type 0
+Own chip filler sz d m b f = (o : ℕ) → chip .page (chip .cell (merged chip filler sz d m b f o)) ≡ merged chip filler sz d m b f o
+
+-- so for every rewrite that a step may make
+abbrev pub OwnAll : {C A : Type 0} → Chip C A → A → Sizes → Directory → Memory C A → Type 0
+OwnAll chip filler sz d m = (b f : ℕ) → Own chip filler sz (joined sz d b f) (joinedPages filler sz d m b f) b f
+
+module _ {C A : Type 0} (chip : Chip C A) (filler : A) where
   -- every page is seen as the array has it
-  pub record Reflects (sz : Sizes) (d : Directory) (m : Memory A) (v : List A) : Type 0 where
+  pub record Reflects (sz : Sizes) (d : Directory) (m : Memory C A) (v : List A) : Type 0 where
     pub in-slot : (i : ℕ) → i < sz .P → slotAt d i < vacant → getD (m .pspace) i filler ≡ getD v (slotAt d i) filler
     pub in-frame : (f o : ℕ) → f < sz .B → o < sz .K → bit (validAt d f) o ≡ true
         → getD (m .bspace) (f * sz .K + o) filler ≡ getD v (frameAt d f * sz .K + o) filler
-    pub in-flash : (n : ℕ) → n < sz .N * sz .K → NoSlot sz d n → NoFrame sz d n → getD (m .flash) n filler ≡ getD v n filler
+    pub in-flash : (n : ℕ) → n < sz .N * sz .K → NoSlot sz d n → NoFrame sz d n → flashPage chip filler m n ≡ getD v n filler
 
 -- ---- the join
 
@@ -58,7 +66,7 @@ module _ (sz : Sizes) (limits : InLimits sz) (d : Directory) (shape : Shape d) (
   unfolding joined
   joined-bits′ g h = getD-set-other (d .valid) f g _ 0 h
 
-  module _ {A : Type 0} (filler : A) (m : Memory A) where
+  module _ {C A : Type 0} (filler : A) (m : Memory C A) where
     filled-page : (g o : ℕ) → g < sz .B → o < sz .K → getD (filled filler sz d m b f) (g * sz .K + o) filler
         ≡ cond (eqb g f && inSlots sz d (b * sz .K + o)) (getD (m .pspace) (slotOf sz d (b * sz .K + o)) filler)
         (getD (m .bspace) (g * sz .K + o) filler)
@@ -74,7 +82,7 @@ module _ (sz : Sizes) (limits : InLimits sz) (d : Directory) (shape : Shape d) (
         → getD (filled filler sz d m b f) (f * sz .K + o) filler ≡ getD (m .bspace) (f * sz .K + o) filler
     filled-kept o ol h = filled-page f o f-lt ol ∙ rw (h, eq-eqb f f refl)
 
-    module _ (v : List A) (s : Reflects filler sz d m v) (b-lt : b < sz .N) where
+    module _ (chip : Chip C A) (v : List A) (s : Reflects chip filler sz d m v) (b-lt : b < sz .N) where
       pub filled-victim : (o : ℕ) → o < sz .K → inSlots sz d (b * sz .K + o) ≡ true
           → getD (filled filler sz d m b f) (f * sz .K + o) filler ≡ getD v (b * sz .K + o) filler
       filled-victim o ol h = let q = found-slot sz d _ h in
@@ -103,7 +111,7 @@ module _ (sz : Sizes) (limits : InLimits sz) (d : Directory) (shape : Shape d) (
             (sym (ap (λ (x : ℕ). bit x o) (joined-bits′ g e2)) ∙ h)))
 
         joined-in-flash : (n : ℕ) → n < sz .N * sz .K → NoSlot sz (joined sz d b f) n → NoFrame sz (joined sz d b f) n
-            → getD (m .flash) n filler ≡ getD v n filler
+            → flashPage chip filler m n ≡ getD v n filler
         joined-in-flash n l np nf = s .in-flash n l
             (λ i il e. by-test (inBlock sz d b i)
             (λ q. let k = block-of sz d b i q in let e′ : n / sz .K ≡ b = ap (λ (x : ℕ). x / sz .K) (sym e) ∙ k .1 in
@@ -119,8 +127,8 @@ module _ (sz : Sizes) (limits : InLimits sz) (d : Directory) (shape : Shape d) (
             nf g gl (has-frame sz (joined sz d b f) n g (joined-frame′ g e2 ∙ k .0)
             (ap (λ (x : ℕ). bit x (n % sz .K)) (joined-bits′ g e2) ∙ k .1))))
 
-        pub joined-reflects : Reflects filler sz (joined sz d b f) (joinedPages filler sz d m b f) v
-        unfolding joinedPages
+        pub joined-reflects : Reflects chip filler sz (joined sz d b f) (joinedPages filler sz d m b f) v
+        unfolding joinedPages flashPage
         joined-reflects = record { in-slot = joined-in-slot; in-frame = joined-in-frame; in-flash = joined-in-flash }
 
 -- ---- the exchange, of a block b with more pages in slots than the frame has valid
@@ -173,7 +181,7 @@ module _ (sz : Sizes) (limits : InLimits sz) (d : Directory) (shape : Shape d) (
         let k = nth-is (sz .P) (spare sz d b f) (count o (unmet sz d b f)) il in
         (i, il, and-l (inBlock sz d b i) _ (k .0), rw (k .0, k .1) (nth-rank (sz .K) (unmet sz d b f) o ol u)))
 
-    module _ {A : Type 0} (filler : A) (m : Memory A) (v : List A) (s : Reflects filler sz d m v) where
+    module _ {C A : Type 0} (chip : Chip C A) (filler : A) (m : Memory C A) (v : List A) (s : Reflects chip filler sz d m v) where
       exchanged-in-slot : (i : ℕ) → i < sz .P → slotAt (exchanged sz d b f) i < vacant
           → getD (exchangedPages filler sz d m b f .pspace) i filler ≡ getD v (slotAt (exchanged sz d b f) i) filler
       unfolding exchangedPages givenSlot
@@ -193,14 +201,14 @@ module _ (sz : Sizes) (limits : InLimits sz) (d : Directory) (shape : Shape d) (
           → getD (filled filler sz d m b f) (g * sz .K + o) filler ≡ getD v (frameAt (exchanged sz d b f) g * sz .K + o) filler
       exchanged-in-frame g o gl ol h = by-test (eqb g f)
           (λ e. let e2 = eqb-true g f e in
-          rw (e2, exchanged-frame) (filled-victim sz limits d shape b f f-lt filler m v s b-lt o ol
+          rw (e2, exchanged-frame) (filled-victim sz limits d shape b f f-lt filler m chip v s b-lt o ol
           (sym (exchanged-bits o ol) ∙ (rw e2 at h))))
           (λ e. let e2 = eqb-false g f e in
           rw (exchanged-frame′ g e2) (filled-other sz limits d shape b f f-lt filler m g o gl ol e2
           ∙ s .in-frame g o gl ol (sym (ap (λ (x : ℕ). bit x o) (exchanged-bits′ g e2)) ∙ h)))
 
       exchanged-in-flash : (n : ℕ) → n < sz .N * sz .K → NoSlot sz (exchanged sz d b f) n → NoFrame sz (exchanged sz d b f) n
-          → getD (m .flash) n filler ≡ getD v n filler
+          → flashPage chip filler m n ≡ getD v n filler
       unfolding givenSlot
       exchanged-in-flash n l np nf = s .in-flash n l
           (λ i il e. by-test (inBlock sz d b i)
@@ -216,8 +224,8 @@ module _ (sz : Sizes) (limits : InLimits sz) (d : Directory) (shape : Shape d) (
           nf g gl (has-frame sz (exchanged sz d b f) n g (exchanged-frame′ g e2 ∙ k .0)
           (ap (λ (x : ℕ). bit x (n % sz .K)) (exchanged-bits′ g e2) ∙ k .1))))
 
-      pub exchanged-reflects : Reflects filler sz (exchanged sz d b f) (exchangedPages filler sz d m b f) v
-      unfolding exchangedPages
+      pub exchanged-reflects : Reflects chip filler sz (exchanged sz d b f) (exchangedPages filler sz d m b f) v
+      unfolding exchangedPages flashPage
       exchanged-reflects = record { in-slot = exchanged-in-slot; in-frame = exchanged-in-frame; in-flash = exchanged-in-flash }
 
 -- ---- the rewrite, after which the frame is vacated
@@ -239,34 +247,43 @@ module _ (sz : Sizes) (limits : InLimits sz) (d : Directory) (shape : Shape d) (
   unfolding vacated
   vacated-bits′ g h = getD-set-other (d .valid) f g 0 0 h
 
-  module _ {A : Type 0} (filler : A) (m : Memory A) (v : List A) (s : Reflects filler sz d m v) where
+  module _ {C A : Type 0} (chip : Chip C A) (filler : A) (m : Memory C A) (v : List A) (s : Reflects chip filler sz d m v) where
     -- what the rewrite programs is the array's page, where the page is in no slot and in no other frame
     pub merged-is : (n : ℕ) → n < sz .N * sz .K → n / sz .K ≡ frameAt d f → (NoSlot sz d n) → (NoFrame sz (vacated d f) n)
-        → merged filler sz d m (frameAt d f) f (n % sz .K) ≡ getD v n filler
-    unfolding merged flashPage
+        → merged chip filler sz d m (frameAt d f) f (n % sz .K) ≡ getD v n filler
+    unfolding merged
     merged-is n l e′ np nf = by-test (bit (validAt d f) (n % sz .K))
         (λ e. rw e (s .in-frame f (n % sz .K) f-lt (offset-lt sz limits n) e
         ∙ ap (λ (x : ℕ). getD v x filler) (page-split sz limits n (frameAt d f) e′)))
-        (λ e. rw e (ap (λ (x : ℕ). getD (m .flash) x filler) (page-split sz limits n (frameAt d f) e′) ∙ s .in-flash n l np
+        (λ e. rw e (ap (flashPage chip filler m) (page-split sz limits n (frameAt d f) e′) ∙ s .in-flash n l np
         (λ g gl q. let k = frame-has sz d n g q in by-test (eqb g f)
         (λ t. clash (rw (eqb-true g f t) at (k .1)) e)
         (λ t. let e2 = eqb-false g f t in nf g gl (has-frame sz (vacated d f) n g (vacated-frame′ g e2 ∙ k .0)
         (ap (λ (x : ℕ). bit x (n % sz .K)) (vacated-bits′ g e2) ∙ k .1))))))
 
     rewritten-frame′ : (g o : ℕ) → g < sz .B → o < sz .K → (g ≡ f → ⊥)
-        → getD (rewrittenPages filler sz d m (frameAt d f) f .bspace) (g * sz .K + o) filler ≡ getD (m .bspace) (g * sz .K + o) filler
+        → getD (rewrittenPages chip filler sz d m (frameAt d f) f .bspace) (g * sz .K + o) filler ≡ getD (m .bspace) (g * sz .K + o) filler
     unfolding rewrittenPages
     rewritten-frame′ g o gl ol h = getD-tab (sz .B * sz .K) _ filler (g * sz .K + o) (digits-lt gl ol)
         ∙ rw (page-div sz limits g o ol, ne-eqb g f h)
 
-    pub rewritten-flash : (n : ℕ) → n < sz .N * sz .K → getD (rewrittenPages filler sz d m (frameAt d f) f .flash) n filler
-        ≡ cond (eqb (n / sz .K) (frameAt d f)) (merged filler sz d m (frameAt d f) f (n % sz .K)) (getD (m .flash) n filler)
-    unfolding rewrittenPages programmed
-    rewritten-flash n l = getD-tab (sz .N * sz .K) _ filler n l
+    pub rewritten-cell : (n : ℕ) → n < sz .N * sz .K → cellAt chip filler (rewrittenPages chip filler sz d m (frameAt d f) f .flash) n
+        ≡ cond (eqb (n / sz .K) (frameAt d f)) (chip .cell (merged chip filler sz d m (frameAt d f) f (n % sz .K)))
+        (cellAt chip filler (m .flash) n)
+    unfolding rewrittenPages programmed cellAt
+    rewritten-cell n l = getD-tab (sz .N * sz .K) _ (chip .cell filler) n l
 
-    pub rewritten-reflects : Reflects filler sz (vacated d f) (rewrittenPages filler sz d m (frameAt d f) f) v
+    rewritten-flash : Own chip filler sz d m (frameAt d f) f → (n : ℕ) → n < sz .N * sz .K
+        → flashPage chip filler (rewrittenPages chip filler sz d m (frameAt d f) f) n
+        ≡ cond (eqb (n / sz .K) (frameAt d f)) (merged chip filler sz d m (frameAt d f) f (n % sz .K)) (flashPage chip filler m n)
+    unfolding flashPage
+    rewritten-flash own n l = ap (chip .page) (rewritten-cell n l)
+        ∙ by-test (eqb (n / sz .K) (frameAt d f)) (λ e. rw e (own (n % sz .K))) (λ e. rw e)
+
+    pub rewritten-reflects : Own chip filler sz d m (frameAt d f) f
+        → Reflects chip filler sz (vacated d f) (rewrittenPages chip filler sz d m (frameAt d f) f) v
     unfolding vacated rewrittenPages
-    rewritten-reflects = record {
+    rewritten-reflects own = record {
       in-slot = λ i l h. s .in-slot i l h;
       in-frame = λ g o gl ol h. by-test (eqb g f)
           (λ e. clash h (ap (λ (x : ℕ). bit (validAt (vacated d f) x) o) (eqb-true g f e) ∙ ap (λ (x : ℕ). bit x o) vacated-bits
@@ -274,7 +291,7 @@ module _ (sz : Sizes) (limits : InLimits sz) (d : Directory) (shape : Shape d) (
           (λ e. let e2 = eqb-false g f e in
           rw (vacated-frame′ g e2) (rewritten-frame′ g o gl ol e2 ∙ s .in-frame g o gl ol
           (sym (ap (λ (x : ℕ). bit x o) (vacated-bits′ g e2)) ∙ h)));
-      in-flash = λ n l np nf. rewritten-flash n l ∙ by-test (eqb (n / sz .K) (frameAt d f))
+      in-flash = λ n l np nf. rewritten-flash own n l ∙ by-test (eqb (n / sz .K) (frameAt d f))
           (λ e. rw e (merged-is n l (eqb-true _ _ e) np nf))
           (λ e. rw e (s .in-flash n l np (λ g gl q. let k = frame-has sz d n g q in by-test (eqb g f)
           (λ t. absurd (eqb-false _ _ e (sym (rw (eqb-true g f t) at (k .0)))))
@@ -284,14 +301,14 @@ module _ (sz : Sizes) (limits : InLimits sz) (d : Directory) (shape : Shape d) (
 
 -- ---- a page put into a slot, or into a slot of a frame
 
-module _ (sz : Sizes) (d : Directory) (shape : Shape d) {A : Type 0} (filler : A) (m : Memory A) (v : List A)
-    (s : Reflects filler sz d m v) (n : ℕ) (x : A)
+module _ (sz : Sizes) (d : Directory) (shape : Shape d) {C A : Type 0} (chip : Chip C A) (filler : A) (m : Memory C A) (v : List A)
+    (s : Reflects chip filler sz d m v) (n : ℕ) (x : A)
     (n-lt : n < sz .N * sz .K) (v-length : length v ≡ sz .N * sz .K) where
   module _ (limits : InLimits sz) (i : ℕ) (i-lt : i < sz .P) (p-length : length (m .pspace) ≡ sz .P)
       (alone : (j : ℕ) → j < sz .P → (j ≡ i → ⊥) → slotAt d j ≡ n → ⊥) (nf : NoFrame sz d n)
       (held : (slotAt d i ≡ n) ⊎ (slotAt d i ≡ vacant)) where
-    pub put-slot-reflects : Reflects filler sz (putSlot d i n) (putSlotPage m i x) (set v n x)
-    unfolding putSlot putSlotPage inFrame
+    pub put-slot-reflects : Reflects chip filler sz (putSlot d i n) (putSlotPage m i x) (set v n x)
+    unfolding putSlot putSlotPage inFrame flashPage
     put-slot-reflects = record {
       in-slot = λ j l h. by-test (eqb j i)
           (λ e. let e2 = eqb-true j i e in rw e2
@@ -321,8 +338,8 @@ module _ (sz : Sizes) (d : Directory) (shape : Shape d) {A : Type 0} (filler : A
 
   module _ (limits : InLimits sz) (f : ℕ) (f-lt : f < sz .B) (b-length : length (m .bspace) ≡ sz .B * sz .K)
       (np : NoSlot sz d n) (has : inFrame sz d n f ≡ true) (alone : (g : ℕ) → g < sz .B → (g ≡ f → ⊥) → inFrame sz d n g ≡ true → ⊥) where
-    pub put-frame-reflects : Reflects filler sz d (putFramePage m (f * sz .K + n % sz .K) x) (set v n x)
-    unfolding putFramePage
+    pub put-frame-reflects : Reflects chip filler sz d (putFramePage m (f * sz .K + n % sz .K) x) (set v n x)
+    unfolding putFramePage flashPage
     put-frame-reflects = record {
       in-slot = λ j l h. s .in-slot j l h ∙ sym (getD-set-other v n (slotAt d j) x filler (np j l));
       in-frame = λ g o gl ol h. by-test (eqb (g * sz .K + o) (f * sz .K + n % sz .K))

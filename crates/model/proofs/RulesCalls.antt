@@ -1,37 +1,43 @@
 -- The laws of the calls hold: each of the tests, in its order, passes or fails as the law's facts say.
 use mathlib.Core.Path.{_≡_, refl, ap, _∙_}
-use mathlib.Core.Bool.{true}
+use mathlib.Core.Bool.{Bool, true, false, _&&_}
 use mathlib.Core.List.{[]}
 use Prim.Native.Nat.{ℕ, zero, suc, _+_, _*_, _≤_, _<_}
 use native.Mathlib.Omega.{arith}
 use lib.Dec.{leb, ltb, eqb}
 use lib.Arith.{digits-lt}
 use lib.ListN.{length, getD}
-use borrow.Author.Tests.{lt-ltb, le-ltb, le-leb, lt-leb, eq-eqb, ne-eqb}
-use Rattle.prelude.specs.Scan.{count}
-use Rattle.prelude.proofs.Tests.{by-test, clash, fails}
-use Rattle.prelude.proofs.Scan.{count-le}
-use Rattle.prelude.proofs.Pages.{page-at, flat-pages}
+use borrow.Author.Tests.{ltb-true, eqb-true, lt-ltb, le-ltb, le-leb, lt-leb, eq-eqb, ne-eqb}
+use Rattle.prelude.specs.Scan.{first, count}
+use Rattle.prelude.proofs.Tests.{by-test, clash, fails, and-l, and-r, and-i}
+use Rattle.prelude.proofs.Scan.{first-at, first-hit, count-le}
+use Rattle.prelude.proofs.Tab.{getD-tab}
+use Rattle.prelude.proofs.Pages.{page-at}
 use Rattle.model.specs.Sizes.{Sizes, vacant}
 use Rattle.model.specs.Directory.{Directory, frameAt}
 use Rattle.model.specs.Soundness.{sound, Sound}
 use Rattle.model.specs.Policy.{Choice, Plan, plan, wayOf, slotHit, frameHit, freeSlot, join, fill, exchange, evict, due, dueOf}
 use Rattle.model.specs.Policy.{cached, isWorn, lowestWorn}
-use Rattle.model.specs.Moves.{Memory, wornBy, stepped, steppedPages, written}
+use Rattle.model.specs.Moves.{Chip, Memory, wornBy, stepped, steppedPages, written}
 use Rattle.model.specs.Calls.{Answer, openDone, readDone, writeDone, stepDone, stepClean, flushDone, refused, isRefused, Call, read}
 use Rattle.model.specs.Calls.{write, part, step, flush, State, Outcome, checked, readOutcome, writeOutcome, partOutcome, stepOutcome}
-use Rattle.model.specs.Calls.{steps, flushOutcome, decide, stepsPages, Page, combined, callPages, lentOk, Store, zeroPage, memoryOf}
-use Rattle.model.specs.Calls.{stateOf, told, carriedOut, lentBuffer, buffersOf, call}
+use Rattle.model.specs.Calls.{steps, flushOutcome, decide, somePage, faultMet, mendsMet, heeding, stepsPages, Page, Cell, Format}
+use Rattle.model.specs.Calls.{combined, callPages, lentOk, Fits, Store, zeroPage, flashCells, memoryOf, stateOf, told, faultOf}
+use Rattle.model.specs.Calls.{mendsOf}
+use Rattle.model.specs.Calls.{carriedOut, lentBuffer, buffersOf, callReading, call}
 use Rattle.model.specs.Lists.{Picks}
-use Rattle.model.specs.RulesCalls.{RefusedRule, MemoryRule, ToldRule, RefusesRecordRule, RefusesBufferRule, Good, RefusesThenRule}
-use Rattle.model.specs.RulesCalls.{AcceptsRule, KeepsPageRule, FillsReadRule, FillsWriteRule, FillsPartRule, FillsNothingRule}
-use Rattle.model.specs.RulesCalls.{RefusesLengthRule, RefusesPageRule, AnswersReadRule, AnswersWriteRule, AnswersEvictRule}
-use Rattle.model.specs.RulesCalls.{RefusesWornRule, RefusesReachRule, AnswersNothingRule, AnswersPartRule, AnswersCleanRule}
-use Rattle.model.specs.RulesCalls.{AnswersStepRule, RefusesStepRule, RefusesFlushRule, AnswersFlushRule, ReadKeepsRule}
-use Rattle.model.specs.RulesCalls.{NothingKeepsRule, CleanKeepsRule, PagesWriteRule, PagesPartRule, PagesStepRule, PagesUntilClean}
-use Rattle.model.specs.RulesCalls.{PagesFlushRule}
+use Rattle.model.specs.RulesCalls.{RefusedRule, CellRule, MemoryRule, ToldRule, HeedsRule, NoneMeets, MeetsRule, CallRule}
+use Rattle.model.specs.RulesCalls.{RefusesRecordRule, RefusesBufferRule, Good, says, RefusesThenRule, isRead, faultAt}
+use Rattle.model.specs.RulesCalls.{RefusesUnreadableRule, RefusesTornRule, Passes, Case, unsound, lengths, turned, unreadable, torn}
+use Rattle.model.specs.RulesCalls.{accepted, CasesRule, AcceptsRule, AcceptsMendsRule, KeepsPageRule}
+use Rattle.model.specs.RulesCalls.{FillsReadRule, FillsWriteRule, FillsPartRule, FillsNothingRule, RefusesLengthRule, RefusesPageRule}
+use Rattle.model.specs.RulesCalls.{AnswersReadRule, AnswersWriteRule, AnswersEvictRule, RefusesWornRule, RefusesReachRule}
+use Rattle.model.specs.RulesCalls.{AnswersNothingRule, AnswersPartRule, AnswersCleanRule, AnswersStepRule, RefusesStepRule}
+use Rattle.model.specs.RulesCalls.{RefusesFlushRule, AnswersFlushRule, ReadKeepsRule, NothingKeepsRule, CleanKeepsRule}
+use Rattle.model.specs.RulesCalls.{PagesWriteRule, PagesPartRule, PagesStepRule, PagesUntilClean, PagesFlushRule}
 use Rattle.model.proofs.Soundness.{sound-facts}
 use Rattle.model.proofs.Lookup.{block-vacant}
+use Rattle.model.proofs.Buffers.{fits-of, buffers-of-memory}
 use Rattle.model.proofs.Steps.{due-elim, cached-less, stepped-sound}
 use Rattle.model.proofs.Calls.{flush-is-steps}
 use Rattle.model.proofs.RulesRecord.{lengths-rule, sound-rule}
@@ -52,10 +58,14 @@ refused-rule a = (by-answer a, λ h. ap isRefused (h .2))
     by-answer (flushDone r m) h = clash h refl
     by-answer (refused r b) h = (r, b, refl)
 
+pub cell-rule : CellRule
+unfolding memoryOf flashCells
+cell-rule fmt sz u c n l = let e = getD-tab (sz .N * sz .K) _ c n l in
+    (ap (λ (x : Cell). x .bytes) e, ap (λ (x : Cell). x .code) e, ap (λ (x : Cell). x .mark) e)
+
 pub memory-rule : MemoryRule
 unfolding memoryOf
-memory-rule sz u z = (
-  (λ n l. page-at (sz .S) (sz .N * sz .K) (u .flash) z n l),
+memory-rule fmt sz u z = (
   (λ i l. page-at (sz .S) (sz .P) (u .pspace) z i l),
   (λ g o gl ol. page-at (sz .S) (sz .B * sz .K) (u .bspace) z (g * sz .K + o) (digits-lt gl ol)),
 )
@@ -109,79 +119,182 @@ told-rule c = (
     flushes step e = apart cc
     flushes flush e = refl
 
+-- ---- 7 and 14: what a request adds
+
+pub heeds-rule : HeedsRule
+unfolding heeding
+heeds-rule k late o = (
+  (λ e. rw (e, heeding)),
+  (λ e ne. rw (e, heeding) (rw (ne-eqb late 0 ne) (refl, refl))),
+  (λ e z. rw (e, heeding) (rw (eq-eqb late 0 z))),
+)
+
+some-page : (sz : Sizes) (p : ℕ → Bool) (n : ℕ) → n < sz .N * sz .K → p n ≡ true → somePage sz p ≡ true
+unfolding somePage
+some-page sz p n l h = let k = first-at (sz .N * sz .K) p n l h in lt-ltb (first (sz .N * sz .K) p) (sz .N * sz .K) (omega arith)
+
+no-page : (sz : Sizes) (p : ℕ → Bool) → ((n : ℕ) → n < sz .N * sz .K → p n ≡ true → ⊥) → somePage sz p ≡ false
+unfolding somePage
+no-page sz p h = fails _ (λ t. let l = ltb-true (first (sz .N * sz .K) p) (sz .N * sz .K) t in
+    h (first (sz .N * sz .K) p) l (first-hit (sz .N * sz .K) p l))
+
+none-meets : (sz : Sizes) (fault : ℕ → ℕ) (reads : ℕ → Bool) (r : ℕ) → NoneMeets sz fault reads r
+    → somePage sz (λ i. reads i && eqb (fault i) r) ≡ false
+none-meets sz fault reads r h = no-page sz (λ i. reads i && eqb (fault i) r)
+    (λ n l t. h n l (and-l (reads n) _ t) (eqb-true (fault n) r (and-r (reads n) _ t)))
+
+pub meets-rule : MeetsRule
+unfolding faultMet
+meets-rule sz fault reads = (
+  (λ n l h e. rw (some-page sz (λ i. reads i && eqb (fault i) 7) n l (and-i h (eq-eqb _ 7 e)))),
+  (λ h7 n l h e. rw (none-meets sz fault reads 7 h7) (rw (some-page sz (λ i. reads i && eqb (fault i) 14) n l (and-i h (eq-eqb _ 14 e))))),
+  (λ h7 h14. rw (none-meets sz fault reads 7 h7) (rw (none-meets sz fault reads 14 h14))),
+)
+
 -- ---- 4 and 2: the record, and the lent buffers
 
-pub refuses-record-rule : RefusesRecordRule
+pub call-rule : CallRule
 unfolding call
-refuses-record-rule pick s c h = let sz = s .cache .sizes in let d = s .cache .directory in
-    let e = fails (sound sz d) (λ t. h (sound-rule sz d .0 t)) in (rw (e, call), rw (e, call))
+call-rule fmt pick s c = refl
+
+pub refuses-record-rule : RefusesRecordRule
+unfolding callReading
+refuses-record-rule fmt pick besides s c h = let sz = s .cache .sizes in let d = s .cache .directory in
+    let e = fails (sound sz d) (λ t. h (sound-rule sz d .0 t)) in rw (e, callReading) (refl, refl, refl)
 
 pub refuses-buffer-rule : RefusesBufferRule
-unfolding call
-refuses-buffer-rule pick s c a h = let sz = s .cache .sizes in let d = sound-rule sz (s .cache .directory) .1 a in
-    let e = fails (lentOk sz (s .lent)) (λ t. h (lengths-rule sz (s .lent) .0 t)) in
-    (rw (d, call) (rw e), rw (d, call) (rw e))
+unfolding callReading
+refuses-buffer-rule fmt pick besides s c a h = let sz = s .cache .sizes in let d = sound-rule sz (s .cache .directory) .1 a in
+    let e = fails (lentOk fmt sz (s .lent)) (λ t. h (lengths-rule fmt sz (s .lent) .0 t)) in
+    rw (d, callReading) (rw e (refl, refl, refl))
 
-module _ (pick : Choice) (s : Store) (c : Call Page) (g : Good s) where
-  abbrev says : Outcome
-  says = decide pick (s .cache .sizes) (stateOf s) (told c)
+module _ (fmt : Format) (pick : Choice) (besides : ℕ → Bool) (s : Store) (c : Call Page) where
+  -- the added cause that the call meets
+  abbrev late : ℕ
+  late = faultOf fmt pick (s .cache .sizes) (memoryOf fmt (s .cache .sizes) (s .lent) .flash) (isRead fmt pick besides s c)
 
-  goes-on : call pick s c ≡ carriedOut pick s c says
-  unfolding call
-  goes-on = let sz = s .cache .sizes in let d = sound-rule sz (s .cache .directory) .1 (g .0) in
-      let e = lengths-rule sz (s .lent) .1 (g .1) in
-      rw (d, call) (rw e)
+  goes-on : Good fmt s → callReading fmt pick besides s c ≡ carriedOut fmt pick s c besides (heeding (stateOf s) late (says pick s c))
+  unfolding callReading
+  goes-on g = let sz = s .cache .sizes in let d = sound-rule sz (s .cache .directory) .1 (g .0) in
+      let e = lengths-rule fmt sz (s .lent) .1 (g .1) in
+      rw (d, callReading) (rw e)
+
+  back : (o : Outcome) (r b : ℕ) → o .answer ≡ refused r b → let q = carriedOut fmt pick s c besides o in
+      (q .answer ≡ refused r b) × (q .store ≡ s) × (q .mends ≡ 0)
+  unfolding carriedOut
+  back o r b h = let e : isRefused (o .answer) ≡ true = ap isRefused h in rw (e, carriedOut) (h, refl, refl)
+
+  -- turned down for an added cause r
+  late-down : Good fmt s → isRefused (says pick s c .answer) ≡ false → (r : ℕ) → late ≡ r → (r ≡ 0 → ⊥)
+      → let q = callReading fmt pick besides s c in (q .answer ≡ refused r vacant) × (q .store ≡ s) × (q .mends ≡ 0)
+  late-down g e r f ne = rw (goes-on g) (rw f
+      (back (heeding (stateOf s) r (says pick s c)) r vacant (heeds-rule (stateOf s) r (says pick s c) .1 e ne .0)))
+
+  goes-through : Passes fmt pick besides s c → callReading fmt pick besides s c ≡ carriedOut fmt pick s c besides (says pick s c)
+  unfolding faultOf
+  goes-through p = let sz = s .cache .sizes in
+      let f : late ≡ 0 = meets-rule sz (faultAt fmt s) (isRead fmt pick besides s c) .2 (p .none-unreadable) (p .none-torn) in
+      rw (goes-on (p .good)) (rw f (rw (heeds-rule (stateOf s) 0 (says pick s c) .2 (p .not-refused) refl)))
 
 pub refuses-then-rule : RefusesThenRule
-unfolding carriedOut
-refuses-then-rule pick s c g r b h = let e : isRefused (says pick s c g .answer) ≡ true = ap isRefused h in
-    rw (goes-on pick s c g) (rw (e, carriedOut) (h, refl))
+refuses-then-rule fmt pick besides s c g r b h = let o = says pick s c in let e : isRefused (o .answer) ≡ true = ap isRefused h in
+    rw (goes-on fmt pick besides s c g) (rw (heeds-rule (stateOf s) (late fmt pick besides s c) o .0 e)
+    (back fmt pick besides s c o r b h))
+
+pub refuses-unreadable-rule : RefusesUnreadableRule
+unfolding faultOf
+refuses-unreadable-rule fmt pick besides s c g e n l h q = late-down fmt pick besides s c g e 7
+    (meets-rule (s .cache .sizes) (faultAt fmt s) (isRead fmt pick besides s c) .0 n l h q) (λ z. absurd (omega arith))
+
+pub refuses-torn-rule : RefusesTornRule
+unfolding faultOf
+refuses-torn-rule fmt pick besides s c g e h7 n l h q = late-down fmt pick besides s c g e 14
+    (meets-rule (s .cache .sizes) (faultAt fmt s) (isRead fmt pick besides s c) .1 h7 n l h q) (λ z. absurd (omega arith))
+
+-- some page read meets r, or none does
+some-meets : {X : Type 0} (sz : Sizes) (fault : ℕ → ℕ) (reads : ℕ → Bool) (r : ℕ)
+    → ((n : ℕ) → n < sz .N * sz .K → reads n ≡ true → fault n ≡ r → X) → (NoneMeets sz fault reads r → X) → X
+unfolding somePage
+some-meets sz fault reads r yes-it no-one = let p : ℕ → Bool = λ i. reads i && eqb (fault i) r in let m : ℕ = sz .N * sz .K in
+    by-test (somePage sz p)
+    (λ t. let l = ltb-true (first m p) m t in let h = first-hit m p l in
+    yes-it (first m p) l (and-l (reads (first m p)) _ h) (eqb-true (fault (first m p)) r (and-r (reads (first m p)) _ h)))
+    (λ t. no-one (λ n l h e. clash (some-page sz p n l (and-i h (eq-eqb _ r e))) t))
+
+pub cases-rule : CasesRule
+cases-rule fmt pick besides s c = let sz = s .cache .sizes in let d = s .cache .directory in
+    by-test (sound sz d)
+    (λ a. by-test (lentOk fmt sz (s .lent))
+    (λ b. let g : Good fmt s = (sound-rule sz d .0 a, lengths-rule fmt sz (s .lent) .0 b) in
+    by-test (isRefused (says pick s c .answer))
+    (λ e. let w = refused-rule (says pick s c .answer) .0 e in turned g (w .0) (w .1) (w .2))
+    (λ e. some-meets sz (faultAt fmt s) (isRead fmt pick besides s c) 7
+    (λ n l h q. unreadable g e n l h q)
+    (λ h7. some-meets sz (faultAt fmt s) (isRead fmt pick besides s c) 14
+    (λ n l h q. torn g e h7 n l h q)
+    (λ h14. accepted (record { good = g; not-refused = e; none-unreadable = h7; none-torn = h14 })))))
+    (λ b. lengths (sound-rule sz d .0 a) (λ l. clash (lengths-rule fmt sz (s .lent) .1 l) b)))
+    (λ a. unsound (λ f. clash (sound-rule sz d .1 f) a))
 
 pub accepts-rule : AcceptsRule
 unfolding carriedOut buffersOf
-accepts-rule pick s c g e = rw (goes-on pick s c g) (rw (e, carriedOut) (record {
+accepts-rule fmt pick besides s c p = let e = p .not-refused in rw (goes-through fmt pick besides s c p) (rw (e, carriedOut) (record {
   answer-is = refl;
   sizes-stay = refl;
   record-is = refl;
   wear-is = refl;
   flash-is = refl;
+  codes-are = refl;
+  marks-are = refl;
   pspace-is = refl;
   bspace-is = refl;
 }))
 
+pub accepts-mends-rule : AcceptsMendsRule
+unfolding carriedOut mendsOf mendsMet
+accepts-mends-rule fmt pick besides s c p = let e = p .not-refused in rw (goes-through fmt pick besides s c p) (rw (e, carriedOut))
+
 -- a call that is turned down gives the page buffer as lent, by whichever test
-turned-down-page : (pick : Choice) (s : Store) (c : Call Page) → isRefused (call pick s c .answer) ≡ true
-    → call pick s c .page ≡ lentBuffer c
-unfolding call carriedOut
-turned-down-page pick s c = let sz = s .cache .sizes in let o = decide pick sz (stateOf s) (told c) in
+turned-down-page : (fmt : Format) (pick : Choice) (besides : ℕ → Bool) (s : Store) (c : Call Page)
+    → isRefused (callReading fmt pick besides s c .answer) ≡ true → callReading fmt pick besides s c .page ≡ lentBuffer c
+unfolding callReading carriedOut
+turned-down-page fmt pick besides s c = let sz = s .cache .sizes in
+    let o = heeding (stateOf s) (late fmt pick besides s c) (says pick s c) in
     by-test (sound sz (s .cache .directory))
-    (λ a. by-test (lentOk sz (s .lent))
+    (λ a. by-test (lentOk fmt sz (s .lent))
     (λ b. by-test (isRefused (o .answer))
-    (λ e. rw (a, call) (rw b (rw (e, carriedOut) (λ h. refl))))
-    (λ e. rw (a, call) (rw b (rw (e, carriedOut) (λ h. clash h e)))))
-    (λ b. rw (a, call) (rw b (λ h. refl))))
-    (λ a. rw (a, call) (λ h. refl))
+    (λ e. rw (a, callReading) (rw b (rw (e, carriedOut) (λ h. refl))))
+    (λ e. rw (a, callReading) (rw b (rw (e, carriedOut) (λ h. clash h e)))))
+    (λ b. rw (a, callReading) (rw b (λ h. refl))))
+    (λ a. rw (a, callReading) (λ h. refl))
 
 pub keeps-page-rule : KeepsPageRule
-keeps-page-rule pick s n first x page =
-    (turned-down-page pick s (read n x), turned-down-page pick s (write n x), turned-down-page pick s (part n first x page))
+keeps-page-rule fmt pick besides s n first x page = (
+  turned-down-page fmt pick besides s (read n x),
+  turned-down-page fmt pick besides s (write n x),
+  turned-down-page fmt pick besides s (part n first x page),
+)
 
 pub fills-read-rule : FillsReadRule
 unfolding carriedOut
-fills-read-rule pick s g n x e = rw (goes-on pick s (read n x) g) (rw (e, carriedOut))
+fills-read-rule fmt pick besides s n x p = let e = p .not-refused in
+    rw (goes-through fmt pick besides s (read n x) p) (rw (e, carriedOut))
 
 pub fills-write-rule : FillsWriteRule
 unfolding carriedOut
-fills-write-rule pick s g n x e = rw (goes-on pick s (write n x) g) (rw (e, carriedOut))
+fills-write-rule fmt pick besides s n x p = let e = p .not-refused in
+    rw (goes-through fmt pick besides s (write n x) p) (rw (e, carriedOut))
 
 pub fills-part-rule : FillsPartRule
 unfolding carriedOut combined
-fills-part-rule pick s g n first x page l e = rw (goes-on pick s (part n first x page) g)
+fills-part-rule fmt pick besides s n first x page l p = let e = p .not-refused in
+    rw (goes-through fmt pick besides s (part n first x page) p)
     (rw (e, carriedOut) (rw (ne-eqb (length x) 0 (λ z. absurd (omega arith)))))
 
 pub fills-nothing-rule : FillsNothingRule
 unfolding carriedOut
-fills-nothing-rule pick s g n first page e = rw (goes-on pick s (part n first [] page) g) (rw (e, carriedOut))
+fills-nothing-rule fmt pick besides s n first page p = let e = p .not-refused in
+    rw (goes-through fmt pick besides s (part n first [] page) p) (rw (e, carriedOut))
 
 -- ---- 2 and 5: the page buffer's length, and the page
 
@@ -293,26 +406,25 @@ answers-flush-rule pick picks sz k ok wl low =
 
 -- ---- the pages of an accepted call
 
--- buffers cut into pages and joined again are the buffers
-module _ (pick : Choice) (s : Store) (g : Good s) where
+-- a call that changes no page and no wear changes no buffer
+module _ (fmt : Format) (pick : Choice) (besides : ℕ → Bool) (s : Store) (g : Good fmt s) where
   abbrev sizes : Sizes
   sizes = s .cache .sizes
 
-  joined-again : buffersOf (memoryOf sizes (s .lent)) (s .lent .wear) ≡ s .lent
-  unfolding buffersOf memoryOf
-  joined-again = let l = g .1 in rw (
-    flat-pages (sizes .S) (sizes .N * sizes .K) (s .lent .flash) (l .flash-is),
-    flat-pages (sizes .S) (sizes .P) (s .lent .pspace) (l .pspace-is),
-    flat-pages (sizes .S) (sizes .B * sizes .K) (s .lent .bspace) (l .bspace-is),
-  )
+  abbrev memory : Memory Cell Page
+  memory = memoryOf fmt sizes (s .lent)
 
-  -- so a call that changes no page and no wear changes no buffer
-  keeps : (c : Call Page) → callPages pick sizes (zeroPage sizes) (stateOf s) (memoryOf sizes (s .lent)) c ≡ memoryOf sizes (s .lent)
-      → decide pick sizes (stateOf s) (told c) .state .wear ≡ s .lent .wear → call pick s c .store .lent ≡ s .lent
-  unfolding carriedOut
-  keeps c p w = rw (goes-on pick s c g) (by-test (isRefused (decide pick sizes (stateOf s) (told c) .answer))
-      (λ e. rw (e, carriedOut))
-      (λ e. rw (e, carriedOut) (rw (p, w) joined-again)))
+  fits : Fits fmt sizes (s .lent)
+  fits = fits-of fmt sizes (s .lent) (lengths-rule fmt sizes (s .lent) .1 (g .1))
+
+  keeps : (c : Call Page) → callPages (fmt .chip sizes) (zeroPage sizes) pick sizes (stateOf s) memory c ≡ memory
+      → says pick s c .state .wear ≡ s .lent .wear → callReading fmt pick besides s c .store .lent ≡ s .lent
+  unfolding carriedOut heeding
+  keeps c p w = rw (goes-on fmt pick besides s c g) (by-test (isRefused (says pick s c .answer))
+      (λ e. rw (e, heeding) (rw (e, carriedOut)))
+      (λ e. rw (e, heeding) (by-test (eqb (late fmt pick besides s c) 0)
+      (λ z. rw z (rw (e, carriedOut) (rw (p, w) (buffers-of-memory fmt sizes (s .lent) fits))))
+      (λ z. rw z))))
 
 -- the wear stays whether the checks pass or not
 checked-wear : (sz : Sizes) (k : State) (n long : ℕ) (o : Outcome) → o .state .wear ≡ k .wear → checked sz k n long o .state .wear ≡ k .wear
@@ -323,47 +435,49 @@ checked-wear sz k n long o h = by-test (eqb long (sz .S))
 
 pub read-keeps-rule : ReadKeepsRule
 unfolding callPages decide readOutcome
-read-keeps-rule pick s g n x = keeps pick s g (read n x) refl (checked-wear (s .cache .sizes) (stateOf s) n (length x) _ refl)
+read-keeps-rule fmt pick besides s g n x =
+    keeps fmt pick besides s g (read n x) refl (checked-wear (s .cache .sizes) (stateOf s) n (length x) _ refl)
 
 pub nothing-keeps-rule : NothingKeepsRule
 unfolding callPages decide partOutcome
-nothing-keeps-rule pick s g n first page = let sz = s .cache .sizes in let k = stateOf s in
-    keeps pick s g (part n first [] page) refl (checked-wear sz k n (length page) _
+nothing-keeps-rule fmt pick besides s g n first page = let sz = s .cache .sizes in let k = stateOf s in
+    keeps fmt pick besides s g (part n first [] page) refl (checked-wear sz k n (length page) _
     (by-test (leb (first + 0) (sz .S)) (λ a. rw (a, partOutcome)) (λ a. rw (a, partOutcome))))
 
 pub clean-keeps-rule : CleanKeepsRule
 unfolding callPages decide stepOutcome steppedPages
-clean-keeps-rule pick s g e = keeps pick s g step (rw e) (rw e)
+clean-keeps-rule fmt pick besides s g e = keeps fmt pick besides s g step (rw e) (rw e)
 
 pub pages-write-rule : PagesWriteRule
 unfolding callPages
-pages-write-rule pick sz z k m n x p e = rw e
+pages-write-rule C chip z pick sz k m n x p e = rw e
 
 pub pages-part-rule : PagesPartRule
 unfolding callPages combined
-pages-part-rule pick sz z k m n first x page l = rw (ne-eqb (length x) 0 (λ q. absurd (omega arith)), callPages)
+pages-part-rule C chip z pick sz k m n first x page l = rw (ne-eqb (length x) 0 (λ q. absurd (omega arith)), callPages)
 
 pub pages-step-rule : PagesStepRule
 unfolding callPages
-pages-step-rule pick sz z k m b f e = rw e
+pages-step-rule C chip z pick sz k m b f e = rw e
 
 -- as many steps as blocks are cached, and then nothing is due
-steps-to : (pick : Choice) → Picks pick → (sz : Sizes) (z : Page) (c : ℕ) (d : Directory) (m : Memory Page) → Sound sz d
-    → count (sz .N) (cached sz d) ≤ c → (r : ℕ) × PagesUntilClean pick sz z r d m (stepsPages pick sz z c d m)
-unfolding stepsPages
-steps-to pick picks sz z zero d m s h = due-elim sz d s pick picks
-    (λ q. dueOf pick sz d ≡ q → (r : ℕ) × PagesUntilClean pick sz z r d m m)
-    (λ b f y e. absurd (let l = cached-less sz d s b f y in omega arith)) (λ n e. (0, (e, refl))) refl
-steps-to pick picks sz z (suc c) d m s h = due-elim sz d s pick picks
-    (λ q. dueOf pick sz d ≡ q → (r : ℕ) × PagesUntilClean pick sz z r d m (stepsPages pick sz z (suc c) d m))
-    (λ b f y e. let l = cached-less sz d s b f y in let d′ = stepped sz d (due b f) in let m′ = steppedPages z sz d m (due b f) in
-    let ih = steps-to pick picks sz z c d′ m′ (stepped-sound sz d s b f y) (omega arith) in
-    let go : stepsPages pick sz z (suc c) d m ≡ stepsPages pick sz z c d′ m′ = rw (e, stepsPages) in
-    (suc (ih .0), (b, f, e, rw go (ih .1))))
-    (λ n e. let go : stepsPages pick sz z (suc c) d m ≡ m = rw (e, stepsPages) in (0, (e, go)))
-    refl
+module _ {C : Type 0} (chip : Chip C Page) (z : Page) (pick : Choice) (picks : Picks pick) (sz : Sizes) where
+  steps-to : (c : ℕ) (d : Directory) (m : Memory C Page) → Sound sz d → count (sz .N) (cached sz d) ≤ c
+      → (r : ℕ) × PagesUntilClean chip z pick sz r d m (stepsPages pick sz chip z c d m)
+  unfolding stepsPages
+  steps-to zero d m s h = due-elim sz d s pick picks
+      (λ q. dueOf pick sz d ≡ q → (r : ℕ) × PagesUntilClean chip z pick sz r d m m)
+      (λ b f y e. absurd (let l = cached-less sz d s b f y in omega arith)) (λ n e. (0, (e, refl))) refl
+  steps-to (suc c) d m s h = due-elim sz d s pick picks
+      (λ q. dueOf pick sz d ≡ q → (r : ℕ) × PagesUntilClean chip z pick sz r d m (stepsPages pick sz chip z (suc c) d m))
+      (λ b f y e. let l = cached-less sz d s b f y in let d′ = stepped sz d (due b f) in let m′ = steppedPages chip z sz d m (due b f) in
+      let ih = steps-to c d′ m′ (stepped-sound sz d s b f y) (omega arith) in
+      let go : stepsPages pick sz chip z (suc c) d m ≡ stepsPages pick sz chip z c d′ m′ = rw (e, stepsPages) in
+      (suc (ih .0), (b, f, e, rw go (ih .1))))
+      (λ n e. let go : stepsPages pick sz chip z (suc c) d m ≡ m = rw (e, stepsPages) in (0, (e, go)))
+      refl
 
 pub pages-flush-rule : PagesFlushRule
 unfolding callPages
-pages-flush-rule pick picks sz z k m ok =
-    steps-to pick picks sz z (sz .N) (k .directory) m (sound-facts sz (k .directory) ok) (count-le (sz .N) _)
+pages-flush-rule C chip z pick picks sz k m ok =
+    steps-to chip z pick picks sz (sz .N) (k .directory) m (sound-facts sz (k .directory) ok) (count-le (sz .N) _)

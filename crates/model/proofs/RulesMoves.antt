@@ -21,7 +21,8 @@ use Rattle.model.specs.Sizes.{Sizes, vacant, sizesOk, InLimits}
 use Rattle.model.specs.Directory.{Directory, slotAt, frameAt, validAt, recencyAt}
 use Rattle.model.specs.Soundness.{sound, Sound}
 use Rattle.model.specs.Policy.{inBlock, slotOf, inSlots, validCount}
-use Rattle.model.specs.Moves.{Memory, flashPage, programmed, worn, wornBy, recencyAfter, touched, joined, filled, joinedPages, unmet}
+use Rattle.model.specs.Moves.{Chip, Memory, cellAt, flashPage, programmed, worn, wornBy, recencyAfter, touched, joined, filled}
+use Rattle.model.specs.Moves.{joinedPages, unmet}
 use Rattle.model.specs.Moves.{spare, taken, givenSlot, exchanged, exchangedPages, vacated, merged, rewrittenPages, stepped}
 use Rattle.model.specs.Moves.{steppedPages}
 use Rattle.model.proofs.Soundness.{limits-of, limits-test, sound-facts}
@@ -140,6 +141,7 @@ order-rule sz d ok f l = let s = sound-facts sz d ok in record {
   recent = most-recent sz d (s .limits .B-low) (s .limits .B-high) (s .shape .recency-length) (s .listed .recency-has) f l;
   slots-stay = refl;
   frames-stay = (refl, refl);
+  uses-stay = refl;
 }
 
 -- ---- pages of block b in slots join frame f, which is b's or vacant
@@ -183,9 +185,10 @@ module _ (sz : Sizes) (d : Directory) (ok : sound sz d ≡ true) (b f : ℕ) (b-
         valid-above = λ o l. ap (λ (x : ℕ). bit x o) at ∙ bit-high (sz .K) (mask (sz .K) p) o (mask-lt (sz .K) p) l;
         frames-stay = λ g ne. (getD-set-other (d .frames) f g b 0 ne, getD-set-other (d .valid) f g _ 0 ne);
         order-stays = refl;
+        uses-stay = refl;
       }
 
-  module _ {A : Type 0} (filler : A) (m : Memory A) where
+  module _ {C A : Type 0} (filler : A) (m : Memory C A) where
     filled-at : (g o : ℕ) → g < sz .B → o < sz .K → getD (filled filler sz d m b f) (g * sz .K + o) filler
         ≡ cond (eqb g f && inSlots sz d (b * sz .K + o)) (getD (m .pspace) (slotOf sz d (b * sz .K + o)) filler)
         (getD (m .bspace) (g * sz .K + o) filler)
@@ -224,7 +227,7 @@ pub joined-rule : JoinedRule
 joined-rule sz d ok b f bl fl = join-leaves sz d ok b f bl fl
 
 pub joined-pages-rule : JoinedPagesRule
-joined-pages-rule sz d ok b f bl fl A filler m = join-moves sz d ok b f bl fl filler m
+joined-pages-rule sz d ok b f bl fl C A filler m = join-moves sz d ok b f bl fl filler m
 
 -- ---- way 6: block b's pages in slots exchange with the pages of frame f
 
@@ -383,9 +386,10 @@ module _ (sz : Sizes) (d : Directory) (ok : sound sz d ≡ true) (b f : ℕ) (b-
         valid-above = λ o l. ap (λ (x : ℕ). bit x o) at ∙ bit-high (sz .K) (mask (sz .K) p) o (mask-lt (sz .K) p) l;
         frames-stay = λ g ne. (getD-set-other (d .frames) f g b 0 ne, getD-set-other (d .valid) f g _ 0 ne);
         order-stays = refl;
+        uses-stay = refl;
       }
 
-  module _ {A : Type 0} (filler : A) (m : Memory A) where
+  module _ {C A : Type 0} (filler : A) (m : Memory C A) where
     pspace-at : (i : ℕ) → i < sz .P → getD (exchangedPages filler sz d m b f .pspace) i filler
         ≡ cond (inBlock sz d b i && ltb (taken sz d b f i) (sz .K)) (getD (m .bspace) (f * sz .K + taken sz d b f i) filler)
         (getD (m .pspace) i filler)
@@ -417,42 +421,46 @@ pub exchanged-rule : ExchangedRule
 exchanged-rule sz d ok b f bl fl al fewer = exchange-leaves sz d ok b f bl fl al fewer
 
 pub exchanged-pages-rule : ExchangedPagesRule
-exchanged-pages-rule sz d ok b f bl fl al fewer A filler m = exchange-moves sz d ok b f bl fl al fewer filler m
+exchanged-pages-rule sz d ok b f bl fl al fewer C A filler m = exchange-moves sz d ok b f bl fl al fewer filler m
 
 -- ---- a rewrite of frame f of block b
 
-module _ (sz : Sizes) (limits : sizesOk sz ≡ true) (d : Directory) (b f : ℕ) (b-lt : b < sz .N) (f-lt : f < sz .B) {A : Type 0} (filler : A)
-    (m : Memory A) where
+module _ (sz : Sizes) (limits : sizesOk sz ≡ true) (d : Directory) (b f : ℕ) (b-lt : b < sz .N) (f-lt : f < sz .B)
+    {C A : Type 0} (chip : Chip C A) (filler : A) (m : Memory C A) where
   abbrev l7 : InLimits sz
   l7 = limits-of sz limits
 
-  flash-page : (c o : ℕ) → c < sz .N → o < sz .K → getD (rewrittenPages filler sz d m b f .flash) (c * sz .K + o) filler ≡ cond (eqb c b)
-      (merged filler sz d m b f o) (getD (m .flash) (c * sz .K + o) filler)
-  unfolding rewrittenPages programmed
-  flash-page c o cl ol = getD-tab (sz .N * sz .K) _ filler (c * sz .K + o) (digits-lt cl ol)
+  abbrev then : Memory C A
+  then = rewrittenPages chip filler sz d m b f
+
+  flash-cell : (c o : ℕ) → c < sz .N → o < sz .K → cellAt chip filler (then .flash) (c * sz .K + o)
+      ≡ cond (eqb c b) (chip .cell (merged chip filler sz d m b f o)) (cellAt chip filler (m .flash) (c * sz .K + o))
+  unfolding rewrittenPages programmed cellAt
+  flash-cell c o cl ol = getD-tab (sz .N * sz .K) _ (chip .cell filler) (c * sz .K + o) (digits-lt cl ol)
       ∙ rw (page-div sz l7 c o ol, page-mod sz l7 c o ol)
 
-  frame-page : (g o : ℕ) → g < sz .B → o < sz .K → getD (rewrittenPages filler sz d m b f .bspace) (g * sz .K + o) filler ≡ cond (eqb g f)
-      (merged filler sz d m b f o) (getD (m .bspace) (g * sz .K + o) filler)
+  frame-page : (g o : ℕ) → g < sz .B → o < sz .K → getD (then .bspace) (g * sz .K + o) filler
+      ≡ cond (eqb g f) (merged chip filler sz d m b f o) (getD (m .bspace) (g * sz .K + o) filler)
   unfolding rewrittenPages
   frame-page g o gl ol = getD-tab (sz .B * sz .K) _ filler (g * sz .K + o) (digits-lt gl ol)
       ∙ rw (page-div sz l7 g o ol, page-mod sz l7 g o ol)
 
-  rewrite-leaves : Rewritten filler sz d m (rewrittenPages filler sz d m b f) b f
-  unfolding rewrittenPages programmed merged flashPage
+  rewrite-leaves : Rewritten chip filler sz d m then b f
+  unfolding rewrittenPages programmed merged
   rewrite-leaves = record {
     merge-read = λ o l h. frame-page f o f-lt l ∙ rw (eq-eqb f f refl, h);
     valid-kept = λ o l h. frame-page f o f-lt l ∙ rw (eq-eqb f f refl, h);
-    programmed-all = λ o l. flash-page b o b-lt l ∙ rw (eq-eqb b b refl) (sym (frame-page f o f-lt l ∙ rw (eq-eqb f f refl)));
+    programmed-all = λ o l. flash-cell b o b-lt l
+        ∙ rw (eq-eqb b b refl) (ap (chip .cell) (sym (frame-page f o f-lt l ∙ rw (eq-eqb f f refl))));
     bspace-others = λ g o gl ol ne. frame-page g o gl ol ∙ rw (ne-eqb g f ne);
-    flash-others = λ c o cl ol ne. flash-page c o cl ol ∙ rw (ne-eqb c b ne);
+    flash-others = λ c o cl ol ne. flash-cell c o cl ol ∙ rw (ne-eqb c b ne);
     pspace-stays = refl;
     flash-long = length-tab _ _;
     bspace-long = length-tab _ _;
   }
 
 pub rewritten-rule : RewrittenRule
-rewritten-rule sz limits d b f bl fl A filler m = rewrite-leaves sz limits d b f bl fl filler m
+rewritten-rule sz limits d b f bl fl C A chip filler m = rewrite-leaves sz limits d b f bl fl chip filler m
 
 -- those that do not pass are the rest
 count-rest : (n : ℕ) (p : ℕ → Bool) → n - count n p ≡ count n (λ i. not (p i))
@@ -490,24 +498,27 @@ stepped-rule sz d ok b f b-lt f-lt = let j = joined-rule sz d ok b f b-lt f-lt i
   frames-stay = λ g ne. let k = j .frames-stay g ne in
       (getD-set-other (joined sz d b f .frames) f g vacant 0 ne ∙ k .0, getD-set-other (joined sz d b f .valid) f g 0 0 ne ∙ k .1);
   order-stays = refl;
+  uses-stay = refl;
 }
 
 -- the pages join, and then the frame is rewritten
 pub stepped-pages-rule : SteppedPagesRule
-unfolding steppedPages
-stepped-pages-rule sz d ok b f b-lt f-lt A filler m =
-    let j = joined-rule sz d ok b f b-lt f-lt in let p = joined-pages-rule sz d ok b f b-lt f-lt A filler m in
+unfolding steppedPages flashPage
+stepped-pages-rule sz d ok b f b-lt f-lt C A chip filler m =
+    let j = joined-rule sz d ok b f b-lt f-lt in let p = joined-pages-rule sz d ok b f b-lt f-lt C A filler m in
     let limits = limits-test sz (sound-facts sz d ok .limits) in
-    let r = rewritten-rule sz limits (joined sz d b f) b f b-lt f-lt A filler (joinedPages filler sz d m b f) in
+    let r = rewritten-rule sz limits (joined sz d b f) b f b-lt f-lt C A chip filler (joinedPages filler sz d m b f) in
     record {
-      from-slot = λ i o il ol e. r .programmed-all o ol ∙ r .valid-kept o ol (j .valid-is o ol .1 (inr (i, il, e))) ∙ p .copied i o il ol e;
-      from-frame = λ o ol ni h. r .programmed-all o ol ∙ r .valid-kept o ol (j .valid-is o ol .1 (inl h)) ∙ p .kept o ol ni;
-      from-flash = λ o ol ni h. r .programmed-all o ol
-          ∙ r .merge-read o ol (fails _ (λ t. elim (j .valid-is o ol .0 t) [ inl e ↦ clash e h | inr e ↦ ni e ]))
-          ∙ ap (λ l. getD l (b * sz .K + o) filler) (p .flash-stays);
-      in-frame = λ o ol. sym (r .programmed-all o ol);
+      from-slot = λ i o il ol e. r .programmed-all o ol
+          ∙ ap (chip .cell) (r .valid-kept o ol (j .valid-is o ol .1 (inr (i, il, e))) ∙ p .copied i o il ol e);
+      from-frame = λ o ol ni h. r .programmed-all o ol
+          ∙ ap (chip .cell) (r .valid-kept o ol (j .valid-is o ol .1 (inl h)) ∙ p .kept o ol ni);
+      from-flash = λ o ol ni h. r .programmed-all o ol ∙ ap (chip .cell)
+          (r .merge-read o ol (fails _ (λ t. elim (j .valid-is o ol .0 t) [ inl e ↦ clash e h | inr e ↦ ni e ]))
+          ∙ ap (λ l. chip .page (cellAt chip filler l (b * sz .K + o))) (p .flash-stays));
+      in-frame = r .programmed-all;
       bspace-others = λ g o gl ol ne. r .bspace-others g o gl ol ne ∙ p .others g o gl ol ne;
-      flash-others = λ c o cl ol ne. r .flash-others c o cl ol ne ∙ ap (λ l. getD l (c * sz .K + o) filler) (p .flash-stays);
+      flash-others = λ c o cl ol ne. r .flash-others c o cl ol ne ∙ ap (λ l. cellAt chip filler l (c * sz .K + o)) (p .flash-stays);
       pspace-stays = r .pspace-stays ∙ p .pspace-stays;
       flash-long = r .flash-long;
       bspace-long = r .bspace-long;

@@ -6,11 +6,11 @@ use Prim.Native.Nat.{ℕ, zero, suc, _+_, _-_, _*_, _/_, _%_, _^_, _≤_, _<_}
 use native.Mathlib.Nat.{pow-suc, mod-lt, div-add-mod'}
 use native.Mathlib.Omega.{arith}
 use lib.Dec.{leb, ltb, eqb}
-use lib.ListN.{getD, getD-replicate, length-replicate}
+use lib.ListN.{length, getD, getD-replicate, length-replicate}
 use lib.Pow.{pow-pos, shr-shr}
 use borrow.Author.Tests.{le-leb, lt-leb, ltb-true, ltb-false, eqb-true, eqb-false, eq-eqb}
 use Rattle.prelude.specs.Bits.{bit}
-use Rattle.prelude.proofs.Tests.{by-test, clash, fails, each, every-of}
+use Rattle.prelude.proofs.Tests.{by-test, clash, fails, every-of}
 use Rattle.prelude.proofs.Scan.{all-of, all-fails, listed-at, listed-once}
 use Rattle.prelude.proofs.Tab.{length-tab, getD-tab}
 use Rattle.prelude.proofs.Bits.{bit-zero, bit-pos, bits-some, bit-high}
@@ -18,10 +18,11 @@ use Rattle.model.specs.Sizes.{Sizes, vacant, sizesOk}
 use Rattle.model.specs.Directory.{Directory, slotAt, frameAt, validAt, recencyAt, vacantDirectory, blankCache}
 use Rattle.model.specs.Soundness.{sound, Sound}
 use Rattle.model.specs.Calls.{lentOk, openStore}
-use Rattle.model.specs.RulesRecord.{VacantRule, SizesRule, LengthsRule, SoundBy, SoundRule}
+use Rattle.model.specs.RulesRecord.{VacantRule, SizesRule, LengthsRule, NoCodesRule, SoundBy, SoundRule}
 use Rattle.model.specs.RulesRecord.{StartRule, BlankRule, BlankUnsoundRule, OpeningSizeRule, OpeningBufferRule, OpeningOverwornRule}
 use Rattle.model.specs.RulesRecord.{OpeningDoneRule}
-use Rattle.model.proofs.Soundness.{limits-of, limits-test, sound-facts, facts-sound, pages-small}
+use Rattle.model.proofs.Soundness.{coded-off, marked-off, limits-of, limits-test, sound-facts, facts-sound, pages-small}
+use Rattle.model.proofs.Buffers.{fits-of}
 use Rattle.model.proofs.Lookup.{page-div, page-mod, page-vacant, page-split, block-lt, offset-lt, frame-has, has-frame, block-vacant}
 
 -- ---- sizes
@@ -38,6 +39,7 @@ sizes-rule sz = (
     P-is = (l .P-low, l .P-high);
     B-is = (l .B-low, l .B-high);
     W-is = (l .W-low, l .W-high);
+    options-are = (l .policy-is, l .coded-is, l .shelf-is, l .marked-is);
   }),
   (λ l. limits-test sz (record {
     S-low = l .S-is .0;
@@ -52,20 +54,42 @@ sizes-rule sz = (
     B-high = l .B-is .1;
     W-low = l .W-is .0;
     W-high = l .W-is .1;
+    policy-is = l .options-are .0;
+    coded-is = l .options-are .1;
+    shelf-is = l .options-are .2;
+    marked-is = l .options-are .3;
   })),
 )
 
 pub lengths-rule : LengthsRule
 unfolding lentOk
-lengths-rule sz u = (
-  (λ h. let e = each _ h in record {
-    flash-is = eqb-true _ _ (e .0);
-    wear-is = eqb-true _ _ (e .1 .0);
-    pspace-is = eqb-true _ _ (e .1 .1 .0);
-    bspace-is = eqb-true _ _ (e .1 .1 .1 .0);
+lengths-rule fmt sz u = (
+  (λ h. let f = fits-of fmt sz u h in record {
+    flash-is = f .flash-length;
+    codes-are = f .codes-length;
+    marks-are = f .marks-length;
+    wear-is = f .wear-length;
+    pspace-is = f .pspace-length;
+    bspace-is = f .bspace-length;
   }),
-  (λ l. every-of _ (eq-eqb _ _ (l .flash-is), (eq-eqb _ _ (l .wear-is), (eq-eqb _ _ (l .pspace-is), (eq-eqb _ _ (l .bspace-is), tt))))),
+  (λ l. every-of _ (
+    eq-eqb _ _ (l .flash-is),
+    (
+      eq-eqb _ _ (l .codes-are),
+      (
+        eq-eqb _ _ (l .marks-are),
+        (eq-eqb _ _ (l .wear-is), (eq-eqb _ _ (l .pspace-is), (eq-eqb _ _ (l .bspace-is), tt))),
+      ),
+    ),
+  )),
 )
+
+pub no-codes-rule : NoCodesRule
+no-codes-rule sz u l h = let o = l .options-are in
+    let c = coded-off sz (λ e. let z = o .1 in omega arith) in let m = marked-off sz (λ e. let z = o .3 in omega arith) in
+    let codes : length (u .codes) ≡ sz .N * sz .K * 0 = (rw c at (h .codes-are)) in
+    let marks : length (u .marks) ≡ sz .N * sz .K * 0 = (rw m at (h .marks-are)) in
+    (omega arith, omega arith)
 
 -- ---- when a record is sound
 
@@ -99,6 +123,7 @@ module _ (sz : Sizes) (d : Directory) where
       frames-are = s .shape .frames-length;
       valid-are = s .shape .valid-length;
       order-is = s .shape .recency-length;
+      uses-are = s .shape .uses-length;
     };
     held-right = record {
       slot-in = s .entries .slot-in;
@@ -126,6 +151,7 @@ module _ (sz : Sizes) (d : Directory) where
     order-once = listed-once (sz .B) (recencyAt d) (s .listed .recency-has);
     slots-past = s .past .slot-past;
     frames-past = s .past .frame-past;
+    uses-none = s .counted;
   }
 
   meant : SoundBy sz d → Sound sz d
@@ -138,6 +164,7 @@ module _ (sz : Sizes) (d : Directory) where
           frames-length = s .shape-is .frames-are;
           valid-length = s .shape-is .valid-are;
           recency-length = s .shape-is .order-is;
+          uses-length = s .shape-is .uses-are;
         };
         entries = record {
           slot-in = s .held-right .slot-in;
@@ -156,6 +183,7 @@ module _ (sz : Sizes) (d : Directory) where
         };
         listed = record { recency-lt = λ i l. listed-at (sz .B) (recencyAt d) (s .order-has) i l .0; recency-has = s .order-has };
         past = record { slot-past = s .slots-past; frame-past = s .frames-past };
+        counted = s .uses-none;
       }
     where
       two : (n : ℕ) (g : ℕ → ℕ) → ((i j : ℕ) → i < j → j < n → g i ≡ g j → g i ≡ vacant) → (i j : ℕ) → i < n → j < n → g i < vacant
@@ -179,11 +207,13 @@ start-rule = record {
     frames-are = length-replicate 8 vacant;
     valid-are = length-replicate {A = ℕ} 8 0;
     order-is = length-tab 8 _;
+    uses-are = length-replicate {A = ℕ} 8 0;
   };
   slot-is = λ i l. getD-replicate 128 i vacant 0 l;
   frame-is = λ f l. getD-replicate 8 f vacant 0 l;
   valid-is = λ f l. getD-replicate 8 f 0 0 l;
   order-at = λ f l. getD-tab 8 (λ i. i) 0 f l;
+  uses-is = λ f l. getD-replicate 8 f 0 0 l;
 }
 
 pub blank-rule : BlankRule
@@ -197,21 +227,21 @@ blank-unsound-rule = by-test (sound (blankCache .sizes) (blankCache .directory))
 
 pub opening-size-rule : OpeningSizeRule
 unfolding openStore
-opening-size-rule sz u h = let e = fails (sizesOk sz) (λ t. h (sizes-rule sz .0 t)) in (rw (e, openStore), rw (e, openStore))
+opening-size-rule fmt sz u h = let e = fails (sizesOk sz) (λ t. h (sizes-rule sz .0 t)) in (rw (e, openStore), rw (e, openStore))
 
 pub opening-buffer-rule : OpeningBufferRule
 unfolding openStore
-opening-buffer-rule sz u l h = let a = sizes-rule sz .1 l in let e = fails (lentOk sz u) (λ t. h (lengths-rule sz u .0 t)) in
+opening-buffer-rule fmt sz u l h = let a = sizes-rule sz .1 l in let e = fails (lentOk fmt sz u) (λ t. h (lengths-rule fmt sz u .0 t)) in
     (rw (a, openStore) (rw e), rw (a, openStore) (rw e))
 
 pub opening-overworn-rule : OpeningOverwornRule
 unfolding openStore
-opening-overworn-rule sz u l r b bl h = let a = sizes-rule sz .1 l in let e = lengths-rule sz u .1 r in
+opening-overworn-rule fmt sz u l r b bl h = let a = sizes-rule sz .1 l in let e = lengths-rule fmt sz u .1 r in
     let c = all-fails (sz .N) (λ i. leb (getD (u .wear) i 0) (sz .W)) b bl (lt-leb (getD (u .wear) b 0) (sz .W) h) in
     (rw (a, openStore) (rw e (rw c)), rw (a, openStore) (rw e (rw c)))
 
 pub opening-done-rule : OpeningDoneRule
 unfolding openStore
-opening-done-rule sz u l r h = let a = sizes-rule sz .1 l in let e = lengths-rule sz u .1 r in
+opening-done-rule fmt sz u l r h = let a = sizes-rule sz .1 l in let e = lengths-rule fmt sz u .1 r in
     let c = all-of (sz .N) (λ i. leb (getD (u .wear) i 0) (sz .W)) (λ b bl. le-leb _ _ (h b bl)) in
     (rw (a, openStore) (rw e (rw c)), rw (a, openStore) (rw e (rw c)), rw (a, openStore) (rw e (rw c start-rule)))

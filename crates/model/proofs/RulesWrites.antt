@@ -14,7 +14,7 @@ use Rattle.model.specs.Sizes.{Sizes, vacant}
 use Rattle.model.specs.Directory.{Directory, slotAt, frameAt}
 use Rattle.model.specs.Soundness.{sound}
 use Rattle.model.specs.Policy.{slotOf, inSlots, frameWith, readWay, due}
-use Rattle.model.specs.Moves.{Memory, flashPage, touched, putSlot, entered, putSlotPage, putFramePage, joined, joinedPages, exchanged}
+use Rattle.model.specs.Moves.{Memory, touched, putSlot, entered, putSlotPage, putFramePage, joined, joinedPages, exchanged}
 use Rattle.model.specs.Moves.{exchangedPages, stepped, steppedPages, readDirectory, written, readPage, writtenPages}
 use Rattle.model.specs.RulesWords.{FirstVacant}
 use Rattle.model.specs.RulesWrites.{Read1Rule, Read2Rule, Read3Rule, Entered, EnteredPages, PutInSlot, Writes1Rule, Writes2Rule}
@@ -31,7 +31,7 @@ use Rattle.model.proofs.RulesMoves.{stepped-rule, stepped-pages-rule}
 
 pub read-1-rule : Read1Rule
 unfolding readWay readDirectory readPage
-read-1-rule sz d n ok n-lt A filler m i l e = let t = in-slots sz d n i l e in (
+read-1-rule sz d n ok n-lt C A chip filler m i l e = let t = in-slots sz d n i l e in (
   rw (t, readWay),
   rw (t, readDirectory, readWay),
   rw (t, readPage) (ap (λ (k : ℕ). getD (m .pspace) k filler) (slot-found sz d ok n i l n-lt e)),
@@ -39,15 +39,15 @@ read-1-rule sz d n ok n-lt A filler m i l e = let t = in-slots sz d n i l e in (
 
 pub read-2-rule : Read2Rule
 unfolding readWay readDirectory readPage inSlots
-read-2-rule sz d n ok n-lt A filler m np f o l ol e h =
+read-2-rule sz d n ok n-lt C A chip filler m np f o l ol e h =
     let a = le-ltb _ (sz .P) (absent sz d ok n np) in let q = frame-found sz d ok n f l n-lt (o, ol, e, h) in
     let b = lt-ltb (frameWith sz d n) (sz .B) (omega arith) in
     let w : n % sz .K ≡ o = ap (λ (x : ℕ). x % sz .K) (sym e) ∙ page-mod sz (sound-facts sz d ok .limits) (frameAt d f) o ol in
     (rw (a, readWay) (rw b), rw (a, readDirectory, readWay) (rw b (rw q (order-rule sz d ok f l))), rw (a, readPage) (rw b (rw (q, w))))
 
 pub read-3-rule : Read3Rule
-unfolding readWay readDirectory readPage inSlots flashPage
-read-3-rule sz d n ok A filler m (np, nf) = let a = le-ltb _ (sz .P) (absent sz d ok n np) in
+unfolding readWay readDirectory readPage inSlots
+read-3-rule sz d n ok C A chip filler m (np, nf) = let a = le-ltb _ (sz .P) (absent sz d ok n np) in
     let b = le-ltb _ (sz .B) (unfound sz d ok n nf) in
     (rw (a, readWay) (rw b), rw (a, readDirectory, readWay) (rw b), rw (a, readPage) (rw b))
 
@@ -68,10 +68,12 @@ enter sz d e ok same long n f f-lt = let u = sound-facts sz d ok in
       slot = λ i h. let p = u .limits .P-high in let il = h .0 in
           rw (first-vacant sz e i h) (getD-set-same (e .slots) i n 0 (omega arith), λ j ne. getD-set-other (e .slots) i j n 0 ne);
       frames-stay = (refl, refl);
+      uses-stay = refl;
       recent = record { front = r .front; past = r .past };
     }
 
-put-in-slot : {A : Type 0} (filler : A) (m : Memory A) (i : ℕ) (x : A) → i < length (m .pspace) → PutInSlot filler m (putSlotPage m i x) i x
+put-in-slot : {C A : Type 0} (filler : A) (m : Memory C A) (i : ℕ) (x : A) → i < length (m .pspace)
+    → PutInSlot filler m (putSlotPage m i x) i x
 unfolding putSlotPage
 put-in-slot filler m i x l = record {
   page-is = getD-set-same (m .pspace) i x filler l;
@@ -80,7 +82,7 @@ put-in-slot filler m i x l = record {
   bspace-stays = refl;
 }
 
-enter-pages : {A : Type 0} (filler : A) (sz : Sizes) (e : Directory) (m : Memory A) (x : A) → length (m .pspace) ≡ sz .P
+enter-pages : {C A : Type 0} (filler : A) (sz : Sizes) (e : Directory) (m : Memory C A) (x : A) → length (m .pspace) ≡ sz .P
     → EnteredPages filler sz e m (putSlotPage m (slotOf sz e vacant) x) x
 unfolding putSlotPage
 enter-pages filler sz e m x long = record {
@@ -93,11 +95,11 @@ enter-pages filler sz e m x long = record {
 
 pub writes-1-rule : Writes1Rule
 unfolding written writtenPages
-writes-1-rule sz d n A filler m x long i l = (refl, put-in-slot filler m i x (omega arith))
+writes-1-rule sz d n C A chip filler m x long i l = (refl, put-in-slot filler m i x (omega arith))
 
 pub writes-2-rule : Writes2Rule
 unfolding written writtenPages putFramePage
-writes-2-rule sz d n ok A filler m x long f o l ol e =
+writes-2-rule sz d n ok C A chip filler m x long f o l ol e =
     let w : n % sz .K ≡ o = ap (λ (y : ℕ). y % sz .K) (sym e) ∙ page-mod sz (sound-facts sz d ok .limits) (frameAt d f) o ol in
     let h : f * sz .K + o < sz .B * sz .K = digits-lt l ol in rw w (
       order-rule sz d ok f l,
@@ -109,10 +111,11 @@ writes-2-rule sz d n ok A filler m x long f o l ol e =
 
 pub writes-3-rule : Writes3Rule
 unfolding written writtenPages putSlot
-writes-3-rule sz d n ok A filler m x long i l = let u = sound-facts sz d ok in let p = u .limits .P-high in
+writes-3-rule sz d n ok C A chip filler m x long i l = let u = sound-facts sz d ok in let p = u .limits .P-high in
     let k = u .shape .slots-length in (
       getD-set-same (d .slots) i n 0 (omega arith),
       (λ j ne. getD-set-other (d .slots) i j n 0 ne),
+      refl,
       refl,
       refl,
       refl,
@@ -126,15 +129,15 @@ writes-4-rule sz d n ok v f v-lt f-lt =
 
 pub writes-4-pages-rule : Writes4PagesRule
 unfolding writtenPages joinedPages
-writes-4-pages-rule sz d n ok v f v-lt f-lt A filler m x long = let q = joinedPages filler sz d m v f in (
+writes-4-pages-rule sz d n ok v f v-lt f-lt C A chip filler m x long = let q = joinedPages filler sz d m v f in (
   joined sz d v f,
   joined-rule sz d ok v f v-lt f-lt,
-  (q, joined-pages-rule sz d ok v f v-lt f-lt A filler m, enter-pages filler sz (joined sz d v f) q x long),
+  (q, joined-pages-rule sz d ok v f v-lt f-lt C A filler m, enter-pages filler sz (joined sz d v f) q x long),
 )
 
 pub writes-5-rule : Writes5Rule
 unfolding written writtenPages
-writes-5-rule sz d n v f A filler m x = (refl, refl)
+writes-5-rule sz d n v f C A chip filler m x = (refl, refl)
 
 pub writes-6-rule : Writes6Rule
 unfolding written exchanged
@@ -143,9 +146,9 @@ writes-6-rule sz d n ok v f v-lt f-lt a-lt fewer = let e = exchanged sz d v f in
 
 pub writes-6-pages-rule : Writes6PagesRule
 unfolding writtenPages
-writes-6-pages-rule sz d n ok v f v-lt f-lt a-lt fewer A filler m x = let e = exchanged sz d v f in
+writes-6-pages-rule sz d n ok v f v-lt f-lt a-lt fewer C A chip filler m x = let e = exchanged sz d v f in
     let q = exchangedPages filler sz d m v f in
-    let r = exchanged-pages-rule sz d ok v f v-lt f-lt a-lt fewer A filler m in
+    let r = exchanged-pages-rule sz d ok v f v-lt f-lt a-lt fewer C A filler m in
     (e, exchanged-rule sz d ok v f v-lt f-lt a-lt fewer, (q, r, enter-pages filler sz e q x (r .pspace-long)))
 
 -- the record after the flush step with which way 7 begins is sound
@@ -164,9 +167,9 @@ writes-7-rule sz d n ok v f v-lt f-lt a-lt = let c = stepped sz d (due (frameAt 
 
 pub writes-7-pages-rule : Writes7PagesRule
 unfolding writtenPages joinedPages
-writes-7-pages-rule sz d n ok v f v-lt f-lt a-lt A filler m x long =
-    let c = stepped sz d (due (frameAt d f) f) in let p = steppedPages filler sz d m (due (frameAt d f) f) in
-    let t = sound-then sz d ok f f-lt a-lt in let r = stepped-pages-rule sz d ok (frameAt d f) f a-lt f-lt A filler m in
+writes-7-pages-rule sz d n ok v f v-lt f-lt a-lt C A chip filler m x long =
+    let c = stepped sz d (due (frameAt d f) f) in let p = steppedPages chip filler sz d m (due (frameAt d f) f) in
+    let t = sound-then sz d ok f f-lt a-lt in let r = stepped-pages-rule sz d ok (frameAt d f) f a-lt f-lt C A chip filler m in
     let e = joined sz c v f in let q = joinedPages filler sz c p v f in
     let in-slot = enter-pages filler sz e q x (ap length (r .pspace-stays) ∙ long) in (
       p,
@@ -176,6 +179,6 @@ writes-7-pages-rule sz d n ok v f v-lt f-lt a-lt A filler m x long =
         e,
         stepped-rule sz d ok (frameAt d f) f a-lt f-lt,
         joined-rule sz c t v f v-lt f-lt,
-        (q, joined-pages-rule sz c t v f v-lt f-lt A filler p, in-slot),
+        (q, joined-pages-rule sz c t v f v-lt f-lt C A filler p, in-slot),
       ),
     )

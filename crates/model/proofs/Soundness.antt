@@ -2,9 +2,10 @@
 -- the histories are checked before the proofs, so that a definition that breaks one is refused there
 use Rattle.model.proofs.AuditClauses
 use Rattle.model.proofs.AuditTable
+use Rattle.model.proofs.AuditCells
 use mathlib.Core.Path.{_≡_, sym}
-use mathlib.Core.Logic.{_⊎_, inl, inr}
-use mathlib.Core.Bool.{Bool, true, not, _&&_, _||_}
+use mathlib.Core.Logic.{_⊎_, inl, inr, _≢_}
+use mathlib.Core.Bool.{Bool, true, false, not, _&&_, _||_}
 use Prim.Native.Nat.{ℕ, _*_, _^_, _≤_, _<_}
 use native.Mathlib.Nat.{mul-le-mul}
 use native.Mathlib.Omega.{arith}
@@ -13,16 +14,16 @@ use borrow.Author.Tests.{leb-true, ltb-true, ltb-false, eqb-true, eqb-false, le-
 use Rattle.prelude.specs.Scan.{all, allPairs}
 use Rattle.prelude.proofs.Tests.{each, every-of, by-test, clash, and-l, and-r, or-l, or-r, or-cases, not-t, not-i}
 use Rattle.prelude.proofs.Scan.{all-at, all-of, pairs-at, pairs-of, listed-at, once-has, has-once}
-use Rattle.model.specs.Sizes.{Sizes, vacant, sizesOk, InLimits}
+use Rattle.model.specs.Sizes.{Sizes, vacant, sizesOk, isCoded, isMarked, InLimits}
 use Rattle.model.specs.Directory.{Directory, slotAt, frameAt, validAt, recencyAt, inFrame}
 use Rattle.model.specs.Soundness.{shapeOk, slotOk, frameOk, slotsDiffer, framesDiffer, cachedOnce, listedOnce, slotPast, framePast}
-use Rattle.model.specs.Soundness.{sound, Shape, Entries, Listed, Sound}
+use Rattle.model.specs.Soundness.{usesOk, sound, Shape, Entries, Listed, Sound}
 
 -- ---- sizes
 
 pub limits-of : (sz : Sizes) → sizesOk sz ≡ true → InLimits sz
 unfolding sizesOk
-limits-of sz h = let e = each _ h in let e2 = e .1 .1 .1 .1 in let e3 = e2 .1 .1 .1 .1 in record {
+limits-of sz h = let e = each _ h in let e2 = e .1 .1 .1 .1 in let e3 = e2 .1 .1 .1 .1 in let e4 = e3 .1 .1 .1 .1 in record {
   S-low = leb-true _ _ (e .0);
   S-high = leb-true _ _ (e .1 .0);
   K-low = leb-true _ _ (e .1 .1 .0);
@@ -35,7 +36,29 @@ limits-of sz h = let e = each _ h in let e2 = e .1 .1 .1 .1 in let e3 = e2 .1 .1
   B-high = leb-true _ _ (e3 .1 .0);
   W-low = leb-true _ _ (e3 .1 .1 .0);
   W-high = leb-true _ _ (e3 .1 .1 .1 .0);
+  policy-is = eqb-true _ _ (e4 .0);
+  coded-is = eqb-true _ _ (e4 .1 .0);
+  shelf-is = eqb-true _ _ (e4 .1 .1 .0);
+  marked-is = eqb-true _ _ (e4 .1 .1 .1 .0);
 }
+
+-- the options' tests
+module _ (sz : Sizes) where
+  pub coded-on : sz .coded ≡ 1 → isCoded sz ≡ true
+  unfolding isCoded
+  coded-on e = eq-eqb (sz .coded) 1 e
+
+  pub coded-off : sz .coded ≢ 1 → isCoded sz ≡ false
+  unfolding isCoded
+  coded-off e = ne-eqb (sz .coded) 1 e
+
+  pub marked-on : sz .marked ≡ 1 → isMarked sz ≡ true
+  unfolding isMarked
+  marked-on e = eq-eqb (sz .marked) 1 e
+
+  pub marked-off : sz .marked ≢ 1 → isMarked sz ≡ false
+  unfolding isMarked
+  marked-off e = ne-eqb (sz .marked) 1 e
 
 pub limits-test : (sz : Sizes) → InLimits sz → sizesOk sz ≡ true
 unfolding sizesOk
@@ -59,7 +82,16 @@ limits-test sz h = every-of _ (
                   le-leb _ _ (h .B-low),
                   (
                     le-leb _ _ (h .B-high),
-                    (le-leb _ _ (h .W-low), (le-leb _ _ (h .W-high), tt)),
+                    (
+                      le-leb _ _ (h .W-low),
+                      (
+                        le-leb _ _ (h .W-high),
+                        (
+                          eq-eqb _ _ (h .policy-is),
+                          (eq-eqb _ _ (h .coded-is), (eq-eqb _ _ (h .shelf-is), (eq-eqb _ _ (h .marked-is), tt))),
+                        ),
+                      ),
+                    ),
                   ),
                 ),
               ),
@@ -123,6 +155,7 @@ module _ (sz : Sizes) (d : Directory) where
     frames-length = eqb-true _ _ (e .1 .0);
     valid-length = eqb-true _ _ (e .1 .1 .0);
     recency-length = eqb-true _ _ (e .1 .1 .1 .0);
+    uses-length = eqb-true _ _ (e .1 .1 .1 .1 .0);
   }
 
   frame-facts : (f : ℕ) → frameOk sz d f ≡ true
@@ -177,10 +210,10 @@ module _ (sz : Sizes) (d : Directory) where
       record { recency-lt = λ i l. listed-at (sz .B) (recencyAt d) has i l .0; recency-has = has }
 
   pub sound-facts : sound sz d ≡ true → Sound sz d
-  unfolding sound slotPast
+  unfolding sound slotPast usesOk
   sound-facts h =
       let e0 = each _ h in let e1 = e0 .1 in let e2 = e1 .1 in let e3 = e2 .1 in let e4 = e3 .1 in
-      let e5 = e4 .1 in let e6 = e5 .1 in let e7 = e6 .1 in let e8 = e7 .1 in let e9 = e8 .1 in
+      let e5 = e4 .1 in let e6 = e5 .1 in let e7 = e6 .1 in let e8 = e7 .1 in let e9 = e8 .1 in let e10 = e9 .1 in
       record {
         limits = limits-of sz (e0 .0);
         shape = shape-facts (e1 .0);
@@ -191,6 +224,7 @@ module _ (sz : Sizes) (d : Directory) where
               (all-at 128 (slotPast sz d) (e8 .0) i k)) [ inl e ↦ absurd (let w = ltb-true i (sz .P) e in omega arith) | inr e ↦ e ]);
           frame-past = λ f l k. past-facts f l (all-at 8 (framePast sz d) (e9 .0) f k);
         };
+        counted = λ f l. eqb-true _ _ (all-at 8 (usesOk sz d) (e10 .0) f l);
       }
 
   -- ---- and back
@@ -257,8 +291,18 @@ module _ (sz : Sizes) (d : Directory) where
     unfolding shapeOk
     shape-test = let h = s .shape in every-of _ (
       eq-eqb _ _ (h .slots-length),
-      (eq-eqb _ _ (h .frames-length), (eq-eqb _ _ (h .valid-length), (eq-eqb _ _ (h .recency-length), tt))),
+      (
+        eq-eqb _ _ (h .frames-length),
+        (
+          eq-eqb _ _ (h .valid-length),
+          (eq-eqb _ _ (h .recency-length), (eq-eqb _ _ (h .uses-length), tt)),
+        ),
+      ),
     )
+
+    uses-test : (f : ℕ) → f < 8 → usesOk sz d f ≡ true
+    unfolding usesOk
+    uses-test f l = eq-eqb _ _ (s .counted f l)
 
     pub facts-sound : sound sz d ≡ true
     unfolding sound
@@ -279,7 +323,13 @@ module _ (sz : Sizes) (d : Directory) where
                       (λ f fl. once-test i f il fl)),
                   (
                     listed-test,
-                    (all-of 128 (slotPast sz d) slot-past-test, (all-of 8 (framePast sz d) frame-past-test, tt)),
+                    (
+                      all-of 128 (slotPast sz d) slot-past-test,
+                      (
+                        all-of 8 (framePast sz d) frame-past-test,
+                        (all-of 8 (usesOk sz d) uses-test, tt),
+                      ),
+                    ),
                   ),
                 ),
               ),

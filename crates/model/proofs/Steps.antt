@@ -117,14 +117,14 @@ module _ (sz : Sizes) (d : Directory) (s : Sound sz d) (b f : ℕ) (y : Ready sz
   abbrev after : Directory
   after = stepped sz d (due b f)
 
-  joined-ready : Sound sz (joined sz d b f)
+  pub joined-ready : Sound sz (joined sz d b f)
   joined-ready = joined-sound sz d s b f (y .f-lt) (y .b-lt) (y .sole) (y .some)
 
   pub stepped-sound : Sound sz after
   unfolding stepped
   stepped-sound = vacated-sound sz (joined sz d b f) joined-ready f (y .f-lt)
 
-  after-slot : (i : ℕ) → i < sz .P → slotAt after i ≡ cond (inBlock sz d b i) vacant (slotAt d i)
+  pub after-slot : (i : ℕ) → i < sz .P → slotAt after i ≡ cond (inBlock sz d b i) vacant (slotAt d i)
   unfolding stepped vacated
   after-slot i l = joined-slot sz (s .limits) d (s .shape) b f (y .f-lt) i l
 
@@ -181,7 +181,7 @@ module _ (sz : Sizes) (d : Directory) (s : Sound sz d) (b f : ℕ) (y : Ready sz
         (cached-frame sz d c (k .0) (k .1) q, λ e′. y .sole (k .0) (k .1) e2 (q ∙ e′)))
   ]
 
-  cached-on : (c : ℕ) → c < sz .N → cached sz d c ≡ true → (c ≡ b → ⊥) → cached sz after c ≡ true
+  pub cached-on : (c : ℕ) → c < sz .N → cached sz d c ≡ true → (c ≡ b → ⊥) → cached sz after c ≡ true
   cached-on c l h ne = elim (cached-why sz d c h) [
     | inl k ↦ cached-slot sz after c (k .0) (k .1) (slot-on c (k .0) (k .1) ne (k .2))
     | inr k ↦ by-test (eqb (k .0) f)

@@ -5,11 +5,15 @@ pub mod Policy
 pub mod Moves
 pub mod Calls
 pub mod Lists
+pub mod Formats
+pub mod Cut
+pub mod Shelf
 pub mod RulesWords
 pub mod RulesRecord
 pub mod RulesMoves
 pub mod RulesPolicy
 pub mod RulesWrites
 pub mod RulesCalls
+pub mod RulesReads
 pub mod RulesLists
 pub mod RulesDemand3

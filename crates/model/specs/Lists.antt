@@ -1,25 +1,29 @@
 -- Lists of calls on one store: the page array, the rewrite book, and the one claim of demand 3.
 use mathlib.Core.Path.{_≡_}
 use mathlib.Core.Logic.{_⊎_}
-use mathlib.Core.Bool.{Bool, true, false, not, cond, _&&_}
-use mathlib.Core.List.{List, [], _∷_}
+use mathlib.Core.Bool.{Bool, true, false, not, cond, _&&_, _||_}
+use mathlib.Core.List.{List, [], _∷_, map}
 use Prim.Native.Nat.{ℕ, _+_, _*_, _/_, _≤_, _<_}
 use lib.Dec.{ltb, eqb}
-use lib.ListN.{getD, set, replicate}
+use lib.ListN.{length, getD, set, replicate}
 use Rattle.prelude.specs.Scan.{count, tab}
-use Rattle.prelude.specs.Pages.{pageAt, laid, pagesOf, flat}
+use Rattle.prelude.specs.Pages.{laid}
 use Rattle.model.specs.Sizes.{Sizes}
 use Rattle.model.specs.Directory.{Directory, slotAt, inFrame, vacantDirectory}
 use Rattle.model.specs.Soundness.{Listed}
 use Rattle.model.specs.Policy.{Choice}
-use Rattle.model.specs.Calls.{isRefused, Call, read, write, part, step, flush, State, Outcome, decide, Page, noBytes, Buffers, Store}
-use Rattle.model.specs.Calls.{Result, flashPages, told, openStore, openDone, call}
+use Rattle.model.specs.Moves.{cellAt}
+use Rattle.model.specs.Calls.{Answer, openDone, readDone, writeDone, stepDone, stepClean, flushDone, refused, isRefused, Call, read}
+use Rattle.model.specs.Calls.{write, part, step, flush, State, Outcome, decide, heeding, Page, noBytes, Cell, Format, CellFits}
+use Rattle.model.specs.Calls.{Buffers, Fits, Store, Result, zeroPage, flashCells, told, openStore, callReading, pageSeen}
 
 -- ---- the list
 
--- a call, with the choice that it makes among the frames that a rule leaves open, which the book is told
+-- a call, with the choice that it makes among the frames that a rule leaves open, which the book is told, and the flash pages that a
+-- request has it read besides
 pub record Chosen : Type 0 where
   pub choice : Choice
+  pub besides : ℕ → Bool
   pub call : Call Page
 
 -- a choice takes one of the frames left open, where there is one
@@ -30,6 +34,10 @@ Picks pick = (sz : Sizes) (d : Directory) (passes : ℕ → Bool) (f : ℕ)
 abbrev pub AllPick : List Chosen → Type 0
 AllPick [] = Unit {0}
 AllPick (t ∷ cs) = Picks (t .choice) × AllPick cs
+
+-- stands past the end of a list of cells
+abbrev pub noCell : Cell
+noCell = record { bytes = []; code = []; mark = [] }
 
 -- ---- what runs beside the store
 
@@ -53,6 +61,8 @@ pub record Reference : Type 0 where
   -- for each block, array and log as they stood before the call of its last rewrite, or at opening
   pub arrayBefore : List (List Page)
   pub logBefore : List (List Put)
+  -- each cell of flash as it was last programmed, or at opening
+  pub base : List Cell
   -- the last call was an accepted flush
   pub flushed : Bool
 
@@ -88,28 +98,50 @@ isFlush (part n first x page) = false
 isFlush step = false
 isFlush flush = true
 
--- The book is fed a call's arguments and the length of its page buffer, of a part write's bytes their number, and nothing else.
-abbrev pub bookSays : Sizes → Reference → Chosen → Outcome
-bookSays sz r t = decide (t .choice) sz (r .book) (told (t .call))
+-- the cause that a request adds for which an answer turns its call down: 7 or 14, else none
+abbrev pub addedCause : Answer → ℕ
+addedCause openDone = 0
+addedCause (readDone way) = 0
+addedCause (writeDone way b m) = 0
+addedCause (stepDone b m) = 0
+addedCause stepClean = 0
+addedCause (flushDone r m) = 0
+addedCause (refused n b) = cond (eqb n 7 || eqb n 14) n 0
 
-unfoldable pub fed : Sizes → Reference → Call Page → Outcome → Reference
-fed sz r c o = record {
+-- The book is fed a call's arguments and the length of its page buffer, of a part write's bytes their number, and told by the store's
+-- answer when the call is turned down for a cause that a request adds; and nothing else.
+abbrev pub bookSays : Sizes → Reference → Chosen → Answer → Outcome
+bookSays sz r t a = heeding (r .book) (addedCause a) (decide (t .choice) sz (r .book) (told (t .call)))
+
+-- the cells of the blocks that were rewritten in a call are new; cs are the cells that the call leaves
+unfoldable pub baseAfter : Sizes → List Cell → List Cell → List ℕ → List ℕ → List Cell
+baseAfter sz base cs w w′ = tab (sz .N * sz .K) (λ n. cond (ltb (getD w (n / sz .K) 0) (getD w′ (n / sz .K) 0)) (getD cs n noCell)
+    (getD base n noCell))
+
+unfoldable pub fed : Sizes → Reference → Call Page → Outcome → List Cell → Reference
+fed sz r c o cs = record {
   book = o .state;
   array = arrayAfter (r .array) c (isRefused (o .answer));
   log = logAfter (r .array) (r .log) c (isRefused (o .answer));
   arrayBefore = beforeAfter sz (r .arrayBefore) (r .array) (r .book .wear) (o .state .wear);
   logBefore = beforeAfter sz (r .logBefore) (r .log) (r .book .wear) (o .state .wear);
+  base = baseAfter sz (r .base) cs (r .book .wear) (o .state .wear);
   flushed = isFlush c && not (isRefused (o .answer));
 }
 
+-- flash as its rule reads it
+unfoldable pub flashPages : Format → Sizes → Buffers → List Page
+flashPages fmt sz u = map (fmt .chip sz .page) (flashCells fmt sz u)
+
 -- as an accepted opening leaves it: the book all vacant with the wear at opening, the array the flash at opening
-unfoldable pub opened : Sizes → Buffers → Reference
-opened sz u = record {
+unfoldable pub opened : Format → Sizes → Buffers → Reference
+opened fmt sz u = record {
   book = record { directory = vacantDirectory; wear = u .wear };
-  array = pagesOf (sz .S) (sz .N * sz .K) (u .flash);
+  array = flashPages fmt sz u;
   log = [];
-  arrayBefore = replicate (sz .N) (pagesOf (sz .S) (sz .N * sz .K) (u .flash));
+  arrayBefore = replicate (sz .N) (flashPages fmt sz u);
   logBefore = replicate (sz .N) [];
+  base = flashCells fmt sz u;
   flushed = false;
 }
 
@@ -131,34 +163,85 @@ ReadGives a (part n first x page) r = isRefused (r .answer) ≡ false → r .pag
 ReadGives a step r = Unit {0}
 ReadGives a flush r = Unit {0}
 
-module _ (sz : Sizes) (u : Buffers) where
-  -- after the list, which began with the buffers u
-  pub record After (s : Store) (r : Reference) : Type 0 where
-    -- no page is cached twice
-    pub cached-once : (n : ℕ) → n < sz .N * sz .K → timesCached sz (s .cache .directory) n ≤ 1
-    -- every flash block is, as a whole, the page array at opening or just before the call of its last rewrite
-    pub block-whole : (b : ℕ) → b < sz .N → blockPages sz (flashPages sz (s .lent .flash)) b ≡ blockPages sz (getD (r .arrayBefore) b []) b
-    -- hence each flash page holds its opening contents or something accepted for it before the call of its block's last rewrite
-    pub flash-from : (n : ℕ) → n < sz .N * sz .K
-        → (pageAt (sz .S) (s .lent .flash) n ≡ pageAt (sz .S) (u .flash) n)
-        ⊎ Accepted n (pageAt (sz .S) (s .lent .flash) n) (getD (r .logBefore) (n / sz .K) [])
-    -- each block's wear is the book's: its wear at opening plus the rewrites that the book prescribes
-    pub wear-is : s .lent .wear ≡ r .book .wear
-    -- if the last call was an accepted flush, the flash is the page array
-    pub flushed-is : r .flushed ≡ true → s .lent .flash ≡ flat (r .array)
+-- bits of flash and codes have flipped: other bytes stand there, and nothing else has changed
+abbrev pub flipped : Store → List ℕ → List ℕ → Store
+flipped s fl cd = record {
+  cache = s .cache;
+  lent = record {
+    flash = fl;
+    codes = cd;
+    marks = s .lent .marks;
+    wear = s .lent .wear;
+    pspace = s .lent .pspace;
+    bspace = s .lent .bspace;
+  };
+}
 
-  -- from store s with r beside it, for the calls that follow
-  abbrev pub Claim : Store → Reference → List Chosen → Type 0
-  Claim s r [] = After s r
-  Claim s r (t ∷ cs) = record {
-    -- the store turns down exactly the calls that the book does, and answers alike
-    answers : call (t .choice) s (t .call) .answer ≡ bookSays sz r t .answer;
-    -- each accepted read gave the page array's page as it stood at that call
-    reads : ReadGives (r .array) (t .call) (call (t .choice) s (t .call));
-    then : Claim (call (t .choice) s (t .call) .store) (fed sz r (t .call) (bookSays sz r t)) cs;
-  }
+-- Near c c′: cell c can have come to be c′ by flips that the store has to bear
+module _ (fmt : Format) (Near : Sizes → Cell → Cell → Type 0) (sz : Sizes) where
+  -- every cell is still near what it was when it was last programmed, or at opening
+  pub record Borne (r : Reference) (u : Buffers) : Type 0 where
+    pub fits : Fits fmt sz u
+    pub near : (n : ℕ) → n < sz .N * sz .K → Near sz (getD (r .base) n noCell) (getD (flashCells fmt sz u) n noCell)
 
--- Demand 3: after one accepted opening, for every list of calls.
-abbrev pub Demand3 : Type 0
-Demand3 = (sz : Sizes) (u : Buffers) → openStore sz u .answer ≡ openDone
-    → (cs : List Chosen) → AllPick cs → Claim sz u (record { cache = openStore sz u .cache; lent = u }) (opened sz u) cs
+  module _ (u : Buffers) where
+    -- after the list, which began with the buffers u; flash is taken as its rule reads it
+    pub record After (s : Store) (r : Reference) : Type 0 where
+      -- no page is cached twice
+      pub cached-once : (n : ℕ) → n < sz .N * sz .K → timesCached sz (s .cache .directory) n ≤ 1
+      -- every flash block is, as a whole, the page array at opening or just before the call of its last rewrite
+      pub block-whole : (b : ℕ) → b < sz .N → blockPages sz (flashPages fmt sz (s .lent)) b ≡ blockPages sz (getD (r .arrayBefore) b []) b
+      -- hence each flash page holds its opening contents or something accepted for it before the call of its block's last rewrite
+      pub flash-from : (n : ℕ) → n < sz .N * sz .K
+          → (getD (flashPages fmt sz (s .lent)) n [] ≡ getD (flashPages fmt sz u) n [])
+          ⊎ Accepted n (getD (flashPages fmt sz (s .lent)) n []) (getD (r .logBefore) (n / sz .K) [])
+      -- each block's wear is the book's: its wear at opening plus the rewrites that the book prescribes
+      pub wear-is : s .lent .wear ≡ r .book .wear
+      -- if the last call was an accepted flush, the flash is the page array
+      pub flushed-is : r .flushed ≡ true → flashPages fmt sz (s .lent) ≡ r .array
+
+    -- what is claimed of one call, on store s with r beside it, and of what follows it
+    abbrev pub Step : Store → Reference → Chosen → (Store → Reference → Type 0) → Type 0
+    Step s r t Then = record {
+      -- the store turns down exactly the calls that the book does, and answers alike
+      answers : callReading fmt (t .choice) (t .besides) s (t .call) .answer
+          ≡ bookSays sz r t (callReading fmt (t .choice) (t .besides) s (t .call) .answer) .answer;
+      -- every page is seen as the page array has it
+      shows : (n : ℕ) → n < sz .N * sz .K → pageSeen fmt s n ≡ getD (r .array) n [];
+      -- each accepted read gave the page array's page as it stood at that call
+      reads : ReadGives (r .array) (t .call) (callReading fmt (t .choice) (t .besides) s (t .call));
+      -- and where no further bit flips, every cell is near still
+      borne : Borne (fed sz r (t .call) (bookSays sz r t (callReading fmt (t .choice) (t .besides) s (t .call) .answer))
+          (flashCells fmt sz (callReading fmt (t .choice) (t .besides) s (t .call) .store .lent)))
+          (callReading fmt (t .choice) (t .besides) s (t .call) .store .lent);
+      then : Then (callReading fmt (t .choice) (t .besides) s (t .call) .store)
+          (fed sz r (t .call) (bookSays sz r t (callReading fmt (t .choice) (t .besides) s (t .call) .answer))
+          (flashCells fmt sz (callReading fmt (t .choice) (t .besides) s (t .call) .store .lent)));
+    }
+
+    -- from store s with r beside it, for the calls that follow; before each call, and after the last, bits have flipped
+    abbrev pub Claim : List Chosen → Store → Reference → Type 0
+    Claim [] s r = (fl cd : List ℕ) → Borne r (flipped s fl cd .lent) → After (flipped s fl cd) r
+    Claim (t ∷ cs) s r = (fl cd : List ℕ) → Borne r (flipped s fl cd .lent) → Step (flipped s fl cd) r t (Claim cs)
+
+    -- the same where no bit flips
+    abbrev pub Quiet : List Chosen → Store → Reference → Type 0
+    Quiet [] s r = After s r
+    Quiet (t ∷ cs) s r = Step s r t (Quiet cs)
+
+-- What demand 3 asks of the rule that flash is read by: a programmed page is read as it is, and so is every cell that is near one whose
+-- code matches.
+pub record Bears (fmt : Format) (Matched : Sizes → Cell → Type 0) (Near : Sizes → Cell → Cell → Type 0) (sz : Sizes) : Type 0 where
+  pub cell-fits : (x : Page) → length x ≡ sz .S → CellFits fmt sz (fmt .chip sz .cell x)
+  pub page-long : (c : Cell) → CellFits fmt sz c → length (fmt .chip sz .page c) ≡ sz .S
+  pub page-cell : (x : Page) → length x ≡ sz .S → fmt .chip sz .page (fmt .chip sz .cell x) ≡ x
+  pub matched-cell : (x : Page) → length x ≡ sz .S → Matched sz (fmt .chip sz .cell x)
+  pub near-self : (c : Cell) → Near sz c c
+  pub page-near : (c c′ : Cell) → CellFits fmt sz c → CellFits fmt sz c′ → Matched sz c → Near sz c c′
+      → fmt .chip sz .page c′ ≡ fmt .chip sz .page c
+
+-- Demand 3: after one accepted opening of a store whose codes match, for every list of calls.
+abbrev pub Demand3 : Format → (Sizes → Cell → Type 0) → (Sizes → Cell → Cell → Type 0) → Sizes → Type 0
+Demand3 fmt Matched Near sz = (u : Buffers) → openStore fmt sz u .answer ≡ openDone
+    → ((n : ℕ) → n < sz .N * sz .K → Matched sz (getD (flashCells fmt sz u) n noCell))
+    → (cs : List Chosen) → AllPick cs → Claim fmt Near sz u cs (record { cache = openStore fmt sz u .cache; lent = u }) (opened fmt sz u)

@@ -11,22 +11,40 @@ use Rattle.model.specs.Directory.{Directory, slotAt, frameAt, validAt, r
 use Rattle.model.specs.Policy.{inBlock, slotOf, inSlots, frameWith, readWay, Plan, slotHit, frameHit, freeSlot, join, fill, exchange}
 use Rattle.model.specs.Policy.{evict, mergeReads, Due, clean, due}
 
--- flash of N×K pages, p-space of P, b-space of B×K
-pub record Memory (A : Type 0) : Type 0 where
-  pub flash : List A
+-- Flash holds raw pages, cells, of any type C. Of a cell: the page that reading it gives, the refusal that a read or merge from it meets
+-- (0: none; 7 unreadable, 14 torn), and how many chunks the reading mends; and the cells that erasing, and programming a page, leave.
+pub record Chip (C A : Type 0) : Type 0 where
+  pub page : C → A
+  pub fault : C → ℕ
+  pub mends : C → ℕ
+  pub erased : C
+  pub cell : A → C
+
+-- flash of N×K cells, p-space of P pages, b-space of B×K
+pub record Memory (C A : Type 0) : Type 0 where
+  pub flash : List C
   pub pspace : List A
   pub bspace : List A
 
 -- ---- the chip; filler stands for a page past the end of a list
 
-module _ {A : Type 0} (filler : A) where
-  -- page n of flash, as the chip reads it
-  unfoldable pub flashPage : Memory A → ℕ → A
-  flashPage m n = getD (m .flash) n filler
+module _ {C A : Type 0} (chip : Chip C A) (filler : A) where
+  -- cell n of a list of cells
+  unfoldable pub cellAt : List C → ℕ → C
+  cellAt fl n = getD fl n (chip .cell filler)
 
-  -- flash with block b erased and all its K pages programmed, offset o with pg o
-  unfoldable pub programmed : Sizes → List A → ℕ → (ℕ → A) → List A
-  programmed sz fl b pg = tab (sz .N * sz .K) (λ n. cond (eqb (n / sz .K) b) (pg (n % sz .K)) (getD fl n filler))
+  -- page n of flash, as the chip reads it
+  unfoldable pub flashPage : Memory C A → ℕ → A
+  flashPage m n = chip .page (cellAt (m .flash) n)
+
+  -- flash with block b erased and all its K pages programmed, offset o with pg o; the cells of every other block stay as they are
+  unfoldable pub programmed : Sizes → List C → ℕ → (ℕ → A) → List C
+  programmed sz fl b pg = tab (sz .N * sz .K) (λ n. cond (eqb (n / sz .K) b) (chip .cell (pg (n % sz .K))) (cellAt fl n))
+
+  -- the same after the first ops of its K+1 chip operations: the erasure, then each page, offsets upward
+  unfoldable pub programmedTo : ℕ → Sizes → List C → ℕ → (ℕ → A) → List C
+  programmedTo ops sz fl b pg = tab (sz .N * sz .K) (λ n.
+      cond (ltb 0 ops && eqb (n / sz .K) b) (cond (ltb (suc (n % sz .K)) ops) (chip .cell (pg (n % sz .K))) (chip .erased)) (cellAt fl n))
 
 -- one more erasure of block b (vacant: none)
 unfoldable pub worn : List ℕ → ℕ → List ℕ
@@ -43,22 +61,22 @@ recencyAfter sz d f =
     tab 8 (λ i. cond (ltb i at) (recencyAt d i) (cond (ltb (suc i) (sz .B)) (recencyAt d (suc i)) (cond (ltb i (sz .B)) f (recencyAt d i))))
 
 unfoldable pub touched : Sizes → Directory → ℕ → Directory
-touched sz d f = record { slots = d .slots; frames = d .frames; valid = d .valid; recency = recencyAfter sz d f }
+touched sz d f = record { slots = d .slots; frames = d .frames; valid = d .valid; recency = recencyAfter sz d f; uses = d .uses }
 
 -- ---- a page is put into a slot, or into a frame
 
 unfoldable pub putSlot : Directory → ℕ → ℕ → Directory
-putSlot d i n = record { slots = set (d .slots) i n; frames = d .frames; valid = d .valid; recency = d .recency }
+putSlot d i n = record { slots = set (d .slots) i n; frames = d .frames; valid = d .valid; recency = d .recency; uses = d .uses }
 
 -- page n goes into the first vacant slot
 unfoldable pub entered : Sizes → Directory → ℕ → Directory
 entered sz d n = putSlot d (slotOf sz d vacant) n
 
-module _ {A : Type 0} where
-  unfoldable pub putSlotPage : Memory A → ℕ → A → Memory A
+module _ {C A : Type 0} where
+  unfoldable pub putSlotPage : Memory C A → ℕ → A → Memory C A
   putSlotPage m i x = record { flash = m .flash; pspace = set (m .pspace) i x; bspace = m .bspace }
 
-  unfoldable pub putFramePage : Memory A → ℕ → A → Memory A
+  unfoldable pub putFramePage : Memory C A → ℕ → A → Memory C A
   putFramePage m k x = record { flash = m .flash; pspace = m .pspace; bspace = set (m .bspace) k x }
 
 -- ---- the pages of block b in slots join frame f, which is b's or vacant (ways 4, 5, twice in way 7, and a flush step)
@@ -69,17 +87,18 @@ joined sz d b f = record {
   frames = set (d .frames) f b;
   valid = set (d .valid) f (mask (sz .K) (λ o. bit (validAt d f) o || inSlots sz d (b * sz .K + o)));
   recency = d .recency;
+  uses = d .uses;
 }
 
-module _ {A : Type 0} (filler : A) where
+module _ {C A : Type 0} (filler : A) where
   -- b-space with block b's pages in slots copied to their offsets in frame f
-  unfoldable pub filled : Sizes → Directory → Memory A → ℕ → ℕ → List A
+  unfoldable pub filled : Sizes → Directory → Memory C A → ℕ → ℕ → List A
   filled sz d m b f = tab (sz .B * sz .K) (λ k.
       cond (eqb (k / sz .K) f && inSlots sz d (b * sz .K + k % sz .K))
       (getD (m .pspace) (slotOf sz d (b * sz .K + k % sz .K)) filler)
       (getD (m .bspace) k filler))
 
-  unfoldable pub joinedPages : Sizes → Directory → Memory A → ℕ → ℕ → Memory A
+  unfoldable pub joinedPages : Sizes → Directory → Memory C A → ℕ → ℕ → Memory C A
   joinedPages sz d m b f = record { flash = m .flash; pspace = m .pspace; bspace = filled sz d m b f }
 
 -- ---- way 6: the pages of block b in slots exchange with the old pages of frame f
@@ -108,10 +127,11 @@ exchanged sz d b f = record {
   frames = set (d .frames) f b;
   valid = set (d .valid) f (mask (sz .K) (λ o. inSlots sz d (b * sz .K + o)));
   recency = d .recency;
+  uses = d .uses;
 }
 
-module _ {A : Type 0} (filler : A) where
-  unfoldable pub exchangedPages : Sizes → Directory → Memory A → ℕ → ℕ → Memory A
+module _ {C A : Type 0} (filler : A) where
+  unfoldable pub exchangedPages : Sizes → Directory → Memory C A → ℕ → ℕ → Memory C A
   exchangedPages sz d m b f = record {
     flash = m .flash;
     pspace = tab (sz .P) (λ i.
@@ -123,17 +143,23 @@ module _ {A : Type 0} (filler : A) where
 -- ---- a rewrite of frame f, of block b, which is vacated then
 
 unfoldable pub vacated : Directory → ℕ → Directory
-vacated d f = record { slots = d .slots; frames = set (d .frames) f vacant; valid = set (d .valid) f 0; recency = d .recency }
+vacated d f = record {
+  slots = d .slots;
+  frames = set (d .frames) f vacant;
+  valid = set (d .valid) f 0;
+  recency = d .recency;
+  uses = d .uses;
+}
 
-module _ {A : Type 0} (filler : A) where
+module _ {C A : Type 0} (chip : Chip C A) (filler : A) where
   -- the page at offset o: the frame's where it is valid, else a merge read
-  unfoldable pub merged : Sizes → Directory → Memory A → ℕ → ℕ → ℕ → A
-  merged sz d m b f o = cond (bit (validAt d f) o) (getD (m .bspace) (f * sz .K + o) filler) (flashPage filler m (b * sz .K + o))
+  unfoldable pub merged : Sizes → Directory → Memory C A → ℕ → ℕ → ℕ → A
+  merged sz d m b f o = cond (bit (validAt d f) o) (getD (m .bspace) (f * sz .K + o) filler) (flashPage chip filler m (b * sz .K + o))
 
   -- the merged pages stand in the frame's own stretch of b-space, and all K are programmed
-  unfoldable pub rewrittenPages : Sizes → Directory → Memory A → ℕ → ℕ → Memory A
+  unfoldable pub rewrittenPages : Sizes → Directory → Memory C A → ℕ → ℕ → Memory C A
   rewrittenPages sz d m b f = record {
-    flash = programmed filler sz (m .flash) b (merged sz d m b f);
+    flash = programmed chip filler sz (m .flash) b (merged sz d m b f);
     pspace = m .pspace;
     bspace = tab (sz .B * sz .K) (λ k. cond (eqb (k / sz .K) f) (merged sz d m b f (k % sz .K)) (getD (m .bspace) k filler));
   }
@@ -169,22 +195,22 @@ mergedBy sz d (fill v f) = 0
 mergedBy sz d (exchange v f) = 0
 mergedBy sz d (evict v f) = mergeReads sz (joined sz d (frameAt d f) f) f
 
-module _ {A : Type 0} (filler : A) where
+module _ {C A : Type 0} (chip : Chip C A) (filler : A) where
   -- the page that a reader is given
-  unfoldable pub readPage : Sizes → Directory → Memory A → ℕ → A
+  unfoldable pub readPage : Sizes → Directory → Memory C A → ℕ → A
   readPage sz d m n = elim (inSlots sz d n) [
     | true ↦ getD (m .pspace) (slotOf sz d n) filler
     | false ↦ elim (ltb (frameWith sz d n) (sz .B)) [
       | true ↦ getD (m .bspace) (frameWith sz d n * sz .K + n % sz .K) filler
-      | false ↦ flashPage filler m n
+      | false ↦ flashPage chip filler m n
     ]
   ]
 
-  unfoldable pub steppedPages : Sizes → Directory → Memory A → Due → Memory A
+  unfoldable pub steppedPages : Sizes → Directory → Memory C A → Due → Memory C A
   steppedPages sz d m clean = m
-  steppedPages sz d m (due b f) = rewrittenPages filler sz (joined sz d b f) (joinedPages filler sz d m b f) b f
+  steppedPages sz d m (due b f) = rewrittenPages chip filler sz (joined sz d b f) (joinedPages filler sz d m b f) b f
 
-  unfoldable pub writtenPages : Sizes → Directory → Memory A → ℕ → A → Plan → Memory A
+  unfoldable pub writtenPages : Sizes → Directory → Memory C A → ℕ → A → Plan → Memory C A
   writtenPages sz d m n x (slotHit i) = putSlotPage m i x
   writtenPages sz d m n x (frameHit f) = putFramePage m (f * sz .K + n % sz .K) x
   writtenPages sz d m n x (freeSlot i) = putSlotPage m i x

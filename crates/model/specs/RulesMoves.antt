@@ -12,7 +12,8 @@ use Rattle.model.specs.Sizes.{Sizes, sizesOk}
 use Rattle.model.specs.Directory.{Directory, slotAt, frameAt, validAt}
 use Rattle.model.specs.Soundness.{sound}
 use Rattle.model.specs.Policy.{mergeReads, due}
-use Rattle.model.specs.Moves.{Memory, wornBy, touched, joined, joinedPages, exchanged, exchangedPages, rewrittenPages, stepped}
+use Rattle.model.specs.Moves.{Chip, Memory, cellAt, flashPage, wornBy, touched, joined, joinedPages, exchanged, exchangedPages}
+use Rattle.model.specs.Moves.{rewrittenPages, stepped}
 use Rattle.model.specs.Moves.{steppedPages}
 use Rattle.model.specs.RulesWords.{_⇔_, InSlot, OfBlock, pagesInSlots, validPages, missingPages, without}
 
@@ -40,6 +41,7 @@ pub record OrderAlone (sz : Sizes) (d e : Directory) (f : ℕ) : Type 0 where
   pub recent : MostRecent sz d e f
   pub slots-stay : e .slots ≡ d .slots
   pub frames-stay : (e .frames ≡ d .frames) × (e .valid ≡ d .valid)
+  pub uses-stay : e .uses ≡ d .uses
 
 -- A use of frame f makes it most recent, and changes nothing else of the record.
 abbrev pub OrderRule : Type 0
@@ -57,13 +59,14 @@ pub record Joined (sz : Sizes) (d e : Directory) (b f : ℕ) : Type 0 where
   pub valid-above : (o : ℕ) → sz .K ≤ o → bit (validAt e f) o ≡ false
   pub frames-stay : (g : ℕ) → (g ≡ f → ⊥) → (frameAt e g ≡ frameAt d g) × (validAt e g ≡ validAt d g)
   pub order-stays : e .recency ≡ d .recency
+  pub uses-stay : e .uses ≡ d .uses
 
 -- So a join leaves the record.
 abbrev pub JoinedRule : Type 0
 JoinedRule = (sz : Sizes) (d : Directory) → sound sz d ≡ true → (b f : ℕ) → b < sz .N → f < sz .B → Joined sz d (joined sz d b f) b f
 
 -- Each page is copied to its offset in the frame's own stretch of b-space; every other page of b-space stays, and flash and p-space do.
-pub record JoinedPages {A : Type 0} (filler : A) (sz : Sizes) (d : Directory) (m q : Memory A) (b f : ℕ) : Type 0 where
+pub record JoinedPages {C A : Type 0} (filler : A) (sz : Sizes) (d : Directory) (m q : Memory C A) (b f : ℕ) : Type 0 where
   pub copied : (i o : ℕ) → i < sz .P → o < sz .K → slotAt d i ≡ b * sz .K + o
       → getD (q .bspace) (f * sz .K + o) filler ≡ getD (m .pspace) i filler
   pub kept : (o : ℕ) → o < sz .K → (InSlot sz d (b * sz .K + o) → ⊥)
@@ -77,7 +80,7 @@ pub record JoinedPages {A : Type 0} (filler : A) (sz : Sizes) (d : Directory) (m
 -- So a join leaves the pages.
 abbrev pub JoinedPagesRule : Type 1
 JoinedPagesRule = (sz : Sizes) (d : Directory) → sound sz d ≡ true → (b f : ℕ) → b < sz .N → f < sz .B
-    → (A : Type 0) (filler : A) (m : Memory A) → JoinedPages filler sz d m (joinedPages filler sz d m b f) b f
+    → (C A : Type 0) (filler : A) (m : Memory C A) → JoinedPages filler sz d m (joinedPages filler sz d m b f) b f
 
 -- ---- way 6: block b's pages in slots exchange with the pages of frame f
 
@@ -114,6 +117,7 @@ pub record Exchanged (sz : Sizes) (d e : Directory) (b f : ℕ) : Type 0 where
   pub valid-above : (o : ℕ) → sz .K ≤ o → bit (validAt e f) o ≡ false
   pub frames-stay : (g : ℕ) → (g ≡ f → ⊥) → (frameAt e g ≡ frameAt d g) × (validAt e g ≡ validAt d g)
   pub order-stays : e .recency ≡ d .recency
+  pub uses-stay : e .uses ≡ d .uses
 
 -- So way 6 leaves the record, where the frame holds a block and has fewer pages than b has in slots.
 abbrev pub ExchangedRule : Type 0
@@ -128,7 +132,7 @@ ExchangedOneRule = (sz : Sizes) (d : Directory) → sound sz d ≡ true → (b f
 
 -- Bytes go with the numbers: a slot that takes the old page of offset o gets its bytes from the frame, each victim page stands at its
 -- offset in the frame, and every other page of p-space and b-space, and flash, stays.
-pub record ExchangedPages {A : Type 0} (filler : A) (sz : Sizes) (d e : Directory) (m q : Memory A) (b f : ℕ) : Type 0 where
+pub record ExchangedPages {C A : Type 0} (filler : A) (sz : Sizes) (d e : Directory) (m q : Memory C A) (b f : ℕ) : Type 0 where
   pub taken-over : (i o : ℕ) → i < sz .P → o < sz .K → OfBlock sz d b i → slotAt e i ≡ frameAt d f * sz .K + o
       → getD (q .pspace) i filler ≡ getD (m .bspace) (f * sz .K + o) filler
   pub vacant-kept : (i : ℕ) → i < sz .P → slotAt e i ≡ 4294967295 → getD (q .pspace) i filler ≡ getD (m .pspace) i filler
@@ -147,22 +151,25 @@ pub record ExchangedPages {A : Type 0} (filler : A) (sz : Sizes) (d e : Director
 abbrev pub ExchangedPagesRule : Type 1
 ExchangedPagesRule = (sz : Sizes) (d : Directory) → sound sz d ≡ true → (b f : ℕ) → b < sz .N → f < sz .B
     → frameAt d f < sz .N → validPages d f < pagesInSlots sz d b
-    → (A : Type 0) (filler : A) (m : Memory A) → ExchangedPages filler sz d (exchanged sz d b f) m (exchangedPages filler sz d m b f) b f
+    → (C A : Type 0) (filler : A) (m : Memory C A) → ExchangedPages filler sz d (exchanged sz d b f) m (exchangedPages filler sz d m b f) b
+    f
 
 -- ---- a rewrite of frame f of block b
 
--- Each offset that is not valid is read from flash into the frame; then all K pages of the frame are programmed. The frame's own stretch
--- of b-space is written and nothing beside it; p-space and every other block of flash stay.
-pub record Rewritten {A : Type 0} (filler : A) (sz : Sizes) (d : Directory) (m q : Memory A) (b f : ℕ) : Type 0 where
+-- Each offset that is not valid is read from flash into the frame; then all K pages of the frame are programmed: a cell of the block is
+-- what programming the frame's page leaves. The frame's own stretch of b-space is written and nothing beside it; p-space and the cells of
+-- every other block stay.
+pub record Rewritten {C A : Type 0} (chip : Chip C A) (filler : A) (sz : Sizes) (d : Directory) (m q : Memory C A) (b f : ℕ) : Type 0 where
   pub merge-read : (o : ℕ) → o < sz .K → bit (validAt d f) o ≡ false
-      → getD (q .bspace) (f * sz .K + o) filler ≡ getD (m .flash) (b * sz .K + o) filler
+      → getD (q .bspace) (f * sz .K + o) filler ≡ flashPage chip filler m (b * sz .K + o)
   pub valid-kept : (o : ℕ) → o < sz .K → bit (validAt d f) o ≡ true
       → getD (q .bspace) (f * sz .K + o) filler ≡ getD (m .bspace) (f * sz .K + o) filler
-  pub programmed-all : (o : ℕ) → o < sz .K → getD (q .flash) (b * sz .K + o) filler ≡ getD (q .bspace) (f * sz .K + o) filler
+  pub programmed-all : (o : ℕ) → o < sz .K → cellAt chip filler (q .flash) (b * sz .K + o)
+      ≡ chip .cell (getD (q .bspace) (f * sz .K + o) filler)
   pub bspace-others : (g o : ℕ) → g < sz .B → o < sz .K → (g ≡ f → ⊥)
       → getD (q .bspace) (g * sz .K + o) filler ≡ getD (m .bspace) (g * sz .K + o) filler
   pub flash-others : (c o : ℕ) → c < sz .N → o < sz .K → (c ≡ b → ⊥)
-      → getD (q .flash) (c * sz .K + o) filler ≡ getD (m .flash) (c * sz .K + o) filler
+      → cellAt chip filler (q .flash) (c * sz .K + o) ≡ cellAt chip filler (m .flash) (c * sz .K + o)
   pub pspace-stays : q .pspace ≡ m .pspace
   pub flash-long : length (q .flash) ≡ sz .N * sz .K
   pub bspace-long : length (q .bspace) ≡ sz .B * sz .K
@@ -170,7 +177,8 @@ pub record Rewritten {A : Type 0} (filler : A) (sz : Sizes) (d : Directory) (m q
 -- So a rewrite leaves the pages.
 abbrev pub RewrittenRule : Type 1
 RewrittenRule = (sz : Sizes) → sizesOk sz ≡ true → (d : Directory) (b f : ℕ) → b < sz .N → f < sz .B
-    → (A : Type 0) (filler : A) (m : Memory A) → Rewritten filler sz d m (rewrittenPages filler sz d m b f) b f
+    → (C A : Type 0) (chip : Chip C A) (filler : A) (m : Memory C A)
+    → Rewritten chip filler sz d m (rewrittenPages chip filler sz d m b f) b f
 
 -- Once the block's pages in slots have joined it, its merge reads are the offsets that are not valid and whose pages stand in no slot.
 abbrev pub MergesRule : Type 0
@@ -186,31 +194,35 @@ pub record Stepped (sz : Sizes) (d e : Directory) (b f : ℕ) : Type 0 where
   pub vacated-frame : (frameAt e f ≡ 4294967295) × (validAt e f ≡ 0)
   pub frames-stay : (g : ℕ) → (g ≡ f → ⊥) → (frameAt e g ≡ frameAt d g) × (validAt e g ≡ validAt d g)
   pub order-stays : e .recency ≡ d .recency
+  pub uses-stay : e .uses ≡ d .uses
 
 -- So a flush step leaves the record.
 abbrev pub SteppedRule : Type 0
 SteppedRule = (sz : Sizes) (d : Directory) → sound sz d ≡ true → (b f : ℕ) → b < sz .N → f < sz .B
     → Stepped sz d (stepped sz d (due b f)) b f
 
--- A page of the block in a slot goes to flash, else the frame's where it is valid, else the page is programmed as flash had it. The same
--- pages stand in the frame's stretch of b-space. Nothing else changes.
-pub record SteppedPages {A : Type 0} (filler : A) (sz : Sizes) (d : Directory) (m q : Memory A) (b f : ℕ) : Type 0 where
-  pub from-slot : (i o : ℕ) → i < sz .P → o < sz .K → slotAt d i ≡ b * sz .K + o
-      → getD (q .flash) (b * sz .K + o) filler ≡ getD (m .pspace) i filler
-  pub from-frame : (o : ℕ) → o < sz .K → (InSlot sz d (b * sz .K + o) → ⊥) → bit (validAt d f) o ≡ true
-      → getD (q .flash) (b * sz .K + o) filler ≡ getD (m .bspace) (f * sz .K + o) filler
-  pub from-flash : (o : ℕ) → o < sz .K → (InSlot sz d (b * sz .K + o) → ⊥) → bit (validAt d f) o ≡ false
-      → getD (q .flash) (b * sz .K + o) filler ≡ getD (m .flash) (b * sz .K + o) filler
-  pub in-frame : (o : ℕ) → o < sz .K → getD (q .bspace) (f * sz .K + o) filler ≡ getD (q .flash) (b * sz .K + o) filler
-  pub bspace-others : (g o : ℕ) → g < sz .B → o < sz .K → (g ≡ f → ⊥)
-      → getD (q .bspace) (g * sz .K + o) filler ≡ getD (m .bspace) (g * sz .K + o) filler
-  pub flash-others : (c o : ℕ) → c < sz .N → o < sz .K → (c ≡ b → ⊥)
-      → getD (q .flash) (c * sz .K + o) filler ≡ getD (m .flash) (c * sz .K + o) filler
-  pub pspace-stays : q .pspace ≡ m .pspace
-  pub flash-long : length (q .flash) ≡ sz .N * sz .K
-  pub bspace-long : length (q .bspace) ≡ sz .B * sz .K
+-- A page of the block in a slot goes to flash, else the frame's where it is valid, else the page is programmed as flash was read. The same
+-- pages stand in the frame's stretch of b-space, and each cell of the block is what programming its page leaves. Nothing else changes.
+pub record SteppedPages {C A : Type 0} (chip : Chip C A) (filler : A) (sz : Sizes) (d : Directory) (m q : Memory C A) (b f : ℕ) : Type 0
+  where
+    pub from-slot : (i o : ℕ) → i < sz .P → o < sz .K → slotAt d i ≡ b * sz .K + o
+        → cellAt chip filler (q .flash) (b * sz .K + o) ≡ chip .cell (getD (m .pspace) i filler)
+    pub from-frame : (o : ℕ) → o < sz .K → (InSlot sz d (b * sz .K + o) → ⊥) → bit (validAt d f) o ≡ true
+        → cellAt chip filler (q .flash) (b * sz .K + o) ≡ chip .cell (getD (m .bspace) (f * sz .K + o) filler)
+    pub from-flash : (o : ℕ) → o < sz .K → (InSlot sz d (b * sz .K + o) → ⊥) → bit (validAt d f) o ≡ false
+        → cellAt chip filler (q .flash) (b * sz .K + o) ≡ chip .cell (flashPage chip filler m (b * sz .K + o))
+    pub in-frame : (o : ℕ) → o < sz .K → cellAt chip filler (q .flash) (b * sz .K + o)
+        ≡ chip .cell (getD (q .bspace) (f * sz .K + o) filler)
+    pub bspace-others : (g o : ℕ) → g < sz .B → o < sz .K → (g ≡ f → ⊥)
+        → getD (q .bspace) (g * sz .K + o) filler ≡ getD (m .bspace) (g * sz .K + o) filler
+    pub flash-others : (c o : ℕ) → c < sz .N → o < sz .K → (c ≡ b → ⊥)
+        → cellAt chip filler (q .flash) (c * sz .K + o) ≡ cellAt chip filler (m .flash) (c * sz .K + o)
+    pub pspace-stays : q .pspace ≡ m .pspace
+    pub flash-long : length (q .flash) ≡ sz .N * sz .K
+    pub bspace-long : length (q .bspace) ≡ sz .B * sz .K
 
 -- So a flush step leaves the pages.
 abbrev pub SteppedPagesRule : Type 1
 SteppedPagesRule = (sz : Sizes) (d : Directory) → sound sz d ≡ true → (b f : ℕ) → b < sz .N → f < sz .B
-    → (A : Type 0) (filler : A) (m : Memory A) → SteppedPages filler sz d m (steppedPages filler sz d m (due b f)) b f
+    → (C A : Type 0) (chip : Chip C A) (filler : A) (m : Memory C A)
+    → SteppedPages chip filler sz d m (steppedPages chip filler sz d m (due b f)) b f

@@ -7,9 +7,10 @@ use Prim.Native.Nat.{ℕ, _+_, _*_, _≤_, _<_}
 use lib.ListN.{length, getD}
 use Rattle.prelude.specs.Bits.{bit}
 use Rattle.model.specs.Sizes.{Sizes, vacant, sizesOk}
-use Rattle.model.specs.Directory.{Directory, slotAt, frameAt, validAt, recencyAt, vacantDirectory, blankCache}
+use Rattle.model.specs.Directory.{Directory, slotAt, frameAt, validAt, recencyAt, usesAt, vacantDirectory, blankCache}
 use Rattle.model.specs.Soundness.{sound}
-use Rattle.model.specs.Calls.{openDone, refused, Buffers, lentOk, openStore}
+use Rattle.model.specs.Calls.{openDone, refused, Format, Buffers, lentOk, openStore}
+use Rattle.model.specs.Formats.{storeFormat}
 use Rattle.model.specs.RulesWords.{_⇔_}
 
 -- ---- sizes and buffers
@@ -19,7 +20,7 @@ abbrev pub VacantRule : Type 0
 VacantRule = vacant ≡ 4294967295
 
 -- Page bytes S 1 to 2,048; pages per block K 2 to 64; flash blocks N 1 to 4,096; page places P 1 to 128; block frames B 1 to 8; wear limit
--- W 1 to 1,000,000.
+-- W 1 to 1,000,000. No option is taken yet: policy, coded, shelf pages and marked are 0.
 pub record WithinLimits (sz : Sizes) : Type 0 where
   pub S-is : (1 ≤ sz .S) × (sz .S ≤ 2048)
   pub K-is : (2 ≤ sz .K) × (sz .K ≤ 64)
@@ -27,30 +28,39 @@ pub record WithinLimits (sz : Sizes) : Type 0 where
   pub P-is : (1 ≤ sz .P) × (sz .P ≤ 128)
   pub B-is : (1 ≤ sz .B) × (sz .B ≤ 8)
   pub W-is : (1 ≤ sz .W) × (sz .W ≤ 1000000)
+  pub options-are : (sz .policy ≡ 0) × (sz .coded ≡ 0) × (sz .shelfPages ≡ 0) × (sz .marked ≡ 0)
 
 -- The test of the sizes passes exactly within these limits.
 abbrev pub SizesRule : Type 0
 SizesRule = (sz : Sizes) → (sizesOk sz ≡ true) ⇔ WithinLimits sz
 
--- Lent buffers: flash of N×K×S bytes, wear of N numbers, p-space of P×S bytes, b-space of B×K×S bytes.
-pub record RightLengths (sz : Sizes) (u : Buffers) : Type 0 where
+-- Lent buffers: flash of N×K×S bytes, codes and marks of N×K pages', wear of N numbers, p-space of P×S bytes, b-space of B×K×S bytes.
+pub record RightLengths (fmt : Format) (sz : Sizes) (u : Buffers) : Type 0 where
   pub flash-is : length (u .flash) ≡ sz .N * sz .K * sz .S
+  pub codes-are : length (u .codes) ≡ sz .N * sz .K * fmt .codeLong sz
+  pub marks-are : length (u .marks) ≡ sz .N * sz .K * fmt .markLong sz
   pub wear-is : length (u .wear) ≡ sz .N
   pub pspace-is : length (u .pspace) ≡ sz .P * sz .S
   pub bspace-is : length (u .bspace) ≡ sz .B * sz .K * sz .S
 
 -- The test of the buffers passes exactly at these lengths.
 abbrev pub LengthsRule : Type 0
-LengthsRule = (sz : Sizes) (u : Buffers) → (lentOk sz u ≡ true) ⇔ RightLengths sz u
+LengthsRule = (fmt : Format) (sz : Sizes) (u : Buffers) → (lentOk fmt sz u ≡ true) ⇔ RightLengths fmt sz u
+
+-- With no option, the store is lent codes and marks of length 0.
+abbrev pub NoCodesRule : Type 0
+NoCodesRule = (sz : Sizes) (u : Buffers) → WithinLimits sz → RightLengths storeFormat sz u
+    → (length (u .codes) ≡ 0) × (length (u .marks) ≡ 0)
 
 -- ---- when a record is sound
 
--- It has 128 slots and 8 frames, each frame with a set of valid pages and an order entry.
+-- It has 128 slots and 8 frames, each frame with a set of valid pages, an order entry and a use count.
 pub record Shaped (d : Directory) : Type 0 where
   pub slots-are : length (d .slots) ≡ 128
   pub frames-are : length (d .frames) ≡ 8
   pub valid-are : length (d .valid) ≡ 8
   pub order-is : length (d .recency) ≡ 8
+  pub uses-are : length (d .uses) ≡ 8
 
 -- What the first P slots and the first B frames hold:
 pub record HeldRight (sz : Sizes) (d : Directory) : Type 0 where
@@ -70,7 +80,7 @@ pub record HeldRight (sz : Sizes) (d : Directory) : Type 0 where
 
 -- A record is sound if:
 pub record SoundBy (sz : Sizes) (d : Directory) : Type 0 where
-  -- sizes and W are as opening's refusal 1 demands;
+  -- sizes, W and options are as opening's refusal 1 demands;
   pub sizes-are : WithinLimits sz
   pub shape-is : Shaped d
   pub held-right : HeldRight sz d
@@ -80,6 +90,8 @@ pub record SoundBy (sz : Sizes) (d : Directory) : Type 0 where
   -- Entries past P and B are vacant, their bits 0, and their order entry is their own index.
   pub slots-past : (i : ℕ) → sz .P ≤ i → i < 128 → slotAt d i ≡ 4294967295
   pub frames-past : (f : ℕ) → sz .B ≤ f → f < 8 → (frameAt d f ≡ 4294967295) × (validAt d f ≡ 0) × (recencyAt d f ≡ f)
+  -- No uses are counted yet.
+  pub uses-none : (f : ℕ) → f < 8 → usesAt d f ≡ 0
 
 -- The test of a record passes exactly where all of this holds.
 abbrev pub SoundRule : Type 0
@@ -87,21 +99,23 @@ SoundRule = (sz : Sizes) (d : Directory) → (sound sz d ≡ true) ⇔ SoundBy s
 
 -- ---- the blank record
 
--- All vacant: every slot and frame is vacant, no page is valid, each order entry is its own index.
+-- All vacant: every slot and frame is vacant, no page is valid, each order entry is its own index, no uses are counted.
 pub record AllVacant (d : Directory) : Type 0 where
   pub shape-is : Shaped d
   pub slot-is : (i : ℕ) → i < 128 → slotAt d i ≡ 4294967295
   pub frame-is : (f : ℕ) → f < 8 → frameAt d f ≡ 4294967295
   pub valid-is : (f : ℕ) → f < 8 → validAt d f ≡ 0
   pub order-at : (f : ℕ) → f < 8 → recencyAt d f ≡ f
+  pub uses-is : (f : ℕ) → f < 8 → usesAt d f ≡ 0
 
 -- The record that an accepted opening starts from is all vacant.
 abbrev pub StartRule : Type 0
 StartRule = AllVacant vacantDirectory
 
--- The blank record has sizes and W 0, and all of it is vacant.
+-- The blank record has sizes and W 0 and no option, and all of it is vacant.
 abbrev pub BlankRule : Type 0
-BlankRule = (blankCache .sizes ≡ record { S = 0; K = 0; N = 0; P = 0; B = 0; W = 0 }) × AllVacant (blankCache .directory)
+BlankRule = (blankCache .sizes ≡ record { S = 0; K = 0; N = 0; P = 0; B = 0; W = 0; policy = 0; coded = 0; shelfPages = 0; marked = 0 })
+    × AllVacant (blankCache .directory)
 
 -- It is unsound, so that each call before an opening is refused 4.
 abbrev pub BlankUnsoundRule : Type 0
@@ -110,24 +124,24 @@ BlankUnsoundRule = sound (blankCache .sizes) (blankCache .directory) ≡ false
 -- ---- opening: 1, then 2, then 3
 
 -- an opening that is turned down for cause r hands back the blank record
-abbrev pub OpeningRefused : Sizes → Buffers → ℕ → Type 0
-OpeningRefused sz u r = (openStore sz u .answer ≡ refused r 4294967295) × (openStore sz u .cache ≡ blankCache)
+abbrev pub OpeningRefused : Format → Sizes → Buffers → ℕ → Type 0
+OpeningRefused fmt sz u r = (openStore fmt sz u .answer ≡ refused r 4294967295) × (openStore fmt sz u .cache ≡ blankCache)
 
--- Opening refuses 1 when a size or W is beyond its limits.
+-- Opening refuses 1 when a size or W is beyond its limits, or an option is set.
 abbrev pub OpeningSizeRule : Type 0
-OpeningSizeRule = (sz : Sizes) (u : Buffers) → (WithinLimits sz → ⊥) → OpeningRefused sz u 1
+OpeningSizeRule = (fmt : Format) (sz : Sizes) (u : Buffers) → (WithinLimits sz → ⊥) → OpeningRefused fmt sz u 1
 
 -- Then 2 when a lent buffer has another length.
 abbrev pub OpeningBufferRule : Type 0
-OpeningBufferRule = (sz : Sizes) (u : Buffers) → WithinLimits sz → (RightLengths sz u → ⊥) → OpeningRefused sz u 2
+OpeningBufferRule = (fmt : Format) (sz : Sizes) (u : Buffers) → WithinLimits sz → (RightLengths fmt sz u → ⊥) → OpeningRefused fmt sz u 2
 
 -- Then 3 when a wear entry is above W.
 abbrev pub OpeningOverwornRule : Type 0
-OpeningOverwornRule = (sz : Sizes) (u : Buffers) → WithinLimits sz → RightLengths sz u
-    → (b : ℕ) → b < sz .N → sz .W < getD (u .wear) b 0 → OpeningRefused sz u 3
+OpeningOverwornRule = (fmt : Format) (sz : Sizes) (u : Buffers) → WithinLimits sz → RightLengths fmt sz u
+    → (b : ℕ) → b < sz .N → sz .W < getD (u .wear) b 0 → OpeningRefused fmt sz u 3
 
 -- Else it gives a record with the sizes set, all vacant. No buffer is among what it gives: it changes none.
 abbrev pub OpeningDoneRule : Type 0
-OpeningDoneRule = (sz : Sizes) (u : Buffers) → WithinLimits sz → RightLengths sz u
+OpeningDoneRule = (fmt : Format) (sz : Sizes) (u : Buffers) → WithinLimits sz → RightLengths fmt sz u
     → ((b : ℕ) → b < sz .N → getD (u .wear) b 0 ≤ sz .W)
-    → (openStore sz u .answer ≡ openDone) × (openStore sz u .cache .sizes ≡ sz) × AllVacant (openStore sz u .cache .directory)
+    → (openStore fmt sz u .answer ≡ openDone) × (openStore fmt sz u .cache .sizes ≡ sz) × AllVacant (openStore fmt sz u .cache .directory)

@@ -9,7 +9,7 @@ use Rattle.model.specs.Sizes.{Sizes}
 use Rattle.model.specs.Directory.{Directory, slotAt, frameAt, validAt}
 use Rattle.model.specs.Soundness.{sound}
 use Rattle.model.specs.Policy.{readWay, slotHit, frameHit, freeSlot, join, fill, exchange, evict}
-use Rattle.model.specs.Moves.{Memory, readDirectory, written, readPage, writtenPages}
+use Rattle.model.specs.Moves.{Chip, Memory, flashPage, readDirectory, written, readPage, writtenPages}
 use Rattle.model.specs.RulesWords.{InSlot, Uncached, FirstVacant, pagesInSlots, validPages}
 use Rattle.model.specs.RulesMoves.{MostRecent, OrderAlone, Joined, JoinedPages, Exchanged, ExchangedPages, Stepped, SteppedPages}
 
@@ -17,21 +17,24 @@ use Rattle.model.specs.RulesMoves.{MostRecent, OrderAlone, Joined, Joine
 
 -- Way 1: a slot holds it; nothing changes.
 abbrev pub Read1Rule : Type 1
-Read1Rule = (sz : Sizes) (d : Directory) (n : ℕ) → sound sz d ≡ true → n < sz .N * sz .K → (A : Type 0) (filler : A) (m : Memory A)
+Read1Rule = (sz : Sizes) (d : Directory) (n : ℕ) → sound sz d ≡ true → n < sz .N * sz .K
+    → (C A : Type 0) (chip : Chip C A) (filler : A) (m : Memory C A)
     → (i : ℕ) → i < sz .P → slotAt d i ≡ n
-    → (readWay sz d n ≡ 1) × (readDirectory sz d n ≡ d) × (readPage filler sz d m n ≡ getD (m .pspace) i filler)
+    → (readWay sz d n ≡ 1) × (readDirectory sz d n ≡ d) × (readPage chip filler sz d m n ≡ getD (m .pspace) i filler)
 
 -- Way 2: a frame has it valid; the frame becomes most recent.
 abbrev pub Read2Rule : Type 1
-Read2Rule = (sz : Sizes) (d : Directory) (n : ℕ) → sound sz d ≡ true → n < sz .N * sz .K → (A : Type 0) (filler : A) (m : Memory A)
+Read2Rule = (sz : Sizes) (d : Directory) (n : ℕ) → sound sz d ≡ true → n < sz .N * sz .K
+    → (C A : Type 0) (chip : Chip C A) (filler : A) (m : Memory C A)
     → (InSlot sz d n → ⊥) → (f o : ℕ) → f < sz .B → o < sz .K → frameAt d f * sz .K + o ≡ n → bit (validAt d f) o ≡ true
     → (readWay sz d n ≡ 2) × OrderAlone sz d (readDirectory sz d n) f
-    × (readPage filler sz d m n ≡ getD (m .bspace) (f * sz .K + o) filler)
+    × (readPage chip filler sz d m n ≡ getD (m .bspace) (f * sz .K + o) filler)
 
 -- Way 3: from flash; nothing is cached.
 abbrev pub Read3Rule : Type 1
-Read3Rule = (sz : Sizes) (d : Directory) (n : ℕ) → sound sz d ≡ true → (A : Type 0) (filler : A) (m : Memory A) → Uncached sz d n
-    → (readWay sz d n ≡ 3) × (readDirectory sz d n ≡ d) × (readPage filler sz d m n ≡ getD (m .flash) n filler)
+Read3Rule = (sz : Sizes) (d : Directory) (n : ℕ) → sound sz d ≡ true → (C A : Type 0) (chip : Chip C A) (filler : A) (m : Memory C A)
+    → Uncached sz d n
+    → (readWay sz d n ≡ 3) × (readDirectory sz d n ≡ d) × (readPage chip filler sz d m n ≡ flashPage chip filler m n)
 
 -- ---- page n goes into the first vacant slot
 
@@ -39,10 +42,11 @@ Read3Rule = (sz : Sizes) (d : Directory) (n : ℕ) → sound sz d ≡ true → (
 pub record Entered (sz : Sizes) (e d′ : Directory) (n f : ℕ) : Type 0 where
   pub slot : (i : ℕ) → FirstVacant sz e i → (slotAt d′ i ≡ n) × ((j : ℕ) → (j ≡ i → ⊥) → slotAt d′ j ≡ slotAt e j)
   pub frames-stay : (d′ .frames ≡ e .frames) × (d′ .valid ≡ e .valid)
+  pub uses-stay : d′ .uses ≡ e .uses
   pub recent : MostRecent sz e d′ f
 
 -- Its bytes are in that slot of p-space, and no other page changes.
-pub record EnteredPages {A : Type 0} (filler : A) (sz : Sizes) (e : Directory) (m q : Memory A) (x : A) : Type 0 where
+pub record EnteredPages {C A : Type 0} (filler : A) (sz : Sizes) (e : Directory) (m q : Memory C A) (x : A) : Type 0 where
   pub slot : (i : ℕ) → FirstVacant sz e i
       → (getD (q .pspace) i filler ≡ x) × ((j : ℕ) → (j ≡ i → ⊥) → getD (q .pspace) j filler ≡ getD (m .pspace) j filler)
   pub flash-stays : q .flash ≡ m .flash
@@ -51,7 +55,7 @@ pub record EnteredPages {A : Type 0} (filler : A) (sz : Sizes) (e : Directory) (
 -- ---- write n with the page x
 
 -- The page x is in slot i of p-space then, and no other page changed.
-pub record PutInSlot {A : Type 0} (filler : A) (m q : Memory A) (i : ℕ) (x : A) : Type 0 where
+pub record PutInSlot {C A : Type 0} (filler : A) (m q : Memory C A) (i : ℕ) (x : A) : Type 0 where
   pub page-is : getD (q .pspace) i filler ≡ x
   pub others : (j : ℕ) → (j ≡ i → ⊥) → getD (q .pspace) j filler ≡ getD (m .pspace) j filler
   pub flash-stays : q .flash ≡ m .flash
@@ -59,28 +63,32 @@ pub record PutInSlot {A : Type 0} (filler : A) (m q : Memory A) (i : ℕ) (x : A
 
 -- Way 1 overwrites the page in slot i, and nothing else.
 abbrev pub Writes1Rule : Type 1
-Writes1Rule = (sz : Sizes) (d : Directory) (n : ℕ) (A : Type 0) (filler : A) (m : Memory A) (x : A) → length (m .pspace) ≡ sz .P
+Writes1Rule = (sz : Sizes) (d : Directory) (n : ℕ) (C A : Type 0) (chip : Chip C A) (filler : A) (m : Memory C A) (x : A)
+    → length (m .pspace) ≡ sz .P
     → (i : ℕ) → i < sz .P
-    → (written sz d n (slotHit i) ≡ d) × PutInSlot filler m (writtenPages filler sz d m n x (slotHit i)) i x
+    → (written sz d n (slotHit i) ≡ d) × PutInSlot filler m (writtenPages chip filler sz d m n x (slotHit i)) i x
 
 -- Way 2 overwrites the page at its offset in frame f, which becomes most recent.
 abbrev pub Writes2Rule : Type 1
 Writes2Rule = (sz : Sizes) (d : Directory) (n : ℕ) → sound sz d ≡ true
-    → (A : Type 0) (filler : A) (m : Memory A) (x : A) → length (m .bspace) ≡ sz .B * sz .K
+    → (C A : Type 0) (chip : Chip C A) (filler : A) (m : Memory C A) (x : A) → length (m .bspace) ≡ sz .B * sz .K
     → (f o : ℕ) → f < sz .B → o < sz .K → frameAt d f * sz .K + o ≡ n
     → OrderAlone sz d (written sz d n (frameHit f)) f
-    × (getD (writtenPages filler sz d m n x (frameHit f) .bspace) (f * sz .K + o) filler ≡ x)
-    × ((k : ℕ) → (k ≡ f * sz .K + o → ⊥) → getD (writtenPages filler sz d m n x (frameHit f) .bspace) k filler ≡ getD (m .bspace) k filler)
-    × (writtenPages filler sz d m n x (frameHit f) .flash ≡ m .flash) × (writtenPages filler sz d m n x (frameHit f) .pspace ≡ m .pspace)
+    × (getD (writtenPages chip filler sz d m n x (frameHit f) .bspace) (f * sz .K + o) filler ≡ x)
+    × ((k : ℕ) → (k ≡ f * sz .K + o → ⊥) → getD (writtenPages chip filler sz d m n x (frameHit f) .bspace) k filler
+    ≡ getD (m .bspace) k filler)
+    × (writtenPages chip filler sz d m n x (frameHit f) .flash ≡ m .flash)
+    × (writtenPages chip filler sz d m n x (frameHit f) .pspace ≡ m .pspace)
 
 -- Way 3 puts n into slot i, and nothing else changes.
 abbrev pub Writes3Rule : Type 1
 Writes3Rule = (sz : Sizes) (d : Directory) (n : ℕ) → sound sz d ≡ true
-    → (A : Type 0) (filler : A) (m : Memory A) (x : A) → length (m .pspace) ≡ sz .P → (i : ℕ) → i < sz .P
+    → (C A : Type 0) (chip : Chip C A) (filler : A) (m : Memory C A) (x : A) → length (m .pspace) ≡ sz .P → (i : ℕ) → i < sz .P
     → (slotAt (written sz d n (freeSlot i)) i ≡ n)
     × ((j : ℕ) → (j ≡ i → ⊥) → slotAt (written sz d n (freeSlot i)) j ≡ slotAt d j)
     × (written sz d n (freeSlot i) .frames ≡ d .frames) × (written sz d n (freeSlot i) .valid ≡ d .valid)
-    × (written sz d n (freeSlot i) .recency ≡ d .recency) × PutInSlot filler m (writtenPages filler sz d m n x (freeSlot i)) i x
+    × (written sz d n (freeSlot i) .recency ≡ d .recency) × (written sz d n (freeSlot i) .uses ≡ d .uses)
+    × PutInSlot filler m (writtenPages chip filler sz d m n x (freeSlot i)) i x
 
 -- Way 4: the victim's pages join the frame, which becomes most recent; then n goes into the first vacant slot.
 abbrev pub Writes4Rule : Type 0
@@ -90,15 +98,15 @@ Writes4Rule = (sz : Sizes) (d : Directory) (n : ℕ) → sound sz d ≡ true →
 -- The bytes go with them.
 abbrev pub Writes4PagesRule : Type 1
 Writes4PagesRule = (sz : Sizes) (d : Directory) (n : ℕ) → sound sz d ≡ true → (v f : ℕ) → v < sz .N → f < sz .B
-    → (A : Type 0) (filler : A) (m : Memory A) (x : A) → length (m .pspace) ≡ sz .P
+    → (C A : Type 0) (chip : Chip C A) (filler : A) (m : Memory C A) (x : A) → length (m .pspace) ≡ sz .P
     → (e : Directory) × Joined sz d e v f
-    × ((q : Memory A) × JoinedPages filler sz d m q v f × EnteredPages filler sz e q (writtenPages filler sz d m n x (join v f)) x)
+    × ((q : Memory C A) × JoinedPages filler sz d m q v f × EnteredPages filler sz e q (writtenPages chip filler sz d m n x (join v f)) x)
 
 -- Way 5 moves pages and numbers as way 4 does.
 abbrev pub Writes5Rule : Type 1
-Writes5Rule = (sz : Sizes) (d : Directory) (n v f : ℕ) (A : Type 0) (filler : A) (m : Memory A) (x : A)
+Writes5Rule = (sz : Sizes) (d : Directory) (n v f : ℕ) (C A : Type 0) (chip : Chip C A) (filler : A) (m : Memory C A) (x : A)
     → (written sz d n (fill v f) ≡ written sz d n (join v f))
-    × (writtenPages filler sz d m n x (fill v f) ≡ writtenPages filler sz d m n x (join v f))
+    × (writtenPages chip filler sz d m n x (fill v f) ≡ writtenPages chip filler sz d m n x (join v f))
 
 -- Way 6: they exchange with the frame's fewer pages, and the frame becomes most recent; then n goes into the first vacant slot.
 abbrev pub Writes6Rule : Type 0
@@ -109,9 +117,10 @@ Writes6Rule = (sz : Sizes) (d : Directory) (n : ℕ) → sound sz d ≡ true →
 -- The bytes go with them.
 abbrev pub Writes6PagesRule : Type 1
 Writes6PagesRule = (sz : Sizes) (d : Directory) (n : ℕ) → sound sz d ≡ true → (v f : ℕ) → v < sz .N → f < sz .B
-    → frameAt d f < sz .N → validPages d f < pagesInSlots sz d v → (A : Type 0) (filler : A) (m : Memory A) (x : A)
+    → frameAt d f < sz .N → validPages d f < pagesInSlots sz d v → (C A : Type 0) (chip : Chip C A) (filler : A) (m : Memory C A) (x : A)
     → (e : Directory) × Exchanged sz d e v f
-    × ((q : Memory A) × ExchangedPages filler sz d e m q v f × EnteredPages filler sz e q (writtenPages filler sz d m n x (exchange v f)) x)
+    × ((q : Memory C A) × ExchangedPages filler sz d e m q v f × EnteredPages filler sz e q
+    (writtenPages chip filler sz d m n x (exchange v f)) x)
 
 -- Way 7, with request A2: the frame is rewritten and vacated as by a flush step of its block; then the victim's pages fill it, as in way 5.
 abbrev pub Writes7Rule : Type 0
@@ -122,7 +131,7 @@ Writes7Rule = (sz : Sizes) (d : Directory) (n : ℕ) → sound sz d ≡ true →
 -- The bytes go with them.
 abbrev pub Writes7PagesRule : Type 1
 Writes7PagesRule = (sz : Sizes) (d : Directory) (n : ℕ) → sound sz d ≡ true → (v f : ℕ) → v < sz .N → f < sz .B → frameAt d f < sz .N
-    → (A : Type 0) (filler : A) (m : Memory A) (x : A) → length (m .pspace) ≡ sz .P
-    → (p : Memory A) × SteppedPages filler sz d m p (frameAt d f) f
+    → (C A : Type 0) (chip : Chip C A) (filler : A) (m : Memory C A) (x : A) → length (m .pspace) ≡ sz .P
+    → (p : Memory C A) × SteppedPages chip filler sz d m p (frameAt d f) f
     × ((c e : Directory) × Stepped sz d c (frameAt d f) f × Joined sz c e v f
-    × ((q : Memory A) × JoinedPages filler sz c p q v f × EnteredPages filler sz e q (writtenPages filler sz d m n x (evict v f)) x))
+    × ((q : Memory C A) × JoinedPages filler sz c p q v f × EnteredPages filler sz e q (writtenPages chip filler sz d m n x (evict v f)) x))

@@ -11,10 +11,10 @@ use Rattle.model.specs.Directory.{Directory}
 use Rattle.model.specs.Soundness.{Sound}
 use Rattle.model.specs.Policy.{slotOf, inSlots}
 use Rattle.model.specs.Moves.{Memory, joined, filled}
-use Rattle.model.specs.Calls.{Page, zeroPage, slotPages, framePages}
+use Rattle.model.specs.Calls.{Page, Cell, zeroPage, slotPages, framePages}
 
 -- the two lent spaces without the flash, which no move between them touches
-unfoldable pub spaces : Sizes → List ℕ → List ℕ → Memory Page
+unfoldable pub spaces : Sizes → List ℕ → List ℕ → Memory Cell Page
 spaces sz ps bs = record { flash = []; pspace = slotPages sz ps; bspace = framePages sz bs }
 
 -- one frame's own stretch of b-space

@@ -19,15 +19,17 @@ pub fn join(
     frames: &mut [u32; 8],
     valid: &mut [u64; 8],
     recency: &[u8; 8],
+    uses: &mut [u32; 8],
     pspace: &[u8],
     bspace: &mut [u8],
     b: BlockNo,
     f: usize,
 )
-    requires { ⌜ Joins (sizesOf z) (numbers (now slots) (now frames) (now valid) (now recency)) (b .0) f (now pspace) (now bspace) ⌝ }
+    requires { ⌜ Joins (sizesOf z) (numbers (now slots) (now frames) (now valid) (now recency) (now uses)) (b .0) f (now pspace)
+        (now bspace) ⌝ }
     ensures { λ _. ⌜ (
-        let d = numbers (now (slots .entry)) (now (frames .entry)) (now (valid .entry)) (now (recency .entry)) in
-        let d′ = numbers (now (slots .exit)) (now (frames .exit)) (now (valid .exit)) (now (recency .entry)) in
+        let d = numbers (now (slots .entry)) (now (frames .entry)) (now (valid .entry)) (now (recency .entry)) (now (uses .entry)) in
+        let d′ = numbers (now (slots .exit)) (now (frames .exit)) (now (valid .exit)) (now (recency .entry)) (now (uses .exit)) in
         Joined (sizesOf z) d (b .0) f (now (pspace .entry)) (now (bspace .entry)) d′ (now (bspace .exit))) ⌝ }
 {
     let size = z.pages_per_block as usize * z.page_size as usize;
@@ -39,6 +41,7 @@ pub fn join(
         frames,
         valid,
         recency,
+        uses,
         pspace,
         &mut bspace[a..e],
         b,
@@ -53,17 +56,18 @@ fn take(
     frames: &mut [u32; 8],
     valid: &mut [u64; 8],
     recency: &[u8; 8],
+    uses: &mut [u32; 8],
     pspace: &[u8],
     frame: &mut [u8],
     b: BlockNo,
     f: usize,
 )
     requires { ⌜ (
-        let d = numbers (now slots) (now frames) (now valid) (now recency) in
+        let d = numbers (now slots) (now frames) (now valid) (now recency) (now uses) in
         Fills (sizesOf z) d (b .0) (now pspace) (now frame) × (f < z .frames)) ⌝ }
     ensures { λ _. ⌜ (
-        let d = numbers (now (slots .entry)) (now (frames .entry)) (now (valid .entry)) (now (recency .entry)) in
-        let d′ = numbers (now (slots .exit)) (now (frames .exit)) (now (valid .exit)) (now (recency .entry)) in
+        let d = numbers (now (slots .entry)) (now (frames .entry)) (now (valid .entry)) (now (recency .entry)) (now (uses .entry)) in
+        let d′ = numbers (now (slots .exit)) (now (frames .exit)) (now (valid .exit)) (now (recency .entry)) (now (uses .exit)) in
         Took (sizesOf z) d (b .0) f (now (pspace .entry)) (now (frame .entry)) d′ (now (frame .exit))) ⌝ }
 {
     let s = z.page_size as usize;
@@ -85,9 +89,9 @@ fn take(
 }
 
 // The offsets of block b's pages in slots, with those of old.
-pub(crate) fn offsets(z: Sizes, slots: &[u32; 128], b: BlockNo, old: u64) -> u64
+pub fn offsets(z: Sizes, slots: &[u32; 128], b: BlockNo, old: u64) -> u64
     requires { ⌜ BlockOf (sizesOf z) (now slots) (b .0) × (old < 2 ^ z .«pages_per_block») ⌝ }
-    ensures { λ r. ⌜ r ≡ offsetsOf (sizesOf z) (numbers (now (slots .entry)) [] [] []) (b .0) old ⌝ }
+    ensures { λ r. ⌜ r ≡ offsetsOf (sizesOf z) (numbers (now (slots .entry)) [] [] [] []) (b .0) old ⌝ }
 {
     let p = z.slots as usize;
     let mut v = old;

@@ -7,13 +7,15 @@ use native.Mathlib.Nat.{zero-add}
 use lib.ListN.{length}
 use lib.Seq.{drop-length}
 use Rattle.prelude.specs.Pages.{laid}
-use Rattle.model.specs.Calls.{Answer, isRefused, combined, Page, Buffers, zeroPage, memoryOf}
+use Rattle.model.specs.Formats.{chipFor}
+use Rattle.model.specs.Calls.{Answer, isRefused, combined, Page, Buffers, zeroPage, flashCells, memoryOf}
 use Rattle.model.specs.Sizes.{Sizes}
 use Rattle.model.specs.Directory.{Directory, inFrame}
 use Rattle.model.specs.Policy.{slotOf, inSlots, frameWith, leastRecent, plan}
 use Rattle.model.specs.Moves.{readPage}
 use Rattle.cache.specs.View.{numbers}
 use Rattle.reads.specs.Reads.{Readable, pages}
+use Rattle.chip.proofs.Cells.{lent-of}
 use Rattle.writes.specs.Writes.{Writable, Wrote}
 use Rattle.parts.specs.Parts.{PartReady, PartWrote}
 use Rattle.answer.specs.declared.Refusal.{Refusal}
@@ -43,10 +45,9 @@ stays a why e x y = sym (ap (λ (t : Write). cond (isRefused (writeOf t)) x y) e
 
 module _ (sz : Sizes) (d : Directory) (u : Buffers) (n first : ℕ) (x page : Page) (q : PartReady sz d u n first x page) (whole : Page)
     (e : length whole ≡ sz .S) where
-  pub part-readable : Readable sz (u .flash) (u .pspace) (u .bspace) n whole
+  pub part-readable : Readable sz (u .flash) (u .codes) (u .marks) (u .pspace) (u .bspace) n whole
   part-readable = let f = q .ready .fits in record {
-    limits = q .ready .sound .limits;
-    flash-length = f .flash-length;
+    lent = lent-of sz u (q .ready .sound .limits) f;
     pspace-length = f .pspace-length;
     bspace-length = f .bspace-length;
     page-lt = q .page-lt;
@@ -57,13 +58,15 @@ module _ (sz : Sizes) (d : Directory) (u : Buffers) (n first : ℕ) (x page : Pa
   part-writable = record { ready = q .ready; page-lt = q .page-lt; page-length = e }
 
 -- the combined page is read without a use, and so without the order of use
-module _ (sz : Sizes) (s f v r : List ℕ) (u : Buffers) (n first : ℕ) (x page whole : Page) (answer : Answer) (d′ : Directory)
+module _ (sz : Sizes) (s f v r us : List ℕ) (u : Buffers) (n first : ℕ) (x page whole : Page) (answer : Answer) (d′ : Directory)
     (u′ : Buffers) (page′ : Page) where
   abbrev d : Directory
-  d = numbers s f v r
+  d = numbers s f v r us
 
-  pub part-wrote : whole ≡ combined (zeroPage sz) sz (numbers s f v []) (pages sz (u .flash) (u .pspace) (u .bspace)) n first x
+  pub part-wrote : whole ≡ combined (chipFor sz) (zeroPage sz) sz (numbers s f v [] [])
+      (pages sz (u .flash) (u .codes) (u .marks) (u .pspace) (u .bspace))
+      n first x
       → Wrote sz d u n whole (plan leastRecent sz d (u .wear) n) answer d′ u′
       → page′ ≡ cond (isRefused answer) page whole → PartWrote sz d u n first x page answer d′ u′ page′
-  unfolding memoryOf combined readPage inSlots slotOf frameWith inFrame
+  unfolding memoryOf flashCells combined readPage inSlots slotOf frameWith inFrame
   part-wrote e h p = record { wrote = rw e at h; page-is = rw e at p }

@@ -6,6 +6,7 @@ use lib.ListN.{length}
 use Rattle.model.specs.Sizes.{Sizes}
 use Rattle.model.specs.Directory.{Directory}
 use Rattle.model.specs.Policy.{leastRecent, plan}
+use Rattle.model.specs.Formats.{storeFormat, chipFor}
 use Rattle.model.specs.Calls.{Answer, isRefused, combined, Page, Buffers, zeroPage, memoryOf}
 use Rattle.answer.specs.Carried.{Ready}
 use Rattle.writes.specs.Writes.{Wrote}
@@ -19,7 +20,7 @@ pub record PartReady (sz : Sizes) (d : Directory) (u : Buffers) (n first : ℕ) 
 
 -- the combined page of the buffers u
 abbrev pub combinedOf : Sizes → Directory → Buffers → ℕ → ℕ → Page → Page
-combinedOf sz d u n first x = combined (zeroPage sz) sz d (memoryOf sz u) n first x
+combinedOf sz d u n first x = combined (chipFor sz) (zeroPage sz) sz d (memoryOf storeFormat sz u) n first x
 
 -- the combined page was written, and the page buffer has it where the write is accepted
 pub record PartWrote (sz : Sizes) (d : Directory) (u : Buffers) (n first : ℕ) (x page : Page) (answer : Answer) (d′ : Directory)

@@ -8,6 +8,7 @@ ghost use mathlib.Core.Bool.{cond};
 ghost use mathlib.Core.List.{[]};
 ghost use Prim.Native.Nat.{_+_, _≤_};
 ghost use lib.ListN.{length};
+ghost use Rattle.model.specs.Formats.{chipFor};
 ghost use Rattle.model.specs.Calls.{isRefused, zeroPage, combined};
 ghost use Rattle.cache.specs.View.{sizesOf, numbers};
 ghost use Rattle.answer.specs.Numbers.{writeOf};
@@ -22,7 +23,10 @@ pub fn write(
     frames: &mut [u32; 8],
     valid: &mut [u64; 8],
     recency: &mut [u8; 8],
+    uses: &mut [u32; 8],
     flash: &mut [u8],
+    codes: &mut [u8],
+    marks: &mut [u8],
     wear: &mut [u32],
     pspace: &mut [u8],
     bspace: &mut [u8],
@@ -32,14 +36,16 @@ pub fn write(
     page: &mut [u8],
 ) -> Write
     requires { ⌜ (
-        let d = numbers (now slots) (now frames) (now valid) (now recency) in
-        let u = buffers (now flash) (now wear) (now pspace) (now bspace) in
+        let d = numbers (now slots) (now frames) (now valid) (now recency) (now uses) in
+        let u = buffers (now flash) (now codes) (now marks) (now wear) (now pspace) (now bspace) in
         PartReady (sizesOf z) d u (n .0) first (now bytes) (now page)) ⌝ }
     ensures { λ r. ⌜ (
-        let d = numbers (now (slots .entry)) (now (frames .entry)) (now (valid .entry)) (now (recency .entry)) in
-        let u = buffers (now (flash .entry)) (now (wear .entry)) (now (pspace .entry)) (now (bspace .entry)) in
-        let d′ = numbers (now (slots .exit)) (now (frames .exit)) (now (valid .exit)) (now (recency .exit)) in
-        let u′ = buffers (now (flash .exit)) (now (wear .exit)) (now (pspace .exit)) (now (bspace .exit)) in
+        let d = numbers (now (slots .entry)) (now (frames .entry)) (now (valid .entry)) (now (recency .entry)) (now (uses .entry)) in
+        let u = buffers (now (flash .entry)) (now (codes .entry)) (now (marks .entry))
+        (now (wear .entry)) (now (pspace .entry)) (now (bspace .entry)) in
+        let d′ = numbers (now (slots .exit)) (now (frames .exit)) (now (valid .exit)) (now (recency .exit)) (now (uses .exit)) in
+        let u′ = buffers (now (flash .exit)) (now (codes .exit)) (now (marks .exit))
+        (now (wear .exit)) (now (pspace .exit)) (now (bspace .exit)) in
         PartWrote (sizesOf z) d u (n .0) first (now (bytes .entry)) (now (page .entry)) (writeOf r) d′ u′ (now (page .exit))) ⌝ }
 {
     let s = z.page_size as usize;
@@ -50,7 +56,10 @@ pub fn write(
         frames,
         valid,
         recency,
+        uses,
         flash,
+        codes,
+        marks,
         wear,
         pspace,
         bspace,
@@ -69,7 +78,10 @@ fn write_combined(
     frames: &mut [u32; 8],
     valid: &mut [u64; 8],
     recency: &mut [u8; 8],
+    uses: &mut [u32; 8],
     flash: &mut [u8],
+    codes: &mut [u8],
+    marks: &mut [u8],
     wear: &mut [u32],
     pspace: &mut [u8],
     bspace: &mut [u8],
@@ -80,14 +92,16 @@ fn write_combined(
     whole: &mut [u8],
 ) -> Write
     requires { ⌜ (
-        let d = numbers (now slots) (now frames) (now valid) (now recency) in
-        let u = buffers (now flash) (now wear) (now pspace) (now bspace) in
+        let d = numbers (now slots) (now frames) (now valid) (now recency) (now uses) in
+        let u = buffers (now flash) (now codes) (now marks) (now wear) (now pspace) (now bspace) in
         PartReady (sizesOf z) d u (n .0) first (now bytes) (now page) × (length (now whole) ≡ z .«page_size»)) ⌝ }
     ensures { λ r. ⌜ (
-        let d = numbers (now (slots .entry)) (now (frames .entry)) (now (valid .entry)) (now (recency .entry)) in
-        let u = buffers (now (flash .entry)) (now (wear .entry)) (now (pspace .entry)) (now (bspace .entry)) in
-        let d′ = numbers (now (slots .exit)) (now (frames .exit)) (now (valid .exit)) (now (recency .exit)) in
-        let u′ = buffers (now (flash .exit)) (now (wear .exit)) (now (pspace .exit)) (now (bspace .exit)) in
+        let d = numbers (now (slots .entry)) (now (frames .entry)) (now (valid .entry)) (now (recency .entry)) (now (uses .entry)) in
+        let u = buffers (now (flash .entry)) (now (codes .entry)) (now (marks .entry))
+        (now (wear .entry)) (now (pspace .entry)) (now (bspace .entry)) in
+        let d′ = numbers (now (slots .exit)) (now (frames .exit)) (now (valid .exit)) (now (recency .exit)) (now (uses .exit)) in
+        let u′ = buffers (now (flash .exit)) (now (codes .exit)) (now (marks .exit))
+        (now (wear .exit)) (now (pspace .exit)) (now (bspace .exit)) in
         PartWrote (sizesOf z) d u (n .0) first (now (bytes .entry)) (now (page .entry)) (writeOf r) d′ u′ (now (page .exit))) ⌝ }
 {
     combine(
@@ -96,6 +110,8 @@ fn write_combined(
         frames,
         valid,
         flash,
+        codes,
+        marks,
         pspace,
         bspace,
         n,
@@ -109,7 +125,10 @@ fn write_combined(
         frames,
         valid,
         recency,
+        uses,
         flash,
+        codes,
+        marks,
         wear,
         pspace,
         bspace,
@@ -127,6 +146,8 @@ fn combine(
     frames: &[u32; 8],
     valid: &[u64; 8],
     flash: &[u8],
+    codes: &[u8],
+    marks: &[u8],
     pspace: &[u8],
     bspace: &[u8],
     n: PageNo,
@@ -135,13 +156,27 @@ fn combine(
     whole: &mut [u8],
 )
     requires { ⌜ (
-        Readable (sizesOf z) (now flash) (now pspace) (now bspace) (n .0) (now whole) × (first + length (now bytes) ≤ z .«page_size»)) ⌝ }
+        Readable (sizesOf z) (now flash) (now codes) (now marks) (now pspace) (now bspace) (n .0) (now whole) × (first + length
+        (now bytes) ≤ z .«page_size»)) ⌝ }
     ensures { λ _. ⌜ (
-        let d = numbers (now (slots .entry)) (now (frames .entry)) (now (valid .entry)) [] in
-        let m = pages (sizesOf z) (now (flash .entry)) (now (pspace .entry)) (now (bspace .entry)) in
-        now (whole .exit) ≡ combined (zeroPage (sizesOf z)) (sizesOf z) d m (n .0) first (now (bytes .entry))) ⌝ }
+        let d = numbers (now (slots .entry)) (now (frames .entry)) (now (valid .entry)) [] [] in
+        let m = pages (sizesOf z) (now (flash .entry)) (now (codes .entry)) (now (marks .entry)) (now (pspace .entry))
+        (now (bspace .entry)) in
+        now (whole .exit) ≡ combined (chipFor (sizesOf z)) (zeroPage (sizesOf z)) (sizesOf z) d m (n .0) first (now (bytes .entry))) ⌝ }
 {
-    reads::peek(z, slots, frames, valid, flash, pspace, bspace, n, whole);
+    reads::peek(
+        z,
+        slots,
+        frames,
+        valid,
+        flash,
+        codes,
+        marks,
+        pspace,
+        bspace,
+        n,
+        whole,
+    );
     page::lay(whole, first as usize, bytes);
 }
 

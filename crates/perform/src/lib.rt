@@ -11,9 +11,9 @@ ghost use mathlib.Core.Bool.{true};
 ghost use Rattle.model.specs.Sizes.{sizesOk};
 ghost use Rattle.model.specs.Calls.{Fits};
 ghost use Rattle.cache.specs.View.{sizesOf};
-ghost use Rattle.answer.specs.Carried.{buffers};
 ghost use Rattle.print.specs.Print.{lineRoom};
-ghost use Rattle.store.specs.View.{storeOf};
+ghost use Rattle.model.specs.Formats.{storeFormat};
+ghost use Rattle.store.specs.View.{plainLent, storeOf};
 ghost use Rattle.perform.specs.Effects.{opened, written, wasRead, stepped, flushed};
 ghost use Rattle.perform.specs.View.{Carries};
 
@@ -44,11 +44,11 @@ pub fn opened(
     out: &mut [u8],
 ) -> Lined
     requires { ⌜ (
-        let u = buffers (now flash) (now wear) (now pspace) (now bspace) in
-        (sizesOk (sizesOf sizes) ≡ true → Fits (sizesOf sizes) u) × (lineRoom ≤ length (now out))) ⌝ }
+        let u = plainLent (now flash) (now wear) (now pspace) (now bspace) in
+        (sizesOk (sizesOf sizes) ≡ true → Fits storeFormat (sizesOf sizes) (u .below)) × (lineRoom ≤ length (now out))) ⌝ }
     ensures { λ r. ⌜ (
-        let u = buffers (now (flash .entry)) (now (wear .entry)) (now (pspace .entry)) (now (bspace .entry)) in
-        let u′ = buffers (now (flash .exit)) (now (wear .exit)) (now (pspace .exit)) (now (bspace .exit)) in
+        let u = plainLent (now (flash .entry)) (now (wear .entry)) (now (pspace .entry)) (now (bspace .entry)) in
+        let u′ = plainLent (now (flash .exit)) (now (wear .exit)) (now (pspace .exit)) (now (bspace .exit)) in
         Carries (opened (storeOf c u) (sizesOf sizes)) r u′ (now (out .exit))) ⌝ }
 {
     if !sizes.ok() {
@@ -58,7 +58,8 @@ pub fn opened(
     memory::clear(wear);
     memory::fill(pspace, 0);
     memory::fill(bspace, 0);
-    let r = Cache::open(sizes, flash, wear, pspace, bspace);
+    let none = [0u8; 0];
+    let r = Cache::open(sizes, flash, &none, &none, wear, pspace, bspace, &none);
     let next = r.cache;
     let answer = r.answer;
     printed(next, say::opening(out, answer))
@@ -78,12 +79,25 @@ pub fn written(
 ) -> Lined
     requires { ⌜ (length (now page) ≡ sizesOf (c .sizes) .S) × (lineRoom ≤ length (now out)) ⌝ }
     ensures { λ r. ⌜ (
-        let u = buffers (now (flash .entry)) (now (wear .entry)) (now (pspace .entry)) (now (bspace .entry)) in
-        let u′ = buffers (now (flash .exit)) (now (wear .exit)) (now (pspace .exit)) (now (bspace .exit)) in
+        let u = plainLent (now (flash .entry)) (now (wear .entry)) (now (pspace .entry)) (now (bspace .entry)) in
+        let u′ = plainLent (now (flash .exit)) (now (wear .exit)) (now (pspace .exit)) (now (bspace .exit)) in
         Carries (written (storeOf c u) (n .0) b) r u′ (now (out .exit))) ⌝ }
 {
     memory::fill(page, b);
-    let r = c.write(flash, wear, pspace, bspace, n, page);
+    let mut codes = [0u8; 0];
+    let mut marks = [0u8; 0];
+    let mut shelf = [0u8; 0];
+    let r = c.write(
+        flash,
+        &mut codes,
+        &mut marks,
+        wear,
+        pspace,
+        bspace,
+        &mut shelf,
+        n,
+        page,
+    );
     let next = r.cache;
     let answer = r.answer;
     let printed = say::write(out, n, answer);
@@ -106,11 +120,12 @@ pub fn was_read(
 ) -> Lined
     requires { ⌜ (length (now page) ≡ sizesOf (c .sizes) .S) × (lineRoom ≤ length (now out)) ⌝ }
     ensures { λ r. ⌜ (
-        let u = buffers (now (flash .entry)) (now (wear .entry)) (now (pspace .entry)) (now (bspace .entry)) in
+        let u = plainLent (now (flash .entry)) (now (wear .entry)) (now (pspace .entry)) (now (bspace .entry)) in
         Carries (wasRead (storeOf c u) (n .0)) r u (now (out .exit))) ⌝ }
 {
     memory::fill(page, 0);
-    let r = c.read(flash, wear, pspace, bspace, n, page);
+    let none = [0u8; 0];
+    let r = c.read(flash, &none, &none, wear, pspace, bspace, &none, n, page);
     let next = r.cache;
     let answer = r.answer;
     let byte = memory::first(page);
@@ -132,11 +147,14 @@ pub fn stepped(
 ) -> Lined
     requires { ⌜ lineRoom ≤ length (now out) ⌝ }
     ensures { λ r. ⌜ (
-        let u = buffers (now (flash .entry)) (now (wear .entry)) (now (pspace .entry)) (now (bspace .entry)) in
-        let u′ = buffers (now (flash .exit)) (now (wear .exit)) (now (pspace .entry)) (now (bspace .exit)) in
+        let u = plainLent (now (flash .entry)) (now (wear .entry)) (now (pspace .entry)) (now (bspace .entry)) in
+        let u′ = plainLent (now (flash .exit)) (now (wear .exit)) (now (pspace .entry)) (now (bspace .exit)) in
         Carries (stepped (storeOf c u)) r u′ (now (out .exit))) ⌝ }
 {
-    let r = c.flush_step(flash, wear, pspace, bspace);
+    let mut codes = [0u8; 0];
+    let mut marks = [0u8; 0];
+    let shelf = [0u8; 0];
+    let r = c.flush_step(flash, &mut codes, &mut marks, wear, pspace, bspace, &shelf);
     let next = r.cache;
     let answer = r.answer;
     let printed = say::step(out, answer);
@@ -157,11 +175,14 @@ pub fn flushed(
 ) -> Lined
     requires { ⌜ lineRoom ≤ length (now out) ⌝ }
     ensures { λ r. ⌜ (
-        let u = buffers (now (flash .entry)) (now (wear .entry)) (now (pspace .entry)) (now (bspace .entry)) in
-        let u′ = buffers (now (flash .exit)) (now (wear .exit)) (now (pspace .entry)) (now (bspace .exit)) in
+        let u = plainLent (now (flash .entry)) (now (wear .entry)) (now (pspace .entry)) (now (bspace .entry)) in
+        let u′ = plainLent (now (flash .exit)) (now (wear .exit)) (now (pspace .entry)) (now (bspace .exit)) in
         Carries (flushed (storeOf c u)) r u′ (now (out .exit))) ⌝ }
 {
-    let r = c.flush(flash, wear, pspace, bspace);
+    let mut codes = [0u8; 0];
+    let mut marks = [0u8; 0];
+    let shelf = [0u8; 0];
+    let r = c.flush(flash, &mut codes, &mut marks, wear, pspace, bspace, &shelf);
     let next = r.cache;
     let answer = r.answer;
     let printed = say::flush(out, answer);

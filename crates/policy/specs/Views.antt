@@ -71,34 +71,39 @@ pub record SlotsOf (sz : Sizes) (s : List ℕ) : Type 0 where
   pub frames : List ℕ
   pub valid : List ℕ
   pub recency : List ℕ
-  pub sound : Sound sz (numbers s frames valid recency)
+  pub uses : List ℕ
+  pub sound : Sound sz (numbers s frames valid recency uses)
 
 -- the valid pages of the frames
 pub record ValidOf (sz : Sizes) (v : List ℕ) : Type 0 where
   pub slots : List ℕ
   pub frames : List ℕ
   pub recency : List ℕ
-  pub sound : Sound sz (numbers slots frames v recency)
+  pub uses : List ℕ
+  pub sound : Sound sz (numbers slots frames v recency uses)
 
 -- the frames and the order of use
 pub record OrderOf (sz : Sizes) (f r : List ℕ) : Type 0 where
   pub slots : List ℕ
   pub valid : List ℕ
-  pub sound : Sound sz (numbers slots f valid r)
+  pub uses : List ℕ
+  pub sound : Sound sz (numbers slots f valid r uses)
 
 -- the slots, the frames and the order of use
 pub record DueOf (sz : Sizes) (s f r : List ℕ) : Type 0 where
   pub valid : List ℕ
-  pub sound : Sound sz (numbers s f valid r)
+  pub uses : List ℕ
+  pub sound : Sound sz (numbers s f valid r uses)
 
 -- some frame has n valid pages
 pub record SomeValid (sz : Sizes) (v r : List ℕ) (n : ℕ) : Type 0 where
   pub slots : List ℕ
   pub frames : List ℕ
-  pub sound : Sound sz (numbers slots frames v r)
+  pub uses : List ℕ
+  pub sound : Sound sz (numbers slots frames v r uses)
   pub frame : ℕ
   pub frame-lt : frame < sz .B
-  pub frame-has : validCount sz (numbers slots frames v r) frame ≡ n
+  pub frame-has : validCount sz (numbers slots frames v r uses) frame ≡ n
 
 -- there is a wear for each block
 pub record WithWear (sz : Sizes) (d : Directory) (w : List ℕ) : Type 0 where
@@ -110,23 +115,27 @@ pub record SlotsWorn (sz : Sizes) (s w : List ℕ) : Type 0 where
   pub frames : List ℕ
   pub valid : List ℕ
   pub recency : List ℕ
-  pub with-wear : WithWear sz (numbers s frames valid recency) w
+  pub uses : List ℕ
+  pub with-wear : WithWear sz (numbers s frames valid recency uses) w
 
 pub record FramesWorn (sz : Sizes) (f w : List ℕ) : Type 0 where
   pub slots : List ℕ
   pub valid : List ℕ
   pub recency : List ℕ
-  pub with-wear : WithWear sz (numbers slots f valid recency) w
+  pub uses : List ℕ
+  pub with-wear : WithWear sz (numbers slots f valid recency uses) w
 
 pub record CachedWorn (sz : Sizes) (s f w : List ℕ) : Type 0 where
   pub valid : List ℕ
   pub recency : List ℕ
-  pub with-wear : WithWear sz (numbers s f valid recency) w
+  pub uses : List ℕ
+  pub with-wear : WithWear sz (numbers s f valid recency uses) w
 
 -- no frame is vacant, and there is a wear for each block
 pub record AllOccupied (sz : Sizes) (f r w : List ℕ) : Type 0 where
   pub slots : List ℕ
   pub valid : List ℕ
-  pub sound : Sound sz (numbers slots f valid r)
+  pub uses : List ℕ
+  pub sound : Sound sz (numbers slots f valid r uses)
   pub wear-length : length w ≡ sz .N
   pub block-lt : (g : ℕ) → g < sz .B → getD f g 0 < sz .N

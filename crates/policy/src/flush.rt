@@ -17,7 +17,7 @@ ghost use Rattle.policy.specs.Views.{FramesWorn, CachedWorn};
 pub fn due(z: Sizes, slots: &[u32; 128], frames: &[u32; 8], recency: &[u8; 8]) -> Due
     requires { ⌜ DueOf (sizesOf z) (now slots) (now frames) (now recency) ⌝ }
     ensures { λ r. ⌜ (
-        let d = numbers (now (slots .entry)) (now (frames .entry)) [] (now (recency .entry)) in
+        let d = numbers (now (slots .entry)) (now (frames .entry)) [] (now (recency .entry)) [] in
         dueView r ≡ dueOf leastRecent (sizesOf z) d) ⌝ }
 {
     let f = oldest_occupied(z, frames, recency);
@@ -34,7 +34,7 @@ pub fn due(z: Sizes, slots: &[u32; 128], frames: &[u32; 8], recency: &[u8; 8]) -
 // The least recent occupied frame, or the number of frames where none is occupied.
 fn oldest_occupied(z: Sizes, frames: &[u32; 8], recency: &[u8; 8]) -> usize
     requires { ⌜ OrderOf (sizesOf z) (now frames) (now recency) ⌝ }
-    ensures { λ r. ⌜ r ≡ oldestOccupied (sizesOf z) (numbers [] (now (frames .entry)) [] (now (recency .entry))) ⌝ }
+    ensures { λ r. ⌜ r ≡ oldestOccupied (sizesOf z) (numbers [] (now (frames .entry)) [] (now (recency .entry)) []) ⌝ }
 {
     let end = z.frames as usize;
     let mut i = 0;
@@ -58,7 +58,7 @@ fn no_block(z: Sizes) -> BlockNo
 // The lowest block with pages in slots, or no block: the block of the least page number.
 fn lowest_in_slots(z: Sizes, slots: &[u32; 128]) -> BlockNo
     requires { ⌜ SlotsOf (sizesOf z) (now slots) ⌝ }
-    ensures { λ r. ⌜ r .0 ≡ lowestInSlots (sizesOf z) (numbers (now (slots .entry)) [] [] []) ⌝ }
+    ensures { λ r. ⌜ r .0 ≡ lowestInSlots (sizesOf z) (numbers (now (slots .entry)) [] [] [] []) ⌝ }
 {
     let end = z.slots as usize;
     let mut low = VACANT;
@@ -79,7 +79,7 @@ fn lowest_in_slots(z: Sizes, slots: &[u32; 128]) -> BlockNo
 // The lowest worn block with a page cached, or no block: the number after the last block's.
 pub fn lowest_worn(z: Sizes, slots: &[u32; 128], frames: &[u32; 8], wear: &[u32]) -> BlockNo
     requires { ⌜ CachedWorn (sizesOf z) (now slots) (now frames) (now wear) ⌝ }
-    ensures { λ r. ⌜ r .0 ≡ lowestWorn (sizesOf z) (numbers (now (slots .entry)) (now (frames .entry)) [] []) (now (wear .entry)) ⌝ }
+    ensures { λ r. ⌜ r .0 ≡ lowestWorn (sizesOf z) (numbers (now (slots .entry)) (now (frames .entry)) [] [] []) (now (wear .entry)) ⌝ }
 {
     let in_slots = worn_in_slots(z, slots, wear);
     let in_frames = worn_in_frames(z, frames, wear);
@@ -92,7 +92,7 @@ pub fn lowest_worn(z: Sizes, slots: &[u32; 128], frames: &[u32; 8], wear: &[u32]
 // The lowest worn block with a page in a slot, or no block.
 fn worn_in_slots(z: Sizes, slots: &[u32; 128], wear: &[u32]) -> BlockNo
     requires { ⌜ SlotsWorn (sizesOf z) (now slots) (now wear) ⌝ }
-    ensures { λ r. ⌜ r .0 ≡ wornInSlots (sizesOf z) (numbers (now (slots .entry)) [] [] []) (now (wear .entry)) ⌝ }
+    ensures { λ r. ⌜ r .0 ≡ wornInSlots (sizesOf z) (numbers (now (slots .entry)) [] [] [] []) (now (wear .entry)) ⌝ }
 {
     let m = address::range::reciprocal(z.pages_per_block);
     let mut low = no_block(z);
@@ -113,7 +113,7 @@ fn worn_in_slots(z: Sizes, slots: &[u32; 128], wear: &[u32]) -> BlockNo
 // The lowest worn block with a frame, or no block.
 fn worn_in_frames(z: Sizes, frames: &[u32; 8], wear: &[u32]) -> BlockNo
     requires { ⌜ FramesWorn (sizesOf z) (now frames) (now wear) ⌝ }
-    ensures { λ r. ⌜ r .0 ≡ wornInFrames (sizesOf z) (numbers [] (now (frames .entry)) [] []) (now (wear .entry)) ⌝ }
+    ensures { λ r. ⌜ r .0 ≡ wornInFrames (sizesOf z) (numbers [] (now (frames .entry)) [] [] []) (now (wear .entry)) ⌝ }
 {
     let mut low = no_block(z);
     let mut f = 0;

@@ -13,7 +13,7 @@ ghost use Rattle.cache.specs.View.{sizesOf, numbers};
 // The slot of page n.
 pub fn slot_of(z: Sizes, slots: &[u32; 128], n: PageNo) -> usize
     requires { ⌜ InLimits (sizesOf z) ⌝ }
-    ensures { λ r. ⌜ r ≡ slotOf (sizesOf z) (numbers (now (slots .entry)) [] [] []) (n .0) ⌝ }
+    ensures { λ r. ⌜ r ≡ slotOf (sizesOf z) (numbers (now (slots .entry)) [] [] [] []) (n .0) ⌝ }
 {
     slot_entry(z, slots, n.0)
 }
@@ -21,7 +21,7 @@ pub fn slot_of(z: Sizes, slots: &[u32; 128], n: PageNo) -> usize
 // The first vacant slot.
 pub fn free_slot(z: Sizes, slots: &[u32; 128]) -> usize
     requires { ⌜ InLimits (sizesOf z) ⌝ }
-    ensures { λ r. ⌜ r ≡ slotOf (sizesOf z) (numbers (now (slots .entry)) [] [] []) vacant ⌝ }
+    ensures { λ r. ⌜ r ≡ slotOf (sizesOf z) (numbers (now (slots .entry)) [] [] [] []) vacant ⌝ }
 {
     slot_entry(z, slots, VACANT)
 }
@@ -29,7 +29,7 @@ pub fn free_slot(z: Sizes, slots: &[u32; 128]) -> usize
 // The first slot whose entry is x.
 fn slot_entry(z: Sizes, slots: &[u32; 128], x: u32) -> usize
     requires { ⌜ InLimits (sizesOf z) ⌝ }
-    ensures { λ r. ⌜ r ≡ slotOf (sizesOf z) (numbers (now (slots .entry)) [] [] []) x ⌝ }
+    ensures { λ r. ⌜ r ≡ slotOf (sizesOf z) (numbers (now (slots .entry)) [] [] [] []) x ⌝ }
 {
     let end = z.slots as usize;
     let mut i = search::passed(slots, x, 1, 0, end);
@@ -45,7 +45,7 @@ fn slot_entry(z: Sizes, slots: &[u32; 128], x: u32) -> usize
 // The frame of block b.
 pub fn frame_of(z: Sizes, frames: &[u32; 8], b: BlockNo) -> usize
     requires { ⌜ InLimits (sizesOf z) ⌝ }
-    ensures { λ r. ⌜ r ≡ frameOf (sizesOf z) (numbers [] (now (frames .entry)) [] []) (b .0) ⌝ }
+    ensures { λ r. ⌜ r ≡ frameOf (sizesOf z) (numbers [] (now (frames .entry)) [] [] []) (b .0) ⌝ }
 {
     frame_entry(z, frames, b.0)
 }
@@ -53,7 +53,7 @@ pub fn frame_of(z: Sizes, frames: &[u32; 8], b: BlockNo) -> usize
 // The first vacant frame.
 pub fn free_frame(z: Sizes, frames: &[u32; 8]) -> usize
     requires { ⌜ InLimits (sizesOf z) ⌝ }
-    ensures { λ r. ⌜ r ≡ frameOf (sizesOf z) (numbers [] (now (frames .entry)) [] []) vacant ⌝ }
+    ensures { λ r. ⌜ r ≡ frameOf (sizesOf z) (numbers [] (now (frames .entry)) [] [] []) vacant ⌝ }
 {
     frame_entry(z, frames, VACANT)
 }
@@ -61,7 +61,7 @@ pub fn free_frame(z: Sizes, frames: &[u32; 8]) -> usize
 // The first frame whose entry is x.
 fn frame_entry(z: Sizes, frames: &[u32; 8], x: u32) -> usize
     requires { ⌜ InLimits (sizesOf z) ⌝ }
-    ensures { λ r. ⌜ r ≡ frameOf (sizesOf z) (numbers [] (now (frames .entry)) [] []) x ⌝ }
+    ensures { λ r. ⌜ r ≡ frameOf (sizesOf z) (numbers [] (now (frames .entry)) [] [] []) x ⌝ }
 {
     let end = z.frames as usize;
     let mut f = 0;
@@ -77,7 +77,7 @@ fn frame_entry(z: Sizes, frames: &[u32; 8], x: u32) -> usize
 // The frame that has page n valid.
 pub fn frame_with(z: Sizes, frames: &[u32; 8], valid: &[u64; 8], n: PageNo) -> usize
     requires { ⌜ InLimits (sizesOf z) ⌝ }
-    ensures { λ r. ⌜ r ≡ frameWith (sizesOf z) (numbers [] (now (frames .entry)) (now (valid .entry)) []) (n .0) ⌝ }
+    ensures { λ r. ⌜ r ≡ frameWith (sizesOf z) (numbers [] (now (frames .entry)) (now (valid .entry)) [] []) (n .0) ⌝ }
 {
     let end = z.frames as usize;
     let b = address::block_of(n, z.pages_per_block);

@@ -17,12 +17,13 @@ pub fn plan(
     frames: &[u32; 8],
     valid: &[u64; 8],
     recency: &[u8; 8],
+    uses: &[u32; 8],
     n: PageNo,
     wear: &[u32],
 ) -> Plan
-    requires { ⌜ WithWear (sizesOf z) (numbers (now slots) (now frames) (now valid) (now recency)) (now wear) ⌝ }
+    requires { ⌜ WithWear (sizesOf z) (numbers (now slots) (now frames) (now valid) (now recency) (now uses)) (now wear) ⌝ }
     ensures { λ r. ⌜ (
-        let d = numbers (now (slots .entry)) (now (frames .entry)) (now (valid .entry)) (now (recency .entry)) in
+        let d = numbers (now (slots .entry)) (now (frames .entry)) (now (valid .entry)) (now (recency .entry)) (now (uses .entry)) in
         planOf r ≡ plan leastRecent (sizesOf z) d (now (wear .entry)) (n .0)) ⌝ }
 {
     let at = lookup::slot_of(z, slots, n);
@@ -37,7 +38,7 @@ pub fn plan(
     if free < z.slots as usize {
         return Plan::FreeSlot(free);
     }
-    Plan::MakeRoom(eviction_plan(z, slots, frames, valid, recency, wear))
+    Plan::MakeRoom(eviction_plan(z, slots, frames, valid, recency, uses, wear))
 }
 
 // Ways 4 to 7, for the victim.
@@ -47,11 +48,12 @@ pub fn eviction_plan(
     frames: &[u32; 8],
     valid: &[u64; 8],
     recency: &[u8; 8],
+    uses: &[u32; 8],
     wear: &[u32],
 ) -> Room
-    requires { ⌜ WithWear (sizesOf z) (numbers (now slots) (now frames) (now valid) (now recency)) (now wear) ⌝ }
+    requires { ⌜ WithWear (sizesOf z) (numbers (now slots) (now frames) (now valid) (now recency) (now uses)) (now wear) ⌝ }
     ensures { λ r. ⌜ (
-        let d = numbers (now (slots .entry)) (now (frames .entry)) (now (valid .entry)) (now (recency .entry)) in
+        let d = numbers (now (slots .entry)) (now (frames .entry)) (now (valid .entry)) (now (recency .entry)) (now (uses .entry)) in
         roomOf r ≡ evictionPlan leastRecent (sizesOf z) d (now (wear .entry)) (victim (sizesOf z) d)) ⌝ }
 {
     let v = victim::victim(z, slots);

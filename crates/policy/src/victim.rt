@@ -14,7 +14,7 @@ ghost use Rattle.policy.specs.Views.{victimOf, rankOf, SlotsOf, Cleared,
 // The block with the most pages in slots, the lowest among equals; no pages where all slots are vacant.
 pub fn victim(z: Sizes, slots: &[u32; 128]) -> Victim
     requires { ⌜ SlotsOf (sizesOf z) (now slots) ⌝ }
-    ensures { λ r. ⌜ r ≡ victimOf (sizesOf z) (numbers (now (slots .entry)) [] [] []) ⌝ }
+    ensures { λ r. ⌜ r ≡ victimOf (sizesOf z) (numbers (now (slots .entry)) [] [] [] []) ⌝ }
 {
     let lead = highest_rank(z, slots);
     let pages = (lead + 4095) >> 12;
@@ -28,7 +28,7 @@ pub fn victim(z: Sizes, slots: &[u32; 128]) -> Victim
 // The victim's rank: a count times 4,096 less the block. A short table where it will do, since it is cleared for each eviction.
 fn highest_rank(z: Sizes, slots: &[u32; 128]) -> u32
     requires { ⌜ SlotsOf (sizesOf z) (now slots) ⌝ }
-    ensures { λ r. ⌜ r ≡ rankOf (victimOf (sizesOf z) (numbers (now (slots .entry)) [] [] [])) ⌝ }
+    ensures { λ r. ⌜ r ≡ rankOf (victimOf (sizesOf z) (numbers (now (slots .entry)) [] [] [] [])) ⌝ }
 {
     if z.blocks <= 256 {
         let mut counts = [0u8; 256];
@@ -41,7 +41,7 @@ fn highest_rank(z: Sizes, slots: &[u32; 128]) -> u32
 // The same, where the pages of each block are counted in a table. A rank is one number, so that one comparison finds the leader.
 fn highest_counted(z: Sizes, slots: &[u32; 128], counts: &mut [u8]) -> u32
     requires { ⌜ SlotsOf (sizesOf z) (now slots) × Cleared (sizesOf z) (now counts) ⌝ }
-    ensures { λ r. ⌜ r ≡ rankOf (victimOf (sizesOf z) (numbers (now (slots .entry)) [] [] [])) ⌝ }
+    ensures { λ r. ⌜ r ≡ rankOf (victimOf (sizesOf z) (numbers (now (slots .entry)) [] [] [] [])) ⌝ }
 {
     let end = z.slots as usize;
     let m = address::range::reciprocal(z.pages_per_block);
@@ -67,7 +67,7 @@ fn highest_counted(z: Sizes, slots: &[u32; 128], counts: &mut [u8]) -> u32
 // The fewest valid pages that a frame has.
 pub fn fewest_valid(z: Sizes, valid: &[u64; 8]) -> u32
     requires { ⌜ ValidOf (sizesOf z) (now valid) ⌝ }
-    ensures { λ r. ⌜ r ≡ fewestValid (sizesOf z) (numbers [] [] (now (valid .entry)) []) ⌝ }
+    ensures { λ r. ⌜ r ≡ fewestValid (sizesOf z) (numbers [] [] (now (valid .entry)) [] []) ⌝ }
 {
     let mut fewest = z.pages_per_block + 1;
     let mut f = 0;
@@ -85,8 +85,8 @@ pub fn fewest_valid(z: Sizes, valid: &[u64; 8]) -> u32
 pub fn least_recent_with(z: Sizes, valid: &[u64; 8], recency: &[u8; 8], v: u32) -> usize
     requires { ⌜ SomeValid (sizesOf z) (now valid) (now recency) v ⌝ }
     ensures { λ r. ⌜ (
-        let d = numbers [] [] [] (now (recency .entry)) in
-        let d′ = numbers [] [] (now (valid .entry)) [] in
+        let d = numbers [] [] [] (now (recency .entry)) [] in
+        let d′ = numbers [] [] (now (valid .entry)) [] [] in
         r ≡ leastRecent (sizesOf z) d (λ f. eqb (validCount (sizesOf z) d′ f) v)) ⌝ }
 {
     let mut i = 0;
@@ -104,7 +104,7 @@ pub fn least_recent_with(z: Sizes, valid: &[u64; 8], recency: &[u8; 8], v: u32) 
 pub fn evict_frame(z: Sizes, frames: &[u32; 8], recency: &[u8; 8], wear: &[u32]) -> usize
     requires { ⌜ AllOccupied (sizesOf z) (now frames) (now recency) (now wear) ⌝ }
     ensures { λ r. ⌜ (
-        let d = numbers [] (now (frames .entry)) [] (now (recency .entry)) in
+        let d = numbers [] (now (frames .entry)) [] (now (recency .entry)) [] in
         r ≡ evictFrame leastRecent (sizesOf z) d (now (wear .entry))) ⌝ }
 {
     let mut i = 0;

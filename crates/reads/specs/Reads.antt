@@ -1,30 +1,38 @@
 -- What a read asks, and what it leaves.
 use mathlib.Core.Path.{_≡_}
-use mathlib.Core.Bool.{true, false}
+use mathlib.Core.Bool.{true, false, cond}
 use mathlib.Core.List.{List}
 use Prim.Native.Nat.{ℕ, _*_, _<_}
-use lib.Dec.{ltb}
+use lib.Dec.{ltb, eqb}
 use lib.ListN.{length}
 use Rattle.model.specs.Sizes.{Sizes, InLimits}
 use Rattle.model.specs.Directory.{Directory}
 use Rattle.model.specs.Policy.{inSlots, frameWith, readWay}
 use Rattle.model.specs.Moves.{Memory, readDirectory, readPage}
-use Rattle.model.specs.Calls.{Page, zeroPage, flashPages, slotPages, framePages}
+use Rattle.model.specs.Calls.{Page, Cell, zeroPage, slotPages, framePages, readsPage, faultMet, mendsMet}
+use Rattle.model.specs.Formats.{chipFor}
+use Rattle.chip.specs.Formats.{cells}
+use Rattle.chip.specs.Chip.{Lent, faultOn, mendsOn}
 use Rattle.reads.specs.declared.Found.{Found}
 use Rattle.reads.specs.declared.Found.the-variants.{Slot, Frame, Flash}
+use Rattle.reads.specs.declared.Given.{Given}
+use Rattle.reads.specs.declared.Answered.{Answered}
 
 -- buffers in their sizes, a page of the chip, and a page buffer of S bytes
-pub record Readable (sz : Sizes) (flash pspace bspace : List ℕ) (n : ℕ) (page : List ℕ) : Type 0 where
-  pub limits : InLimits sz
-  pub flash-length : length flash ≡ sz .N * sz .K * sz .S
+pub record Readable (sz : Sizes) (flash codes marks pspace bspace : List ℕ) (n : ℕ) (page : List ℕ) : Type 0 where
+  pub lent : Lent sz flash codes marks
   pub pspace-length : length pspace ≡ sz .P * sz .S
   pub bspace-length : length bspace ≡ sz .B * sz .K * sz .S
   pub page-lt : n < sz .N * sz .K
   pub page-length : length page ≡ sz .S
 
--- the buffers as pages
-abbrev pub pages : Sizes → List ℕ → List ℕ → List ℕ → Memory Page
-pages sz flash pspace bspace = record { flash = flashPages sz flash; pspace = slotPages sz pspace; bspace = framePages sz bspace }
+-- the buffers as cells and pages
+abbrev pub pages : Sizes → List ℕ → List ℕ → List ℕ → List ℕ → List ℕ → Memory Cell Page
+pages sz flash codes marks pspace bspace = record {
+  flash = cells sz flash codes marks;
+  pspace = slotPages sz pspace;
+  bspace = framePages sz bspace;
+}
 
 -- where page n is
 unfoldable pub foundAt : Sizes → Directory → ℕ → Found
@@ -33,13 +41,26 @@ foundAt sz d n = elim (inSlots sz d n) [
   | false ↦ elim (ltb (frameWith sz d n) (sz .B)) [ true ↦ Frame (frameWith sz d n) | false ↦ Flash ]
 ]
 
--- a read that counts as no use
-pub record Peeked (sz : Sizes) (d : Directory) (flash pspace bspace : List ℕ) (n : ℕ) (found : Found) (page′ : List ℕ) : Type 0 where
-  pub found-is : found ≡ foundAt sz d n
-  pub page-is : page′ ≡ readPage (zeroPage sz) sz d (pages sz flash pspace bspace) n
+-- what a read meets in flash, by way 3
+abbrev pub faultRead : Sizes → Directory → List ℕ → List ℕ → List ℕ → ℕ → ℕ
+faultRead sz d flash codes marks n = faultMet sz (faultOn sz flash codes marks) (readsPage sz d n)
+
+abbrev pub mendsRead : Sizes → Directory → List ℕ → List ℕ → List ℕ → ℕ → ℕ
+mendsRead sz d flash codes marks n = mendsMet sz (mendsOn sz flash codes marks) (readsPage sz d n)
+
+-- a read that counts as no use; where flash refuses, the page buffer is as it was
+pub record Peeked (sz : Sizes) (d : Directory) (flash codes marks pspace bspace : List ℕ) (n : ℕ) (page : List ℕ) (r : Given)
+    (page′ : List ℕ) : Type 0 where
+  pub found-is : r .found ≡ foundAt sz d n
+  pub fault-is : r .fault ≡ faultRead sz d flash codes marks n
+  pub mends-are : r .mends ≡ mendsRead sz d flash codes marks n
+  pub page-is : page′ ≡ cond (eqb (r .fault) 0) (readPage (chipFor sz) (zeroPage sz) sz d (pages sz flash codes marks pspace bspace) n) page
 
 -- a read: its way, and the directory d′ and the page buffer afterwards
-pub record ReadOut (sz : Sizes) (d : Directory) (flash pspace bspace : List ℕ) (n way : ℕ) (d′ : Directory) (page′ : List ℕ) : Type 0 where
+pub record ReadOut (sz : Sizes) (d : Directory) (flash codes marks pspace bspace : List ℕ) (n : ℕ) (page : List ℕ) (r : Answered)
+    (d′ : Directory) (page′ : List ℕ) : Type 0 where
   pub directory-is : d′ ≡ readDirectory sz d n
-  pub way-is : way ≡ readWay sz d n
-  pub page-is : page′ ≡ readPage (zeroPage sz) sz d (pages sz flash pspace bspace) n
+  pub way-is : r .way ≡ readWay sz d n
+  pub fault-is : r .fault ≡ faultRead sz d flash codes marks n
+  pub mends-are : r .mends ≡ mendsRead sz d flash codes marks n
+  pub page-is : page′ ≡ cond (eqb (r .fault) 0) (readPage (chipFor sz) (zeroPage sz) sz d (pages sz flash codes marks pspace bspace) n) page

@@ -15,35 +15,79 @@ pub enum Found {
     Flash,
 }
 
-// Reads page n into the page buffer, and answers its way: 1 from a slot, 2 from a frame, which becomes most recent, 3 from flash.
+// Where it was found, the refusal that the read meets in flash (0: none), and its mends.
+pub struct Given {
+    pub found: Found,
+    pub fault: u32,
+    pub mends: u32,
+}
+
+// What a read answers: its way, or the refusal that it meets in flash (0: none), and its mends.
+pub struct Answered {
+    pub way: u32,
+    pub fault: u32,
+    pub mends: u32,
+}
+
+// Reads page n into the page buffer, and answers its way: 1 from a slot, 2 from a frame, which becomes most recent, 3 from flash. Where
+// flash refuses, the page buffer stays as it was.
 pub fn read(
     z: Sizes,
     slots: &[u32; 128],
     frames: &[u32; 8],
     valid: &[u64; 8],
     recency: &mut [u8; 8],
+    uses: &mut [u32; 8],
     flash: &[u8],
+    codes: &[u8],
+    marks: &[u8],
     pspace: &[u8],
     bspace: &[u8],
     n: PageNo,
     page: &mut [u8],
-) -> u32
+) -> Answered
     requires { ⌜ (
-        let d = numbers (now slots) (now frames) (now valid) (now recency) in
-        Sound (sizesOf z) d × Readable (sizesOf z) (now flash) (now pspace) (now bspace) (n .0) (now page)) ⌝ }
+        let d = numbers (now slots) (now frames) (now valid) (now recency) (now uses) in
+        Sound (sizesOf z) d × Readable (sizesOf z) (now flash) (now codes) (now marks) (now pspace) (now bspace) (n .0) (now page)) ⌝ }
     ensures { λ r. ⌜ (
-        let d = numbers (now (slots .entry)) (now (frames .entry)) (now (valid .entry)) (now (recency .entry)) in
-        let d′ = numbers (now (slots .entry)) (now (frames .entry)) (now (valid .entry)) (now (recency .exit)) in
-        ReadOut (sizesOf z) d (now (flash .entry)) (now (pspace .entry)) (now (bspace .entry)) (n .0) r d′ (now (page .exit))) ⌝ }
+        let d = numbers (now (slots .entry)) (now (frames .entry)) (now (valid .entry)) (now (recency .entry)) (now (uses .entry)) in
+        let d′ = numbers (now (slots .entry)) (now (frames .entry)) (now (valid .entry)) (now (recency .exit)) (now (uses .exit)) in
+        ReadOut (sizesOf z) d (now (flash .entry)) (now (codes .entry)) (now (marks .entry)) (now (pspace .entry))
+        (now (bspace .entry)) (n .0) (now (page .entry)) r d′ (now (page .exit))) ⌝ }
 {
-    let found = peek(z, slots, frames, valid, flash, pspace, bspace, n, page);
+    let given = peek(
+        z,
+        slots,
+        frames,
+        valid,
+        flash,
+        codes,
+        marks,
+        pspace,
+        bspace,
+        n,
+        page,
+    );
+    let found = given.found;
     match found {
-        Found::Slot => 1,
+        Found::Slot => Answered {
+            way: 1,
+            fault: given.fault,
+            mends: given.mends,
+        },
         Found::Frame(f) => {
             numbers::touch(z, recency, f);
-            2
+            Answered {
+                way: 2,
+                fault: given.fault,
+                mends: given.mends,
+            }
         }
-        Found::Flash => 3,
+        Found::Flash => Answered {
+            way: 3,
+            fault: given.fault,
+            mends: given.mends,
+        },
     }
 }
 
@@ -54,30 +98,45 @@ pub fn peek(
     frames: &[u32; 8],
     valid: &[u64; 8],
     flash: &[u8],
+    codes: &[u8],
+    marks: &[u8],
     pspace: &[u8],
     bspace: &[u8],
     n: PageNo,
     page: &mut [u8],
-) -> Found
-    requires { ⌜ Readable (sizesOf z) (now flash) (now pspace) (now bspace) (n .0) (now page) ⌝ }
+) -> Given
+    requires { ⌜ Readable (sizesOf z) (now flash) (now codes) (now marks) (now pspace) (now bspace) (n .0) (now page) ⌝ }
     ensures { λ r. ⌜ (
-        let d = numbers (now (slots .entry)) (now (frames .entry)) (now (valid .entry)) [] in
-        Peeked (sizesOf z) d (now (flash .entry)) (now (pspace .entry)) (now (bspace .entry)) (n .0) r (now (page .exit))) ⌝ }
+        let d = numbers (now (slots .entry)) (now (frames .entry)) (now (valid .entry)) [] [] in
+        Peeked (sizesOf z) d (now (flash .entry)) (now (codes .entry)) (now (marks .entry)) (now (pspace .entry))
+        (now (bspace .entry)) (n .0) (now (page .entry)) r (now (page .exit))) ⌝ }
 {
     let s = z.page_size as usize;
     let k = z.pages_per_block as usize;
     let i = lookup::slot_of(z, slots, n);
     if i < z.slots as usize {
         page::copy_page(page, 0, pspace, i, s);
-        return Found::Slot;
+        return Given {
+            found: Found::Slot,
+            fault: 0,
+            mends: 0,
+        };
     }
     let f = lookup::frame_with(z, frames, valid, n);
     if f < z.frames as usize {
         let o = address::offset_of(n, z.pages_per_block) as usize;
         let at = f * k + o;
         page::copy_page(page, 0, bspace, at, s);
-        return Found::Frame(f);
+        return Given {
+            found: Found::Frame(f),
+            fault: 0,
+            mends: 0,
+        };
     }
-    chip::read_page(flash, n, page, 0, s);
-    Found::Flash
+    let seen = chip::read_page(z, flash, codes, marks, n, page, 0);
+    Given {
+        found: Found::Flash,
+        fault: seen.fault,
+        mends: seen.mends,
+    }
 }

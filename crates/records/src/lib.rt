@@ -3,7 +3,7 @@ use cache::Directory;
 use cache::Sizes;
 use cache::entry;
 
-// The sizes S, K, N, P, B, W.
+// The sizes S, K, N, P, B, W, with no option.
 pub fn sizes(s: u32, k: u32, n: u32, p: u32, b: u32, w: u32) -> Sizes {
     Sizes {
         page_size: s,
@@ -12,6 +12,10 @@ pub fn sizes(s: u32, k: u32, n: u32, p: u32, b: u32, w: u32) -> Sizes {
         slots: p,
         frames: b,
         wear_limit: w,
+        policy: 0,
+        coded: 0,
+        shelf_pages: 0,
+        marked: 0,
     }
 }
 
@@ -69,12 +73,13 @@ fn all_pages(k: u32) -> u64 {
     if k <= 64 { bitmap::first(k) } else { 0 }
 }
 
-// What is spoilt: a slot, a frame, a set of valid pages or an entry of the order, and what stands there then.
+// What is spoilt: a slot, a frame, a set of valid pages, an entry of the order or a use count, and what stands there then.
 pub enum Entry {
     Slot(u32),
     Frame(u32),
     Valid(u64),
     Order(u8),
+    Uses(u32),
 }
 
 // The directory with entry i replaced by x.
@@ -84,6 +89,7 @@ pub fn with(d: Directory, i: usize, x: Entry) -> Directory {
         Entry::Frame(b) => with_frame(d, i, b),
         Entry::Valid(v) => with_valid(d, i, v),
         Entry::Order(f) => with_recency(d, i, f),
+        Entry::Uses(u) => with_uses(d, i, u),
     }
 }
 
@@ -120,5 +126,24 @@ fn with_recency(d: Directory, i: usize, f: u8) -> Directory {
     if i < 8 {
         r.recency[i] = f;
     }
+    r
+}
+
+// The directory with u uses of frame f.
+fn with_uses(d: Directory, f: usize, u: u32) -> Directory {
+    let mut r = d;
+    if f < 8 {
+        r.uses[f] = u;
+    }
+    r
+}
+
+// The sizes with these options.
+pub fn with_options(s: Sizes, policy: u32, coded: u32, shelf_pages: u32, marked: u32) -> Sizes {
+    let mut r = s;
+    r.policy = policy;
+    r.coded = coded;
+    r.shelf_pages = shelf_pages;
+    r.marked = marked;
     r
 }

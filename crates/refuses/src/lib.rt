@@ -6,6 +6,7 @@ use answer::Refusal;
 use answer::Step;
 use answer::Write;
 use cache::Directory;
+use cache::Sizes;
 use store::Cache;
 ghost use Prim.Native.Nat.{_≤_};
 
@@ -35,7 +36,18 @@ fn reads(c: Cache) -> bool {
     let pspace = [3u8; 3];
     let bspace = [4u8; 8];
     let mut page = [5u8; 1];
-    let r = c.read(&flash, &wear, &pspace, &bspace, PageNo(24), &mut page);
+    let none = [0u8; 0];
+    let r = c.read(
+        &flash,
+        &none,
+        &none,
+        &wear,
+        &pspace,
+        &bspace,
+        &none,
+        PageNo(24),
+        &mut page,
+    );
     let next = r.cache;
     let answer = r.answer;
     let Read::Refused(why) = answer else {
@@ -51,11 +63,17 @@ fn writes(c: Cache) -> bool {
     let mut pspace = [3u8; 3];
     let mut bspace = [4u8; 8];
     let page = [5u8; 1];
+    let mut codes = [0u8; 0];
+    let mut marks = [0u8; 0];
+    let mut shelf = [0u8; 0];
     let r = c.write(
         &mut flash,
+        &mut codes,
+        &mut marks,
         &mut wear,
         &mut pspace,
         &mut bspace,
+        &mut shelf,
         PageNo(30),
         &page,
     );
@@ -75,11 +93,17 @@ fn parts(c: Cache) -> bool {
     let mut bspace = [4u8; 8];
     let bytes = [6u8; 1];
     let mut page = [5u8; 1];
+    let mut codes = [0u8; 0];
+    let mut marks = [0u8; 0];
+    let mut shelf = [0u8; 0];
     let r = c.write_part(
         &mut flash,
+        &mut codes,
+        &mut marks,
         &mut wear,
         &mut pspace,
         &mut bspace,
+        &mut shelf,
         PageNo(24),
         0,
         &bytes,
@@ -99,7 +123,18 @@ fn steps(c: Cache) -> bool {
     let mut wear = [2u32; 8];
     let pspace = [3u8; 3];
     let mut bspace = [4u8; 8];
-    let r = c.flush_step(&mut flash, &mut wear, &pspace, &mut bspace);
+    let mut codes = [0u8; 0];
+    let mut marks = [0u8; 0];
+    let shelf = [0u8; 0];
+    let r = c.flush_step(
+        &mut flash,
+        &mut codes,
+        &mut marks,
+        &mut wear,
+        &pspace,
+        &mut bspace,
+        &shelf,
+    );
     let next = r.cache;
     let answer = r.answer;
     let Step::Refused(why) = answer else {
@@ -114,7 +149,18 @@ fn flushes(c: Cache) -> bool {
     let mut wear = [2u32; 8];
     let pspace = [3u8; 3];
     let mut bspace = [4u8; 8];
-    let r = c.flush(&mut flash, &mut wear, &pspace, &mut bspace);
+    let mut codes = [0u8; 0];
+    let mut marks = [0u8; 0];
+    let shelf = [0u8; 0];
+    let r = c.flush(
+        &mut flash,
+        &mut codes,
+        &mut marks,
+        &mut wear,
+        &pspace,
+        &mut bspace,
+        &shelf,
+    );
     let next = r.cache;
     let answer = r.answer;
     let Flush::Refused(why) = answer else {
@@ -174,8 +220,27 @@ fn same(a: Cache, b: Cache) -> bool {
         & (x.slots == y.slots)
         & (x.frames == y.frames)
         & (x.wear_limit == y.wear_limit)
+        & same_options(x, y)
+        & same_entries(a, b)
         & same_slots(d, e)
         & same_frames(d, e)
+}
+
+fn same_options(x: Sizes, y: Sizes) -> bool {
+    (x.policy == y.policy)
+        & (x.coded == y.coded)
+        & (x.shelf_pages == y.shelf_pages)
+        & (x.marked == y.marked)
+}
+
+fn same_entries(a: Cache, b: Cache) -> bool {
+    let mut ok = true;
+    let mut i = 0;
+    while i < 8 {
+        ok = ok & (a.entries[i] == b.entries[i]);
+        i += 1;
+    }
+    ok
 }
 
 fn same_slots(d: Directory, e: Directory) -> bool {
@@ -196,7 +261,11 @@ fn same_frames(d: Directory, e: Directory) -> bool {
     while f < 8 {
         let x = d.frames[f];
         let y = e.frames[f];
-        ok = ok & (x.0 == y.0) & (d.valid[f] == e.valid[f]) & (d.recency[f] == e.recency[f]);
+        ok = ok
+            & (x.0 == y.0)
+            & (d.valid[f] == e.valid[f])
+            & (d.recency[f] == e.recency[f])
+            & (d.uses[f] == e.uses[f]);
         f += 1;
     }
     ok

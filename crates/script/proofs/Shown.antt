@@ -4,7 +4,7 @@ use mathlib.Core.List.{List, [], _∷_, map}
 use Prim.Native.Nat.{ℕ}
 use Rattle.prelude.specs.Tests.{every}
 use Rattle.prelude.specs.Scan.{all}
-use Rattle.model.specs.Sizes.{sizesOk}
+use Rattle.model.specs.Sizes.{sizesOk, plainSizes}
 use Rattle.print.specs.Text.{bytes}
 use Rattle.script.specs.Forms.{Form, opens, writes, reads, steps, flushes, wears, bad, pieces, linesOf, wordsOf, valueFrom, isNumber}
 use Rattle.script.specs.Forms.{buffersFit, opening, same, formWith, formOfWords, bracketed, formOf}
@@ -16,7 +16,7 @@ pub record Row : Type 0 where
 
 unfoldable pub rows : List Row
 rows =
-    record { text = bytes "(open 1 2 3 2 1 9)"; says = opens (record { S = 1; K = 2; N = 3; P = 2; B = 1; W = 9 }) }
+    record { text = bytes "(open 1 2 3 2 1 9)"; says = opens (plainSizes 1 2 3 2 1 9) }
     ∷ record { text = bytes " (read 0)"; says = bad }
     ∷ record { text = bytes "(read 0) "; says = bad }
     ∷ record { text = bytes "(read  0)"; says = bad }
@@ -52,12 +52,12 @@ rows =
     ∷ record { text = bytes "(read 1)"; says = reads 1 }
     ∷ record { text = bytes "(flush)"; says = flushes }
     ∷ record { text = bytes "(write 4294967295 0)"; says = writes 4294967295 0 }
-    ∷ record { text = bytes "(open 2048 16 1 16 1 5)"; says = opens (record { S = 2048; K = 16; N = 1; P = 16; B = 1; W = 5 }) }
+    ∷ record { text = bytes "(open 2048 16 1 16 1 5)"; says = opens (plainSizes 2048 16 1 16 1 5) }
     ∷ record { text = bytes "(open 2048 16 1 17 1 5)"; says = bad }
     ∷ record { text = bytes "(open 2048 17 1 16 1 5)"; says = bad }
     ∷ record { text = bytes "(open 2048 64 4096 128 8 0)"; says = bad }
-    ∷ record { text = bytes "(open 2049 64 4096 128 8 1)"; says = opens (record { S = 2049; K = 64; N = 4096; P = 128; B = 8; W = 1 }) }
-    ∷ record { text = bytes "(open 1 2 1 1 1 0)"; says = opens (record { S = 1; K = 2; N = 1; P = 1; B = 1; W = 0 }) }
+    ∷ record { text = bytes "(open 2049 64 4096 128 8 1)"; says = opens (plainSizes 2049 64 4096 128 8 1) }
+    ∷ record { text = bytes "(open 1 2 1 1 1 0)"; says = opens (plainSizes 1 2 1 1 1 0) }
     ∷ record { text = bytes "( read 1)"; says = bad }
     ∷ record { text = bytes "(read 1"; says = bad }
     ∷ []

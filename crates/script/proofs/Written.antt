@@ -179,7 +179,7 @@ pub read-back : (f : Form) → Sayable f → formOf (written f) ≡ f
 unfolding formWith same opening
 read-back (opens sz) h =
     form-numbers "open" (numbersOf sz) (refl, (refl, (refl, (refl, tt))))
-    (h .S-fits, (h .K-fits, (h .N-fits, (h .P-fits, (h .B-fits, (h .W-fits, tt)))))) ∙ rw (h .room)
+    (h .S-fits, (h .K-fits, (h .N-fits, (h .P-fits, (h .B-fits, (h .W-fits, tt)))))) ∙ ap opening (sym (h .plain)) ∙ rw (h .room)
 read-back (writes n b) h = form-numbers "write" (n ∷ b ∷ []) (refl, (refl, (refl, (refl, (refl, tt))))) (h .0, (omega (arith, h .1), tt))
     ∙ rw (le-leb b 255 (omega (arith, h .1)))
 read-back (reads n) h = form-numbers "read" (n ∷ []) (refl, (refl, (refl, (refl, tt)))) (h, tt)
@@ -250,6 +250,7 @@ module _ (w ns : List ℕ) (fit : AllFit ns) where
           P-fits = fit-at ns 3 fit;
           B-fits = fit-at ns 4 fit;
           W-fits = fit-at ns 5 fit;
+          plain = refl;
           room = e;
         },
       )))

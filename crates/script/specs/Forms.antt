@@ -6,7 +6,7 @@ use lib.Dec.{leb, eqb}
 use lib.ListN.{length, getD, take, drop}
 use Rattle.prelude.specs.Tests.{every}
 use Rattle.prelude.specs.Scan.{all}
-use Rattle.model.specs.Sizes.{Sizes, sizesOk}
+use Rattle.model.specs.Sizes.{Sizes, sizesOk, plainSizes}
 use Rattle.print.specs.Text.{bytes}
 
 pub data Form : Type 0 where
@@ -63,7 +63,7 @@ isNumber w = every (
 
 -- the five sizes, with a wear limit that is within its own limits
 abbrev pub five : Sizes → Sizes
-five sz = record { S = sz .S; K = sz .K; N = sz .N; P = sz .P; B = sz .B; W = 1 }
+five sz = plainSizes (sz .S) (sz .K) (sz .N) (sz .P) (sz .B) 1
 
 -- no buffer needs over 32,768 bytes: flash, p-space, b-space, and wear of 4 bytes a block
 unfoldable pub buffersFit : Sizes → Bool
@@ -83,7 +83,7 @@ same (x ∷ l) [] = false
 same (x ∷ l) (y ∷ m) = eqb x y && same l m
 
 abbrev pub sizesFrom : List ℕ → Sizes
-sizesFrom ns = record { S = getD ns 0 0; K = getD ns 1 0; N = getD ns 2 0; P = getD ns 3 0; B = getD ns 4 0; W = getD ns 5 0 }
+sizesFrom ns = plainSizes (getD ns 0 0) (getD ns 1 0) (getD ns 2 0) (getD ns 3 0) (getD ns 4 0) (getD ns 5 0)
 
 -- the word w with the numbers ns after it
 unfoldable pub formWith : List ℕ → List ℕ → Form

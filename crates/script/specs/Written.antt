@@ -3,7 +3,7 @@ use mathlib.Core.Path.{_≡_}
 use mathlib.Core.Bool.{false, not, _&&_}
 use mathlib.Core.List.{List, [], _∷_, map}
 use Prim.Native.Nat.{ℕ, _<_, _^_}
-use Rattle.model.specs.Sizes.{Sizes, sizesOk}
+use Rattle.model.specs.Sizes.{Sizes, sizesOk, plainSizes}
 use Rattle.print.specs.Text.{decimal, form}
 use Rattle.script.specs.Forms.{Form, opens, writes, reads, steps, flushes, wears, bad, five, buffersFit}
 
@@ -20,7 +20,7 @@ written flushes = form "flush" []
 written wears = form "wear" []
 written bad = []
 
--- the six numbers of an opening have 32 bits, and it does not need more than a buffer has
+-- the six numbers of an opening have 32 bits, it has no option, and it does not need more than a buffer has
 pub record Opening (sz : Sizes) : Type 0 where
   pub S-fits : sz .S < 2 ^ 32
   pub K-fits : sz .K < 2 ^ 32
@@ -28,6 +28,7 @@ pub record Opening (sz : Sizes) : Type 0 where
   pub P-fits : sz .P < 2 ^ 32
   pub B-fits : sz .B < 2 ^ 32
   pub W-fits : sz .W < 2 ^ 32
+  pub plain : sz ≡ plainSizes (sz .S) (sz .K) (sz .N) (sz .P) (sz .B) (sz .W)
   pub room : (sizesOk (five sz) && not (buffersFit sz)) ≡ false
 
 -- a form that a line may say

@@ -101,6 +101,10 @@ fn sizes_of(n: [u32; 6]) -> Sizes
         slots: n[3],
         frames: n[4],
         wear_limit: n[5],
+        policy: 0,
+        coded: 0,
+        shelf_pages: 0,
+        marked: 0,
     }
 }
 
@@ -115,6 +119,10 @@ fn opening(sizes: Sizes) -> Form
         slots: sizes.slots,
         frames: sizes.frames,
         wear_limit: 1,
+        policy: 0,
+        coded: 0,
+        shelf_pages: 0,
+        marked: 0,
     };
     if five.ok() {
         if !buffers_fit(sizes) {

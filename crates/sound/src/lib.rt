@@ -14,7 +14,7 @@ ghost use lib.ListN.{length, getD};
 ghost use Rattle.prelude.specs.Scan.{all, allPairs};
 ghost use Rattle.model.specs.Sizes.{InLimits};
 ghost use Rattle.model.specs.Directory.{inFrame};
-ghost use Rattle.model.specs.Soundness.{sound, framesDiffer, listedOnce, framePast, slotPast, Shape};
+ghost use Rattle.model.specs.Soundness.{sound, framesDiffer, listedOnce, framePast, slotPast, usesOk, Shape};
 ghost use Rattle.cache.specs.View.{sizesOf, directoryOf, numbers};
 ghost use Rattle.sound.specs.Soundness.{slotGood, FramesTested, Ready};
 
@@ -26,7 +26,8 @@ pub fn directory_sound(d: Directory, sizes: Sizes) -> bool
     let frames = d.block_numbers();
     let valid = d.valid;
     let recency = d.recency;
-    lists_sound(sizes, &slots, &frames, &valid, &recency)
+    let uses = d.uses;
+    lists_sound(sizes, &slots, &frames, &valid, &recency, &uses)
 }
 
 // The same of the directory's lists.
@@ -36,10 +37,11 @@ pub fn lists_sound(
     frames: &[u32; 8],
     valid: &[u64; 8],
     recency: &[u8; 8],
+    uses: &[u32; 8],
 ) -> bool
-    requires { ⌜ Shape (numbers (now slots) (now frames) (now valid) (now recency)) ⌝ }
+    requires { ⌜ Shape (numbers (now slots) (now frames) (now valid) (now recency) (now uses)) ⌝ }
     ensures { λ r. ⌜ (
-        let d = numbers (now (slots .entry)) (now (frames .entry)) (now (valid .entry)) (now (recency .entry)) in
+        let d = numbers (now (slots .entry)) (now (frames .entry)) (now (valid .entry)) (now (recency .entry)) (now (uses .entry)) in
         r ≡ sound (sizesOf sizes) d) ⌝ }
 {
     if !sizes.ok() {
@@ -50,7 +52,8 @@ pub fn lists_sound(
     let others = frames_apart(sizes, frames)
         & order_ok(sizes, recency)
         & frames_past(sizes, frames, valid, recency)
-        & slots_past(sizes, slots);
+        & slots_past(sizes, slots)
+        & uses_ok(sizes, uses);
     if !others {
         return false;
     }
@@ -64,7 +67,7 @@ pub fn lists_sound(
 // filter.
 fn frames_ok(sizes: Sizes, frames: &[u32; 8], valid: &[u64; 8], seen: &mut [u64; 64]) -> bool
     requires { ⌜ InLimits (sizesOf sizes) × (length (now seen) ≡ 64) ⌝ }
-    ensures { λ r. ⌜ FramesTested (sizesOf sizes) (numbers [] (now (frames .entry)) (now (valid .entry)) []) (now (seen .exit)) r ⌝ }
+    ensures { λ r. ⌜ FramesTested (sizesOf sizes) (numbers [] (now (frames .entry)) (now (valid .entry)) [] []) (now (seen .exit)) r ⌝ }
 {
     let k = sizes.pages_per_block;
     let b = sizes.frames as usize;
@@ -92,7 +95,7 @@ fn frames_ok(sizes: Sizes, frames: &[u32; 8], valid: &[u64; 8], seen: &mut [u64;
 // No block stands in two frames. Frames whose blocks have different remainders by 64 are not compared.
 fn frames_apart(sizes: Sizes, frames: &[u32; 8]) -> bool
     requires { ⌜ InLimits (sizesOf sizes) ⌝ }
-    ensures { λ r. ⌜ r ≡ allPairs (sizesOf sizes .B) (framesDiffer (sizesOf sizes) (numbers [] (now (frames .entry)) [] [])) ⌝ }
+    ensures { λ r. ⌜ r ≡ allPairs (sizesOf sizes .B) (framesDiffer (sizesOf sizes) (numbers [] (now (frames .entry)) [] [] [])) ⌝ }
 {
     let b = sizes.frames as usize;
     let mut met = 0u64;
@@ -129,7 +132,7 @@ fn new_at(entries: &[u32], j: usize) -> bool
 // The order lists each frame below B once: among B entries below B, each of them.
 fn order_ok(sizes: Sizes, recency: &[u8; 8]) -> bool
     requires { ⌜ InLimits (sizesOf sizes) ⌝ }
-    ensures { λ r. ⌜ r ≡ all (sizesOf sizes .B) (listedOnce (sizesOf sizes) (numbers [] [] [] (now (recency .entry)))) ⌝ }
+    ensures { λ r. ⌜ r ≡ all (sizesOf sizes .B) (listedOnce (sizesOf sizes) (numbers [] [] [] (now (recency .entry)) [])) ⌝ }
 {
     let b = sizes.frames as usize;
     let mut listed = 0u64;
@@ -149,7 +152,7 @@ fn order_ok(sizes: Sizes, recency: &[u8; 8]) -> bool
 fn frames_past(sizes: Sizes, frames: &[u32; 8], valid: &[u64; 8], recency: &[u8; 8]) -> bool
     requires { ⌜ InLimits (sizesOf sizes) ⌝ }
     ensures { λ r. ⌜ (
-        let d = numbers [] (now (frames .entry)) (now (valid .entry)) (now (recency .entry)) in
+        let d = numbers [] (now (frames .entry)) (now (valid .entry)) (now (recency .entry)) [] in
         r ≡ all 8 (framePast (sizesOf sizes) d)) ⌝ }
 {
     let mut ok = true;
@@ -170,9 +173,9 @@ fn slots_ok(
     valid: &[u64; 8],
     seen: &mut [u64; 64],
 ) -> bool
-    requires { ⌜ Ready (sizesOf sizes) (numbers [] (now frames) (now valid) []) (now seen) ⌝ }
+    requires { ⌜ Ready (sizesOf sizes) (numbers [] (now frames) (now valid) [] []) (now seen) ⌝ }
     ensures { λ r. ⌜ (
-        let d = numbers (now (slots .entry)) (now (frames .entry)) (now (valid .entry)) [] in
+        let d = numbers (now (slots .entry)) (now (frames .entry)) (now (valid .entry)) [] [] in
         r ≡ all (sizesOf sizes .P) (slotGood (sizesOf sizes) d)) ⌝ }
 {
     let p = sizes.slots as usize;
@@ -192,7 +195,7 @@ fn slots_ok(
 // Slot j by itself, compared with each slot before it and each frame.
 fn slot_ok(sizes: Sizes, slots: &[u32; 128], frames: &[u32; 8], valid: &[u64; 8], j: usize) -> bool
     requires { ⌜ InLimits (sizesOf sizes) × (j < 128) ⌝ }
-    ensures { λ r. ⌜ r ≡ slotGood (sizesOf sizes) (numbers (now (slots .entry)) (now (frames .entry)) (now (valid .entry)) []) j ⌝ }
+    ensures { λ r. ⌜ r ≡ slotGood (sizesOf sizes) (numbers (now (slots .entry)) (now (frames .entry)) (now (valid .entry)) [] []) j ⌝ }
 {
     let y = slots[j];
     let end = sizes.blocks * sizes.pages_per_block;
@@ -203,7 +206,7 @@ fn slot_ok(sizes: Sizes, slots: &[u32; 128], frames: &[u32; 8], valid: &[u64; 8]
 fn outside(sizes: Sizes, frames: &[u32; 8], valid: &[u64; 8], n: PageNo) -> bool
     requires { ⌜ InLimits (sizesOf sizes) ⌝ }
     ensures { λ r. ⌜ (
-        let d = numbers [] (now (frames .entry)) (now (valid .entry)) [] in
+        let d = numbers [] (now (frames .entry)) (now (valid .entry)) [] [] in
         r ≡ all (sizesOf sizes .B) (λ f. not (inFrame (sizesOf sizes) d (n .0) f))) ⌝ }
 {
     let k = sizes.pages_per_block;
@@ -222,13 +225,26 @@ fn outside(sizes: Sizes, frames: &[u32; 8], valid: &[u64; 8], n: PageNo) -> bool
 // Each slot past P is vacant.
 fn slots_past(sizes: Sizes, slots: &[u32; 128]) -> bool
     requires { ⌜ InLimits (sizesOf sizes) ⌝ }
-    ensures { λ r. ⌜ r ≡ all 128 (slotPast (sizesOf sizes) (numbers (now (slots .entry)) [] [] [])) ⌝ }
+    ensures { λ r. ⌜ r ≡ all 128 (slotPast (sizesOf sizes) (numbers (now (slots .entry)) [] [] [] [])) ⌝ }
 {
     let mut ok = true;
     let mut j = sizes.slots as usize;
     while j < 128 {
         ok = ok & (slots[j] == VACANT);
         j += 1;
+    }
+    ok
+}
+
+// No uses are counted yet.
+fn uses_ok(sizes: Sizes, uses: &[u32; 8]) -> bool
+    ensures { λ r. ⌜ r ≡ all 8 (usesOk (sizesOf sizes) (numbers [] [] [] [] (now (uses .entry)))) ⌝ }
+{
+    let mut ok = true;
+    let mut f = 0;
+    while f < 8 {
+        ok = ok & (uses[f] == 0);
+        f += 1;
     }
     ok
 }

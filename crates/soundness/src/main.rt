@@ -13,6 +13,7 @@ use records::filled;
 use records::largest;
 use records::middling;
 use records::sizes;
+use records::with_options;
 use runs::entries;
 use sound::directory_sound;
 ghost use Prim.Native.Nat.{_≤_};
@@ -22,6 +23,7 @@ fn main() {
     sizes_within();
     sizes_short();
     sizes_long();
+    options();
     report::heading(b"the largest sizes");
     largest_records();
     report::heading(b"100 slots, 5 frames, 16 pages in a block");
@@ -71,6 +73,20 @@ fn sizes_long() {
     );
 }
 
+// Each option other than 0, at the largest sizes.
+fn options() {
+    let s = largest();
+    vacant(b"policy 1", with_options(s, 1, 0, 0, 0), false);
+    vacant(b"policy 2", with_options(s, 2, 0, 0, 0), false);
+    vacant(b"policy 3", with_options(s, 3, 0, 0, 0), false);
+    vacant(b"coded 1", with_options(s, 0, 1, 0, 0), false);
+    vacant(b"coded 2", with_options(s, 0, 2, 0, 0), false);
+    vacant(b"1 shelf page", with_options(s, 0, 0, 1, 0), false);
+    vacant(b"9 shelf pages", with_options(s, 0, 0, 9, 0), false);
+    vacant(b"marked 1", with_options(s, 0, 0, 0, 1), false);
+    vacant(b"marked 2", with_options(s, 0, 0, 0, 2), false);
+}
+
 // Slots that hold the last pages, and every page of blocks 0 to 7 in the frames.
 fn largest_records() {
     let s = largest();
@@ -80,6 +96,7 @@ fn largest_records() {
     slots_in_turn(s, d, 128, 262016, 262144);
     frames_in_turn(s, d, 8, 4096);
     order_in_turn(s, d, 8);
+    uses_in_turn(s, d);
 }
 
 // Slots whose pages share remainders by 4096 with each other, or with pages in frames.
@@ -102,6 +119,7 @@ fn middling_records() {
     slots_in_turn(s, d, 100, 3900, 4096);
     frames_in_turn(s, d, 5, 256);
     order_in_turn(s, d, 5);
+    uses_in_turn(s, d);
     bits_at_k(s, d);
     entries_past(s, d);
 }
@@ -143,6 +161,13 @@ fn order_in_turn(s: Sizes, d: Directory, b: u8)
     order.each(b"order with frame 1 again", Entry::Order(1), all - 1);
     order.each(b"order with frame B", Entry::Order(b), all);
     order.each(b"order with frame 255", Entry::Order(255), all);
+}
+
+// Each of the 8 use counts in turn.
+fn uses_in_turn(s: Sizes, d: Directory) {
+    let uses = entries(s, d, 0, 8);
+    uses.each(b"a use counted", Entry::Uses(1), 8);
+    uses.each(b"4294967295 uses counted", Entry::Uses(4294967295), 8);
 }
 
 // With 16 pages in a block: valid bits at 15, 16 and 63.

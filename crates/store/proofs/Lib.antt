@@ -1,4 +1,4 @@
 pub mod Opening
-pub mod Lists
+pub mod OnLists
 pub mod Demand3
 pub mod ScriptA

@@ -1,40 +1,63 @@
 -- The opening by its tests.
 use mathlib.Core.Path.{_≡_, sym, ap, _∙_}
 use mathlib.Core.Bool.{Bool, true, false}
+use mathlib.Core.List.{List}
 use Prim.Native.Nat.{ℕ}
-use lib.Dec.{leb}
+use lib.Dec.{leb, eqb}
 use lib.ListN.{length, getD}
-use borrow.Author.Tests.{eqb-true}
+use borrow.Author.Tests.{eqb-true, eqb-false}
 use Rattle.prelude.specs.Scan.{all}
-use Rattle.prelude.proofs.Tests.{each}
+use Rattle.prelude.proofs.Tests.{by-test, each}
 use Rattle.model.specs.Sizes.{Sizes, vacant, sizesOk}
 use Rattle.model.specs.Directory.{vacantDirectory, blankCache}
-use Rattle.model.specs.Calls.{Buffers, Opened, openDone, refused, lentOk, openStore}
+use Rattle.model.specs.Formats.{storeFormat}
+use Rattle.model.specs.Shelf.{ShelfOpened, noEntries, storeOpen}
+use Rattle.model.specs.Calls.{Buffers, openDone, refused, lentOk, openStore}
+use Rattle.model.proofs.Unshelved.{openedBelow, open-idle, open-busy, open-unsized}
 
-pub wear-length : (sz : Sizes) (u : Buffers) → lentOk sz u ≡ true → length (u .wear) ≡ sz .N
+pub wear-length : (sz : Sizes) (u : Buffers) → lentOk storeFormat sz u ≡ true → length (u .wear) ≡ sz .N
 unfolding lentOk
-wear-length sz u h = eqb-true _ _ (each _ h .1 .0)
+wear-length sz u h = eqb-true _ _ (each _ h .1 .1 .1 .0)
 
 module _ (sz : Sizes) (u : Buffers) where
-  abbrev refusedAs : ℕ → Opened
-  refusedAs n = record { answer = refused n vacant; cache = blankCache }
+  abbrev refusedAs : ℕ → ShelfOpened
+  refusedAs n = record { answer = refused n vacant; cache = blankCache; entries = noEntries }
 
   abbrev within : ℕ → Bool
   within n = all n (λ b. leb (getD (u .wear) b 0) (sz .W))
 
-  pub open-size : sizesOk sz ≡ false → openStore sz u ≡ refusedAs 1
+  size-below : sizesOk sz ≡ false → openedBelow sz u ≡ refusedAs 1
   unfolding openStore
-  open-size a = rw (a, openStore)
+  size-below a = rw (a, openStore)
 
-  pub open-buffer : sizesOk sz ≡ true → lentOk sz u ≡ false → openStore sz u ≡ refusedAs 2
+  buffer-below : sizesOk sz ≡ true → lentOk storeFormat sz u ≡ false → openedBelow sz u ≡ refusedAs 2
   unfolding openStore
-  open-buffer a b = rw (a, openStore) (rw b)
+  buffer-below a b = rw (a, openStore) (rw b)
 
-  pub open-overworn : sizesOk sz ≡ true → lentOk sz u ≡ true → within (length (u .wear)) ≡ false → openStore sz u ≡ refusedAs 3
+  overworn-below : sizesOk sz ≡ true → lentOk storeFormat sz u ≡ true → within (length (u .wear)) ≡ false → openedBelow sz u ≡ refusedAs 3
   unfolding openStore
-  open-overworn a b c = let d : within (sz .N) ≡ false = sym (ap within (wear-length sz u b)) ∙ c in rw (a, openStore) (rw b (rw d))
+  overworn-below a b c = let d : within (sz .N) ≡ false = sym (ap within (wear-length sz u b)) ∙ c in rw (a, openStore) (rw b (rw d))
 
-  pub open-done : sizesOk sz ≡ true → lentOk sz u ≡ true → within (length (u .wear)) ≡ true
-      → openStore sz u ≡ record { answer = openDone; cache = record { sizes = sz; directory = vacantDirectory } }
+  done-below : sizesOk sz ≡ true → lentOk storeFormat sz u ≡ true → within (length (u .wear)) ≡ true → openedBelow sz u
+      ≡ record { answer = openDone; cache = record { sizes = sz; directory = vacantDirectory }; entries = noEntries }
   unfolding openStore
-  open-done a b c = let d : within (sz .N) ≡ true = sym (ap within (wear-length sz u b)) ∙ c in rw (a, openStore) (rw b (rw d))
+  done-below a b c = let d : within (sz .N) ≡ true = sym (ap within (wear-length sz u b)) ∙ c in rw (a, openStore) (rw b (rw d))
+
+  module _ (sb : List ℕ) where
+    pub open-size : sizesOk sz ≡ false → storeOpen sz u sb ≡ refusedAs 1
+    open-size a = open-unsized sz u sb a ∙ size-below a
+
+    pub open-shelf : sizesOk sz ≡ true → (length sb ≡ 0 → ⊥) → storeOpen sz u sb ≡ refusedAs 2
+    open-shelf a e = open-busy sz u sb a e
+
+    pub open-buffer : sizesOk sz ≡ true → lentOk storeFormat sz u ≡ false → storeOpen sz u sb ≡ refusedAs 2
+    open-buffer a b = by-test (eqb (length sb) 0) (λ e. open-idle sz u sb (eqb-true _ 0 e) ∙ buffer-below a b)
+        (λ e. open-busy sz u sb a (eqb-false _ 0 e))
+
+    pub open-overworn : sizesOk sz ≡ true → lentOk storeFormat sz u ≡ true → length sb ≡ 0 → within (length (u .wear)) ≡ false
+        → storeOpen sz u sb ≡ refusedAs 3
+    open-overworn a b e c = open-idle sz u sb e ∙ overworn-below a b c
+
+    pub open-done : sizesOk sz ≡ true → lentOk storeFormat sz u ≡ true → length sb ≡ 0 → within (length (u .wear)) ≡ true
+        → storeOpen sz u sb ≡ record { answer = openDone; cache = record { sizes = sz; directory = vacantDirectory }; entries = noEntries }
+    open-done a b e c = open-idle sz u sb e ∙ done-below a b c

@@ -1,89 +1,132 @@
 -- Calls of the code on one store, with what came out of each, and demand 3 about them.
 use mathlib.Core.Path.{_≡_}
 use mathlib.Core.List.{List, [], _∷_}
-use Prim.Native.Nat.{ℕ}
+use Prim.Native.Nat.{ℕ, _*_, _<_}
+use lib.ListN.{getD}
 use Rattle.model.specs.Sizes as model
 use Rattle.model.specs.Policy.{leastRecent}
 use Rattle.model.specs.Calls as calls
-use Rattle.model.specs.Calls.{Call, Page, Buffers, Result, call, openStore, openDone}
-use Rattle.model.specs.Lists.{Chosen, Reference, bookSays, fed, opened, ReadGives, After}
+use Rattle.model.specs.Calls.{Call, Page, Outcome, flashCells, openDone}
+use Rattle.model.specs.Formats.{storeFormat, StoreMatches, StoreNear}
+use Rattle.model.specs.Lists.{noCell, Borne, After}
+use Rattle.model.specs.Shelf.{plainly, ShelfResult, ShelfReference, ShelfChosen, storeOpen, storeCall, shelfOpened, shelfBookSays, shelfFed}
+use Rattle.model.specs.Shelf.{ShelfGives}
 use Rattle.address.specs.declared.PageNo.{PageNo}
 use Rattle.cache.specs.declared.Sizes.{Sizes}
 use Rattle.cache.specs.View.{sizesOf}
-use Rattle.answer.specs.Carried.{buffers}
 use Rattle.store.specs.declared.Cache.{Cache}
 use Rattle.store.specs.declared.Opened.{Opened}
 use Rattle.store.specs.declared.ReadOut.{ReadOut}
 use Rattle.store.specs.declared.WriteOut.{WriteOut}
 use Rattle.store.specs.declared.StepOut.{StepOut}
 use Rattle.store.specs.declared.FlushOut.{FlushOut}
-use Rattle.store.specs.View.{openedOf, storeOf, readResult, writeResult, stepResult, flushResult}
+use Rattle.store.specs.View.{Lent, lent, openedOf, storeOf, readResult, writeResult, stepResult, flushResult}
 
 -- a call with its arguments, what it returned, and those of the buffers lent to it as `&mut`, as it left them
 pub data Made : Type 0 where
   read : PageNo → Page → ReadOut → Page → Made
-  write : PageNo → Page → WriteOut → Buffers → Made
-  part : PageNo → ℕ → Page → Page → WriteOut → Buffers → Page → Made
-  step : StepOut → List ℕ → List ℕ → List ℕ → Made
-  flush : FlushOut → List ℕ → List ℕ → List ℕ → Made
+  write : PageNo → Page → WriteOut → Lent → Made
+  part : PageNo → ℕ → Page → Page → WriteOut → Lent → Page → Made
+  step : StepOut → List ℕ → List ℕ → List ℕ → List ℕ → List ℕ → Made
+  flush : FlushOut → List ℕ → List ℕ → List ℕ → List ℕ → List ℕ → Made
 
 -- the call, as the model has it
 abbrev pub callOf : Made → Call Page
 callOf (read n page out page′) = calls.read (n .0) page
 callOf (write n page out u′) = calls.write (n .0) page
 callOf (part n first x page out u′ page′) = calls.part (n .0) first x page
-callOf (step out flash′ wear′ bspace′) = calls.step
-callOf (flush out flash′ wear′ bspace′) = calls.flush
+callOf (step out flash′ codes′ marks′ wear′ bspace′) = calls.step
+callOf (flush out flash′ codes′ marks′ wear′ bspace′) = calls.flush
 
 -- the record and the buffers after a call that was lent the buffers u
 abbrev pub cacheAfter : Made → Cache
 cacheAfter (read n page out page′) = out .cache
 cacheAfter (write n page out u′) = out .cache
 cacheAfter (part n first x page out u′ page′) = out .cache
-cacheAfter (step out flash′ wear′ bspace′) = out .cache
-cacheAfter (flush out flash′ wear′ bspace′) = out .cache
+cacheAfter (step out flash′ codes′ marks′ wear′ bspace′) = out .cache
+cacheAfter (flush out flash′ codes′ marks′ wear′ bspace′) = out .cache
 
-abbrev pub buffersAfter : Buffers → Made → Buffers
-buffersAfter u (read n page out page′) = u
-buffersAfter u (write n page out u′) = u′
-buffersAfter u (part n first x page out u′ page′) = u′
-buffersAfter u (step out flash′ wear′ bspace′) = buffers flash′ wear′ (u .pspace) bspace′
-buffersAfter u (flush out flash′ wear′ bspace′) = buffers flash′ wear′ (u .pspace) bspace′
+abbrev pub lentAfter : Lent → Made → Lent
+lentAfter u (read n page out page′) = u
+lentAfter u (write n page out u′) = u′
+lentAfter u (part n first x page out u′ page′) = u′
+lentAfter u (step out flash′ codes′ marks′ wear′ bspace′) = lent flash′ codes′ marks′ wear′ (u .below .pspace) bspace′ (u .shelf)
+lentAfter u (flush out flash′ codes′ marks′ wear′ bspace′) = lent flash′ codes′ marks′ wear′ (u .below .pspace) bspace′ (u .shelf)
 
 -- what came out of the call
-abbrev pub resultOf : Buffers → Made → Result
+abbrev pub resultOf : Lent → Made → ShelfResult
 resultOf u (read n page out page′) = readResult out u page′
 resultOf u (write n page out u′) = writeResult out u′ page
 resultOf u (part n first x page out u′ page′) = writeResult out u′ page′
-resultOf u (step out flash′ wear′ bspace′) = stepResult out (buffers flash′ wear′ (u .pspace) bspace′)
-resultOf u (flush out flash′ wear′ bspace′) = flushResult out (buffers flash′ wear′ (u .pspace) bspace′)
+resultOf u (step out flash′ codes′ marks′ wear′ bspace′) = stepResult out (lent flash′ codes′ marks′ wear′ (u .below .pspace) bspace′
+    (u .shelf))
+resultOf u (flush out flash′ codes′ marks′ wear′ bspace′) = flushResult out (lent flash′ codes′ marks′ wear′ (u .below .pspace) bspace′
+    (u .shelf))
 
 -- the contract of a call, on record c and buffers u: this is the `ensures` of `Cache::read`, `write`, `write_part`, `flush_step`, `flush`
-abbrev pub Contract : Cache → Buffers → Made → Type 0
-Contract c u m = resultOf u m ≡ call leastRecent (storeOf c u) (callOf m)
+abbrev pub Contract : Cache → Lent → Made → Type 0
+Contract c u m = resultOf u m ≡ storeCall leastRecent (storeOf c u) (plainly (callOf m))
 
--- each call was made on the record and the buffers that the one before it left, and its outcome is as its contract says
-abbrev pub AsContracted : Cache → Buffers → List Made → Type 0
+-- a call, before which bits of flash and codes may have flipped: flash and codes as the call finds them
+pub record Turn : Type 0 where
+  pub flash : List ℕ
+  pub codes : List ℕ
+  pub made : Made
+
+-- the buffers u with other bytes in flash and codes
+abbrev pub flippedTo : Lent → List ℕ → List ℕ → Lent
+flippedTo u flash codes = lent flash codes (u .below .marks) (u .below .wear) (u .below .pspace) (u .below .bspace) (u .shelf)
+
+abbrev pub lentTo : Lent → Turn → Lent
+lentTo u t = flippedTo u (t .flash) (t .codes)
+
+-- each call was made on the record and the buffers that the one before it left, but for flips, and its outcome is as its contract says
+abbrev pub AsContracted : Cache → Lent → List Turn → Type 0
 AsContracted c u [] = Unit {0}
-AsContracted c u (m ∷ ms) = Contract c u m × AsContracted (cacheAfter m) (buffersAfter u m) ms
+AsContracted c u (t ∷ ts) = Contract c (lentTo u t) (t .made)
+    × AsContracted (cacheAfter (t .made)) (lentAfter (lentTo u t) (t .made)) ts
 
-abbrev pub leastRecentOf : Made → Chosen
-leastRecentOf m = record { choice = leastRecent; call = callOf m }
+abbrev pub leastRecentOf : Made → ShelfChosen
+leastRecentOf m = record { choice = leastRecent; call = plainly (callOf m) }
 
--- the model's claim, with what came out of the code's calls: the answers and the reads are the book's and the page array's
-abbrev pub Claim : model.Sizes → Buffers → Cache → Buffers → Reference → List Made → Type 0
-Claim sz u₀ c u r [] = After sz u₀ (storeOf c u) r
-Claim sz u₀ c u r (m ∷ ms) = record {
-  answers : resultOf u m .answer ≡ bookSays sz r (leastRecentOf m) .answer;
-  reads : ReadGives (r .array) (callOf m) (resultOf u m);
-  then : Claim sz u₀ (cacheAfter m) (buffersAfter u m) (fed sz r (callOf m) (bookSays sz r (leastRecentOf m))) ms;
+-- what the book says of a call on the buffers u; it is told by the answer of refusals that requests add
+abbrev pub saidBy : model.Sizes → ShelfReference → Lent → Made → Outcome
+saidBy sz r u m = shelfBookSays sz (sz .shelfPages) r (leastRecentOf m) (resultOf u m .answer)
+
+-- what runs beside the store, after the call
+abbrev pub fedBy : model.Sizes → ShelfReference → Lent → Made → ShelfReference
+fedBy sz r u m = shelfFed sz (sz .shelfPages) r (leastRecentOf m) (saidBy sz r u m) (flashCells storeFormat sz (lentAfter u m .below))
+
+-- every cell is near what it was when it was last programmed, or at opening
+abbrev pub StillNear : model.Sizes → ShelfReference → Lent → Type 0
+StillNear sz r u = Borne storeFormat StoreNear sz (r .reference) (u .below)
+
+-- The model's claim, with what came out of the code's calls, as long as no more bits flip than the store has to bear: the answers and the
+-- reads are the book's and the page array's.
+abbrev pub Claim : model.Sizes → Lent → Cache → Lent → ShelfReference → List Turn → Type 0
+Claim sz u₀ c u r [] = (flash codes : List ℕ) → StillNear sz r (flippedTo u flash codes)
+    → After storeFormat StoreNear sz (u₀ .below) (storeOf c (flippedTo u flash codes) .store) (r .reference)
+Claim sz u₀ c u r (t ∷ ts) = StillNear sz r (lentTo u t) → record {
+  answers : resultOf (lentTo u t) (t .made) .answer ≡ saidBy sz r (lentTo u t) (t .made) .answer;
+  reads : ShelfGives (r .reference .array) (plainly (callOf (t .made))) (resultOf (lentTo u t) (t .made));
+  -- where no further bit flips, every cell is near still
+  near : StillNear sz (fedBy sz r (lentTo u t) (t .made)) (lentAfter (lentTo u t) (t .made));
+  then : Claim sz u₀ (cacheAfter (t .made)) (lentAfter (lentTo u t) (t .made)) (fedBy sz r (lentTo u t) (t .made)) ts;
 }
 
 -- the contract of an opening with sizes z and buffers u: this is the `ensures` of `Cache::open`
-abbrev pub OpeningContract : Sizes → Buffers → Opened → Type 0
-OpeningContract z u o = openedOf o ≡ openStore (sizesOf z) u
+abbrev pub OpeningContract : Sizes → Lent → Opened → Type 0
+OpeningContract z u o = openedOf o ≡ storeOpen (sizesOf z) (u .below) (u .shelf)
 
--- Demand 3 for the code: after one accepted opening, for every list of calls.
+-- the codes lent at opening match their pages
+abbrev pub CodesMatch : model.Sizes → Lent → Type 0
+CodesMatch sz u = (n : ℕ) → n < sz .N * sz .K → StoreMatches sz (getD (flashCells storeFormat sz (u .below)) n noCell)
+
+-- book, page array and shelf as an accepted opening leaves them
+abbrev pub begun : model.Sizes → Lent → ShelfReference
+begun sz u = shelfOpened storeFormat sz (sz .shelfPages) (u .below) (u .shelf)
+
+-- Demand 3 for the code: after one accepted opening of a store whose codes match, for every list of calls.
 abbrev pub Demand3 : Type 0
-Demand3 = (z : Sizes) (u : Buffers) (o : Opened) → OpeningContract z u o → openedOf o .answer ≡ openDone
-    → (ms : List Made) → AsContracted (o .cache) u ms → Claim (sizesOf z) u (o .cache) u (opened (sizesOf z) u) ms
+Demand3 = (z : Sizes) (u : Lent) (o : Opened) → OpeningContract z u o → openedOf o .answer ≡ openDone → CodesMatch (sizesOf z) u
+    → (ts : List Turn) → AsContracted (o .cache) u ts → Claim (sizesOf z) u (o .cache) u (begun (sizesOf z) u) ts

@@ -2,8 +2,9 @@
 use crate::Cache;
 use crate::FlushOut;
 use crate::StepOut;
+use crate::lists;
 use cache::Directory;
-ghost use Rattle.answer.specs.Carried.{buffers};
+ghost use Rattle.store.specs.View.{lent};
 ghost use Rattle.store.specs.Histories.{Contract};
 ghost use Rattle.store.specs.Histories as made;
 
@@ -12,35 +13,48 @@ impl Cache {
     pub fn flush_step(
         self,
         flash: &mut [u8],
+        codes: &mut [u8],
+        marks: &mut [u8],
         wear: &mut [u32],
         pspace: &[u8],
         bspace: &mut [u8],
+        shelf: &[u8],
     ) -> StepOut
         ensures { λ r. ⌜ (
-            let u = buffers (now (flash .entry)) (now (wear .entry)) (now (pspace .entry)) (now (bspace .entry)) in
-            Contract self u (made.step r (now (flash .exit)) (now (wear .exit)) (now (bspace .exit)))) ⌝ }
+            let u = lent (now (flash .entry)) (now (codes .entry)) (now (marks .entry))
+            (now (wear .entry)) (now (pspace .entry)) (now (bspace .entry)) (now (shelf .entry)) in
+            Contract self u (made.step r (now (flash .exit)) (now (codes .exit)) (now (marks .exit)) (now (wear .exit)) (now
+            (bspace .exit)))) ⌝ }
     {
         let z = self.sizes;
         let d = self.directory;
+        let entries = self.entries;
         let mut slots = d.page_numbers();
         let mut frames = d.block_numbers();
         let mut valid = d.valid;
         let recency = d.recency;
-        let answer = checked::flush::step(
+        let mut uses = d.uses;
+        let answer = lists::step(
             z,
+            &entries,
             &mut slots,
             &mut frames,
             &mut valid,
             &recency,
+            &mut uses,
             flash,
+            codes,
+            marks,
             wear,
             pspace,
             bspace,
+            shelf,
         );
         StepOut {
             cache: Cache {
                 sizes: z,
-                directory: Directory::of(slots, frames, valid, recency),
+                entries,
+                directory: Directory::of(slots, frames, valid, recency, uses),
             },
             answer,
         }
@@ -50,35 +64,48 @@ impl Cache {
     pub fn flush(
         self,
         flash: &mut [u8],
+        codes: &mut [u8],
+        marks: &mut [u8],
         wear: &mut [u32],
         pspace: &[u8],
         bspace: &mut [u8],
+        shelf: &[u8],
     ) -> FlushOut
         ensures { λ r. ⌜ (
-            let u = buffers (now (flash .entry)) (now (wear .entry)) (now (pspace .entry)) (now (bspace .entry)) in
-            Contract self u (made.flush r (now (flash .exit)) (now (wear .exit)) (now (bspace .exit)))) ⌝ }
+            let u = lent (now (flash .entry)) (now (codes .entry)) (now (marks .entry))
+            (now (wear .entry)) (now (pspace .entry)) (now (bspace .entry)) (now (shelf .entry)) in
+            Contract self u (made.flush r (now (flash .exit)) (now (codes .exit)) (now (marks .exit)) (now (wear .exit)) (now
+            (bspace .exit)))) ⌝ }
     {
         let z = self.sizes;
         let d = self.directory;
+        let entries = self.entries;
         let mut slots = d.page_numbers();
         let mut frames = d.block_numbers();
         let mut valid = d.valid;
         let recency = d.recency;
-        let answer = checked::flush::flush(
+        let mut uses = d.uses;
+        let answer = lists::flush(
             z,
+            &entries,
             &mut slots,
             &mut frames,
             &mut valid,
             &recency,
+            &mut uses,
             flash,
+            codes,
+            marks,
             wear,
             pspace,
             bspace,
+            shelf,
         );
         FlushOut {
             cache: Cache {
                 sizes: z,
-                directory: Directory::of(slots, frames, valid, recency),
+                entries,
+                directory: Directory::of(slots, frames, valid, recency, uses),
             },
             answer,
         }

@@ -1,19 +1,22 @@
 // The page store: the cache record, and the calls on it. Each call takes the record by value with the lent buffers and hands
 // back the next record beside its answer; a refused call changes nothing.
 mod flush; // flush.rt: a flush step, and a flush
+mod lists; // lists.rt: the calls on the directory's lists
 mod open; // open.rt: the blank record, and opening a store
 mod part; // part.rt: writing part of a page
 mod read; // read.rt: reading a page
+mod shelf; // shelf.rt: no call has entries or a shelf yet
 mod write; // write.rt: writing a page
 
 use answer::Opening;
 use cache::Directory;
 use cache::Sizes;
 
-// The cache record.
+// The cache record: sizes and options, the shelf's entries (page numbers or VACANT, request A8), the directory.
 #[repr(C)]
 pub struct Cache {
     pub sizes: Sizes,
+    pub entries: [u32; 8],
     pub directory: Directory,
 }
 

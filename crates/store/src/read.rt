@@ -1,9 +1,9 @@
 // Reading a page.
 use crate::Cache;
 use crate::ReadOut;
+use crate::lists;
 use address::PageNo;
-use cache::Directory;
-ghost use Rattle.answer.specs.Carried.{buffers};
+ghost use Rattle.store.specs.View.{lent};
 ghost use Rattle.store.specs.Histories.{Contract};
 ghost use Rattle.store.specs.Histories as made;
 
@@ -13,48 +13,52 @@ impl Cache {
     pub fn read(
         self,
         flash: &[u8],
+        codes: &[u8],
+        marks: &[u8],
         wear: &[u32],
         pspace: &[u8],
         bspace: &[u8],
+        shelf: &[u8],
         n: PageNo,
         page: &mut [u8],
     ) -> ReadOut
         ensures { λ r. ⌜ (
-            let u = buffers (now (flash .entry)) (now (wear .entry)) (now (pspace .entry)) (now (bspace .entry)) in
+            let u = lent (now (flash .entry)) (now (codes .entry)) (now (marks .entry))
+            (now (wear .entry)) (now (pspace .entry)) (now (bspace .entry)) (now (shelf .entry)) in
             Contract self u (made.read n (now (page .entry)) r (now (page .exit)))) ⌝ }
     {
         let z = self.sizes;
         let d = self.directory;
+        let entries = self.entries;
         let slots = d.page_numbers();
         let frames = d.block_numbers();
         let valid = d.valid;
         let mut recency = d.recency;
-        let answer = checked::read::read(
+        let mut uses = d.uses;
+        let answer = lists::read(
             z,
+            &entries,
             &slots,
             &frames,
             &valid,
             &mut recency,
+            &mut uses,
             flash,
+            codes,
+            marks,
             wear,
             pspace,
             bspace,
+            shelf,
             n,
             page,
         );
-        let blocks = d.frames;
-        let pages = d.slots;
-        ReadOut {
-            cache: Cache {
-                sizes: z,
-                directory: Directory {
-                    recency,
-                    valid,
-                    frames: blocks,
-                    slots: pages,
-                },
-            },
-            answer,
-        }
+        // the record taken is the one handed back, so that its slots are copied once
+        let mut directory = self.directory;
+        directory.recency = recency;
+        directory.uses = uses;
+        let mut cache = self;
+        cache.directory = directory;
+        ReadOut { cache, answer }
     }
 }

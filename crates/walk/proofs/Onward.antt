@@ -12,13 +12,14 @@ use borrow.Author.Tests.{ltb-true, ltb-false, leb-true, lt-ltb, le-leb}
 use Rattle.prelude.proofs.Tests.{by-test, and-l, and-r, and-i, clash}
 use Rattle.model.specs.Directory.{blankCache}
 use Rattle.model.specs.Directory as directory
-use Rattle.model.specs.Calls.{Buffers, Store}
+use Rattle.model.specs.Shelf.{noEntries, ShelfStore}
+use Rattle.store.specs.View.{Lent}
 use Rattle.print.specs.Print.{Printed, lineRoom, badLine}
 use Rattle.print.proofs.Put.{printed-front}
 use Rattle.script.specs.Forms.{Form}
 use Rattle.script.specs.Walk.{line, itemAt}
 use Rattle.script.proofs.Words.{lines-none}
-use Rattle.answer.specs.Carried.{buffers}
+use Rattle.store.specs.View.{plainLent}
 use Rattle.cache.specs.View.{sizesOf}
 use Rattle.store.specs.declared.Cache.{Cache}
 use Rattle.store.specs.View.{cacheOf}
@@ -31,7 +32,7 @@ use Rattle.walk.specs.Walk.{inUse, printing, Ready, More, Started, Onwar
 use Rattle.walk.proofs.Rest.{held-blank, blank-front, onward, Stands, rest-item, item-stands, rest-output, over-output}
 
 -- nothing is left at the end
-pub rest-none : (script : List ℕ) (s : Store) (at i : ℕ) → length script ≤ at → rest script s at i ≡ []
+pub rest-none : (script : List ℕ) (s : ShelfStore) (at i : ℕ) → length script ≤ at → rest script s at i ≡ []
 unfolding printedBy
 rest-none script s at i h = ap (printedBy s i) (lines-none script at h)
 
@@ -54,10 +55,10 @@ module _ (script : List ℕ) (w : Walk) (out : List ℕ) where
 -- ---- several lines
 
 -- the memory keeps its lengths
-pub memory-kept : {m : Buffers} {page : List ℕ} → Memory m page → {flash wear pspace bspace page′ : List ℕ}
-    → length flash ≡ length (m .flash) → length wear ≡ length (m .wear)
-    → length pspace ≡ length (m .pspace) → length bspace ≡ length (m .bspace) → length page′ ≡ length page
-    → Memory (buffers flash wear pspace bspace) page′
+pub memory-kept : {m : Lent} {page : List ℕ} → Memory m page → {flash wear pspace bspace page′ : List ℕ}
+    → length flash ≡ length (m .below .flash) → length wear ≡ length (m .below .wear)
+    → length pspace ≡ length (m .below .pspace) → length bspace ≡ length (m .below .bspace) → length page′ ≡ length page
+    → Memory (plainLent flash wear pspace bspace) page′
 memory-kept h f w p b g = record {
   flash-length = f ∙ h .flash-length;
   wear-length = w ∙ h .wear-length;
@@ -66,22 +67,23 @@ memory-kept h f w p b g = record {
   page-length = g ∙ h .page-length;
 }
 
-pub onward-none : (script : List ℕ) (w : Walk) (m : Buffers) (out : List ℕ) → Ready script w out → Onward script w m out w m out
+pub onward-none : (script : List ℕ) (w : Walk) (m : Lent) (out : List ℕ) → Ready script w out → Onward script w m out w m out
 onward-none script w m out h = record { output = refl; ready = h; from = omega arith }
 
-pub onward-then : {script : List ℕ} {w v r : Walk} {m n q : Buffers} {out mid new : List ℕ} → Onward script w m out v n mid
+pub onward-then : {script : List ℕ} {w v r : Walk} {m n q : Lent} {out mid new : List ℕ} → Onward script w m out v n mid
     → Onward script v n mid r q new → Onward script w m out r q new
 onward-then h k = record { output = k .output ∙ h .output; ready = k .ready; from = omega arith }
 
 -- ---- the start
 
-module _ (script : List ℕ) (c : Cache) (blank : cacheOf c ≡ blankCache) (out : List ℕ) where
+module _ (script : List ℕ) (c : Cache) (blank : (cacheOf c ≡ blankCache) × (c .entries ≡ noEntries)) (out : List ℕ) where
   held-start : Held (sizesOf (c .sizes))
-  held-start = subst (λ (m : directory.Cache). Held (m .sizes)) (sym blank) held-blank
+  held-start = subst (λ (m : directory.Cache). Held (m .sizes)) (sym (blank .0)) held-blank
 
   pub started-short : length script ≤ 32768 → Started script (record { cache = c; at = 0; number = 1; printed = 0 }) out
   started-short h = record {
-    output = λ m. ap (λ (s : Store). rest script s 0 1) (blank-front c blank (m .flash) (m .wear) (m .pspace) (m .bspace))
+    output = λ m. ap (λ (s : ShelfStore). rest script s 0 1) (blank-front c blank (m .below .flash) (m .below .wear) (m .below .pspace)
+        (m .below .bspace))
         ∙ rest-output script h;
     ready = record { held = held-start; short = λ l. h; number-le = omega arith; printed-le = omega arith };
     within = omega arith;
@@ -117,14 +119,14 @@ left-room a k out h =
     let l = length-take-le (length out - a) (drop a out) (omega arith) in
     omega arith
 
-module _ (script : List ℕ) (w : Walk) (m : Buffers) (out : List ℕ) (ready : Ready script w out) (more : More script w out) where
+module _ (script : List ℕ) (w : Walk) (m : Lent) (out : List ℕ) (ready : Ready script w out) (more : More script w out) where
   -- the line at the walk's place is carried out, and printed into the part of out that is left
   pub onward-line : (f : Form) (n next : ℕ) → itemAt script (w .at) (w .number) ≡ line f n next
       → (r : Lined) (flash wear pspace bspace part : List ℕ)
       → CarriedOut (carried (inUse w m) f n) r flash wear pspace bspace part
       → (e : ℕ) → length part ≡ length (midOf (w .printed) e out) → r .printed ≤ length part
       → Onward script w m out (record { cache = r .cache; at = next; number = n + 1; printed = w .printed + r .printed })
-      (buffers flash wear pspace bspace) (putMid (w .printed) e out part) × (w .at < next)
+      (plainLent flash wear pspace bspace) (putMid (w .printed) e out part) × (w .at < next)
   onward-line f n next item r flash wear pspace bspace part h e long k =
       let s = subst (Stands script (w .at) (w .number)) item (item-stands script (w .at) (w .number)) in
       let p0 = ready .printed-le in
@@ -150,14 +152,14 @@ module _ (script : List ℕ) (w : Walk) (m : Buffers) (out : List ℕ) (ready : 
         s2,
       )
     where
-      effectStore : Lined → List ℕ → List ℕ → List ℕ → List ℕ → Store
+      effectStore : Lined → List ℕ → List ℕ → List ℕ → List ℕ → ShelfStore
       effectStore r flash wear pspace bspace = inUse (record { cache = r .cache; at = 0; number = 0; printed = 0 })
-          (buffers flash wear pspace bspace)
+          (plainLent flash wear pspace bspace)
 
 -- ---- the output
 
 -- a walk from the start that has no more, or no room: what is printed is the output's first bytes, and all of it where there is room
-pub output-printed : {script : List ℕ} {w r : Walk} {m n : Buffers} {old out : List ℕ} → Started script w old
+pub output-printed : {script : List ℕ} {w r : Walk} {m n : Lent} {old out : List ℕ} → Started script w old
     → Onward script w m old r n out → (More script r out → ⊥) → Output (outputOf script) out (r .printed)
 output-printed {script} {w} {r} {m} {n} {old} {out} start on none =
     let e : printing script r n out ≡ outputOf script = on .output ∙ start .output m in

@@ -9,10 +9,9 @@ use lib.ListN.{length, getD, drop}
 use borrow.Author.Tests.{ltb-true, ltb-false, lt-ltb, le-ltb}
 use Rattle.prelude.specs.Tests.{every}
 use Rattle.prelude.proofs.Tests.{by-test, and-not-l, not-f}
-use Rattle.model.specs.Sizes.{Sizes, sizesOk}
-use Rattle.model.specs.Directory as directory
+use Rattle.model.specs.Sizes.{Sizes, sizesOk, isCoded, isMarked}
 use Rattle.model.specs.Directory.{blankCache}
-use Rattle.model.specs.Calls.{Store}
+use Rattle.model.specs.Shelf.{noEntries, ShelfStore}
 use Rattle.model.proofs.Soundness.{limits-of, limits-test}
 use Rattle.print.specs.Text.{bytes}
 use Rattle.print.specs.Print.{badLine}
@@ -31,8 +30,10 @@ use Rattle.interpret.specs.View.{Held, Sized, front}
 -- ---- before an opening
 
 pub held-blank : Held (blankCache .sizes)
-unfolding blankCache
+unfolding blankCache isCoded isMarked
 held-blank = record {
+  no-codes = refl;
+  no-marks = refl;
   S-high = omega arith;
   K-high = omega arith;
   N-high = omega arith;
@@ -43,11 +44,14 @@ held-blank = record {
 }
 
 -- the blank record has no buffers in the memory
-pub blank-front : (c : Cache) → cacheOf c ≡ blankCache → (flash wear pspace bspace : List ℕ)
+pub blank-front : (c : Cache) → (cacheOf c ≡ blankCache) × (c .entries ≡ noEntries) → (flash wear pspace bspace : List ℕ)
     → storeOf c (front (sizesOf (c .sizes)) flash wear pspace bspace) ≡ blankStore
 unfolding blankCache
-blank-front c e flash wear pspace bspace = ap (λ (m : directory.Cache).
-    record { cache = m; lent = front (m .sizes) flash wear pspace bspace }) e
+blank-front c e flash wear pspace bspace = λ i. record {
+  store = record { cache = e .0 i; lent = front (e .0 i .sizes) flash wear pspace bspace .below };
+  entries = e .1 i;
+  shelf = [];
+}
 
 -- ---- the form of every line is one whose buffers fit
 
@@ -67,6 +71,10 @@ five-ok sz ok =
       B-high = h .B-high;
       W-low = omega arith;
       W-high = omega arith;
+      policy-is = refl;
+      coded-is = refl;
+      shelf-is = refl;
+      marked-is = refl;
     })
 
 sized-cond : (b : Bool) (x y : Form) → Sized x → Sized y → Sized (cond b x y)
@@ -117,7 +125,7 @@ sized-form l = sized-cond (bracketed l) (formOfWords (wordsOf (inside l))) bad (
 -- ---- the walk
 
 -- what stands at the place is carried out, and the walk goes on
-abbrev pub onward : List ℕ → Store → Item → List ℕ
+abbrev pub onward : List ℕ → ShelfStore → Item → List ℕ
 onward script s (line f n next) = carried s f n .printed ++ rest script (carried s f n .store) next (n + 1)
 onward script s end = []
 
@@ -127,7 +135,7 @@ Stands script at i (line f n next) = Sized f × ((n ≡ i) × ((at < next) × (n
 Stands script at i end = length script ≤ at
 
 module _ (script : List ℕ) (at i : ℕ) where
-  pub rest-item : (s : Store) → rest script s at i ≡ onward script s (itemAt script at i)
+  pub rest-item : (s : ShelfStore) → rest script s at i ≡ onward script s (itemAt script at i)
   unfolding printedBy
   rest-item s = by-test (ltb at (length script))
       (λ t. let h = ltb-true at (length script) t in ap (printedBy s i) (lines-from script at h)

@@ -4,7 +4,7 @@ use store::Cache;
 ghost use Prim.Native.Nat.{_≤_, _<_};
 ghost use lib.ListN.{length};
 ghost use Rattle.print.specs.Print.{wearRoom};
-ghost use Rattle.answer.specs.Carried.{buffers};
+ghost use Rattle.store.specs.View.{plainLent};
 ghost use Rattle.interpret.specs.Lines.{outputOf};
 ghost use Rattle.interpret.specs.View.{Memory};
 ghost use Rattle.walk.specs.Walk.{Ready, More, Started, Onward, Output};
@@ -54,11 +54,11 @@ pub fn run(
     page: &mut [u8],
     out: &mut [u8],
 ) -> Walk
-    requires { ⌜ Memory (buffers (now flash) (now wear) (now pspace) (now bspace)) (now page) ⌝ }
+    requires { ⌜ Memory (plainLent (now flash) (now wear) (now pspace) (now bspace)) (now page) ⌝ }
     requires { ⌜ Ready (now script) w (now out) ⌝ }
     ensures { λ r. ⌜ (
-        let u = buffers (now (flash .entry)) (now (wear .entry)) (now (pspace .entry)) (now (bspace .entry)) in
-        let u′ = buffers (now (flash .exit)) (now (wear .exit)) (now (pspace .exit)) (now (bspace .exit)) in
+        let u = plainLent (now (flash .entry)) (now (wear .entry)) (now (pspace .entry)) (now (bspace .entry)) in
+        let u′ = plainLent (now (flash .exit)) (now (wear .exit)) (now (pspace .exit)) (now (bspace .exit)) in
         Onward (now (script .entry)) w u (now (out .entry)) r u′ (now (out .exit))) ⌝ }
     ensures { λ r. ⌜ (More (now (script .entry)) w (now (out .entry)) → w .at < r .at) ⌝ }
     ensures { λ r. ⌜ (More (now (script .entry)) r (now (out .exit)) → ⊥) ⌝ }
@@ -81,12 +81,12 @@ fn advance(
     page: &mut [u8],
     out: &mut [u8],
 ) -> Walk
-    requires { ⌜ Memory (buffers (now flash) (now wear) (now pspace) (now bspace)) (now page) ⌝ }
+    requires { ⌜ Memory (plainLent (now flash) (now wear) (now pspace) (now bspace)) (now page) ⌝ }
     requires { ⌜ Ready (now script) w (now out) ⌝ }
     requires { ⌜ More (now script) w (now out) ⌝ }
     ensures { λ r. ⌜ (
-        let u = buffers (now (flash .entry)) (now (wear .entry)) (now (pspace .entry)) (now (bspace .entry)) in
-        let u′ = buffers (now (flash .exit)) (now (wear .exit)) (now (pspace .exit)) (now (bspace .exit)) in
+        let u = plainLent (now (flash .entry)) (now (wear .entry)) (now (pspace .entry)) (now (bspace .entry)) in
+        let u′ = plainLent (now (flash .exit)) (now (wear .exit)) (now (pspace .exit)) (now (bspace .exit)) in
         Onward (now (script .entry)) w u (now (out .entry)) r u′ (now (out .exit))) ⌝ }
     ensures { λ r. ⌜ w .at < r .at ⌝ }
 {

@@ -10,7 +10,7 @@ use Rattle.model.specs.Directory.{Directory}
 use Rattle.model.specs.Soundness.{Sound}
 use Rattle.model.specs.Policy.{inSlots, slotOf, validCount, slotCount}
 use Rattle.model.specs.Moves.{Memory, recencyAfter, touched, putSlot, entered, joined, joinedPages, exchanged, exchangedPages, putSlotPage}
-use Rattle.model.specs.Calls.{Page, zeroPage, slotPages, framePages}
+use Rattle.model.specs.Calls.{Page, Cell, zeroPage, slotPages, framePages}
 use Rattle.model.proofs.Lookup.{found-slot}
 use Rattle.model.proofs.Kept.{joined-sound, exchanged-sound, exchanged-vacant}
 use Rattle.model.proofs.Plan.{some-bit, joined-vacant}
@@ -22,7 +22,7 @@ use Rattle.writes.specs.Writes.{OverSlot}
 use Rattle.writes.specs.Enter.{Joining, Changing, Enters, Entered}
 
 module _ (sz : Sizes) (d : Directory) (f : ℕ) (pspace page : List ℕ) (q : Enters sz d f pspace page) (i : ℕ)
-    (first-vacant : i ≡ slotOf sz (numbers (d .slots) [] [] []) vacant) where
+    (first-vacant : i ≡ slotOf sz (numbers (d .slots) [] [] [] []) vacant) where
   slot-is : i ≡ slotOf sz d vacant
   unfolding slotOf
   slot-is = first-vacant
@@ -36,9 +36,9 @@ module _ (sz : Sizes) (d : Directory) (f : ℕ) (pspace page : List ℕ) (q : En
   pub over : OverSlot sz i pspace page
   over = record { limits = q .sound .limits; slot-lt = slot-lt; pspace-length = q .pspace-length; page-length = q .page-length }
 
-  pub enter-is : (n : ℕ) (order pspace′ : List ℕ) → order ≡ recencyAfter sz (numbers [] [] [] (d .recency)) f
+  pub enter-is : (n : ℕ) (order pspace′ : List ℕ) → order ≡ recencyAfter sz (numbers [] [] [] (d .recency) []) f
       → slotPages sz pspace′ ≡ set (slotPages sz pspace) i page
-      → Entered sz d f pspace n page (numbers (set (d .slots) i n) (d .frames) (d .valid) order) pspace′
+      → Entered sz d f pspace n page (numbers (set (d .slots) i n) (d .frames) (d .valid) order (d .uses)) pspace′
   unfolding entered touched slotOf putSlot
   enter-is n order pspace′ eo ep = record {
     directory-is = ap (λ (x : Directory). putSlot x i n) (touched-is sz d f order eo)
@@ -113,5 +113,5 @@ module _ (sz : Sizes) (d : Directory) (v f : ℕ) (pspace bspace page : List ℕ
           ∙ ap (λ (x : Directory). set (slotPages sz pspace₁) (slotOf sz x vacant) page) (a .directory)) i;
       bspace = framePages sz bspace′;
     })
-        ∙ ap (λ (m : Memory Page). putSlotPage m (slotOf sz (exchanged sz d v f) vacant) page) (a .pages);
+        ∙ ap (λ (m : Memory Cell Page). putSlotPage m (slotOf sz (exchanged sz d v f) vacant) page) (a .pages);
   }

@@ -14,7 +14,8 @@ use Rattle.model.specs.Policy.{Choice, slotOf, frameOf, isWorn, Plan, slotHit, 
 use Rattle.model.specs.Policy.{victim, leastRecent, due}
 use Rattle.model.specs.Moves.{Memory, wornBy, touched, putSlot, entered, stepped, written, steppedPages, writtenPages, putSlotPage}
 use Rattle.model.specs.Moves.{putFramePage, joined, joinedPages, filled, exchangedPages}
-use Rattle.model.specs.Calls.{Answer, writeDone, refused, writeOutcome, Page, Buffers, zeroPage, flashPages, slotPages, framePages}
+use Rattle.model.specs.Formats.{storeFormat, chipFor}
+use Rattle.model.specs.Calls.{Answer, writeDone, refused, writeOutcome, Page, Cell, Buffers, zeroPage, flashCells, slotPages, framePages}
 use Rattle.model.specs.Calls.{memoryOf}
 use Rattle.model.specs.Lists.{Picks}
 use Rattle.model.proofs.Lookup.{block-vacant, found-slot, frame-is, no-frame}
@@ -25,7 +26,7 @@ use Rattle.moves.specs.Spaces.{spaces}
 use Rattle.policy.specs.declared.decision.Plan as code
 use Rattle.policy.specs.declared.decision.Room as room
 use Rattle.policy.specs.Views.{planOf, roomOf}
-use Rattle.clean.specs.Clean.{Cleanable, BlockCleaned}
+use Rattle.clean.specs.Plain.{Cleanable, BlockCleaned}
 use Rattle.answer.specs.Carried.{Carried, buffers}
 use Rattle.writes.specs.Writes.{Writable, state, Wrote, PlanHolds, MakesRoom}
 use Rattle.writes.specs.Enter.{Joining}
@@ -33,51 +34,56 @@ use Rattle.writes.proofs.Entering.{JoinEntered, ExchangeEntered}
 
 -- ---- ways 1 to 6
 
-module _ (sz : Sizes) (d : Directory) (flash wear pspace bspace : List ℕ) (n : ℕ) (page : Page) where
+module _ (sz : Sizes) (d : Directory) (flash codes marks wear pspace bspace : List ℕ) (n : ℕ) (page : Page) where
   abbrev lent : Buffers
-  lent = buffers flash wear pspace bspace
+  lent = buffers flash codes marks wear pspace bspace
 
   pub way-1 : (i : ℕ) (pspace′ : List ℕ) → slotPages sz pspace′ ≡ set (slotPages sz pspace) i page
-      → Wrote sz d lent n page (slotHit i) (writeDone 1 vacant 0) d (buffers flash wear pspace′ bspace)
-  unfolding writeOutcome isWorn written wornBy writtenPages putSlotPage memoryOf
+      → Wrote sz d lent n page (slotHit i) (writeDone 1 vacant 0) d (buffers flash codes marks wear pspace′ bspace)
+  unfolding writeOutcome isWorn written wornBy writtenPages putSlotPage memoryOf flashCells
   way-1 i pspace′ h = record {
     answer-is = refl;
     directory-is = refl;
     wear-is = refl;
-    pages-are = λ j. record { flash = flashPages sz flash; pspace = h j; bspace = framePages sz bspace };
+    pages-are = λ j. record { flash = flashCells storeFormat sz lent; pspace = h j; bspace = framePages sz bspace };
   }
 
   pub way-2 : (f : ℕ) (d′ : Directory) (bspace′ : List ℕ) → d′ ≡ touched sz d f
       → framePages sz bspace′ ≡ set (framePages sz bspace) (f * sz .K + n % sz .K) page
-      → Wrote sz d lent n page (frameHit f) (writeDone 2 vacant 0) d′ (buffers flash wear pspace bspace′)
-  unfolding writeOutcome isWorn written wornBy writtenPages putFramePage memoryOf
+      → Wrote sz d lent n page (frameHit f) (writeDone 2 vacant 0) d′ (buffers flash codes marks wear pspace bspace′)
+  unfolding writeOutcome isWorn written wornBy writtenPages putFramePage memoryOf flashCells
   way-2 f d′ bspace′ e h = record {
     answer-is = refl;
     directory-is = e;
     wear-is = refl;
-    pages-are = λ j. record { flash = flashPages sz flash; pspace = slotPages sz pspace; bspace = h j };
+    pages-are = λ j. record { flash = flashCells storeFormat sz lent; pspace = slotPages sz pspace; bspace = h j };
   }
 
   pub way-3 : (i : ℕ) (d′ : Directory) (pspace′ : List ℕ) → d′ ≡ putSlot d i n → slotPages sz pspace′ ≡ set (slotPages sz pspace) i page
-      → Wrote sz d lent n page (freeSlot i) (writeDone 3 vacant 0) d′ (buffers flash wear pspace′ bspace)
-  unfolding writeOutcome isWorn written wornBy writtenPages putSlotPage memoryOf
+      → Wrote sz d lent n page (freeSlot i) (writeDone 3 vacant 0) d′ (buffers flash codes marks wear pspace′ bspace)
+  unfolding writeOutcome isWorn written wornBy writtenPages putSlotPage memoryOf flashCells
   way-3 i d′ pspace′ e h = record {
     answer-is = refl;
     directory-is = e;
     wear-is = refl;
-    pages-are = λ j. record { flash = flashPages sz flash; pspace = h j; bspace = framePages sz bspace };
+    pages-are = λ j. record { flash = flashCells storeFormat sz lent; pspace = h j; bspace = framePages sz bspace };
   }
 
   -- the two spaces beside the flash
-  beside : (m : Memory Page) (pspace′ bspace′ : List ℕ) → spaces sz pspace′ bspace′ ≡ m
-      → memoryOf sz (buffers flash wear pspace′ bspace′) ≡ record { flash = flashPages sz flash; pspace = m .pspace; bspace = m .bspace }
-  unfolding spaces memoryOf
-  beside m pspace′ bspace′ h = ap (λ (x : Memory Page). record { flash = flashPages sz flash; pspace = x .pspace; bspace = x .bspace }) h
+  beside : (m : Memory Cell Page) (pspace′ bspace′ : List ℕ) → spaces sz pspace′ bspace′ ≡ m
+      → memoryOf storeFormat sz (buffers flash codes marks wear pspace′ bspace′)
+      ≡ record { flash = flashCells storeFormat sz lent; pspace = m .pspace; bspace = m .bspace }
+  unfolding spaces memoryOf flashCells
+  beside m pspace′ bspace′ h = ap (λ (x : Memory Cell Page). record {
+    flash = flashCells storeFormat sz lent;
+    pspace = x .pspace;
+    bspace = x .bspace;
+  }) h
 
   module _ (v f : ℕ) (d′ : Directory) (pspace′ bspace′ : List ℕ) where
     pub way-4 : JoinEntered sz d v f pspace bspace n page d′ pspace′ bspace′
-        → Wrote sz d lent n page (join v f) (writeDone 4 vacant 0) d′ (buffers flash wear pspace′ bspace′)
-    unfolding writeOutcome isWorn written wornBy writtenPages putSlotPage joinedPages filled memoryOf spaces
+        → Wrote sz d lent n page (join v f) (writeDone 4 vacant 0) d′ (buffers flash codes marks wear pspace′ bspace′)
+    unfolding writeOutcome isWorn written wornBy writtenPages putSlotPage joinedPages filled memoryOf spaces flashCells
     way-4 h = record {
       answer-is = refl;
       directory-is = h .directory-is;
@@ -86,8 +92,8 @@ module _ (sz : Sizes) (d : Directory) (flash wear pspace bspace : List ℕ) (n :
     }
 
     pub way-5 : JoinEntered sz d v f pspace bspace n page d′ pspace′ bspace′
-        → Wrote sz d lent n page (fill v f) (writeDone 5 vacant 0) d′ (buffers flash wear pspace′ bspace′)
-    unfolding writeOutcome isWorn written wornBy writtenPages putSlotPage joinedPages filled memoryOf spaces
+        → Wrote sz d lent n page (fill v f) (writeDone 5 vacant 0) d′ (buffers flash codes marks wear pspace′ bspace′)
+    unfolding writeOutcome isWorn written wornBy writtenPages putSlotPage joinedPages filled memoryOf spaces flashCells
     way-5 h = record {
       answer-is = refl;
       directory-is = h .directory-is;
@@ -96,8 +102,8 @@ module _ (sz : Sizes) (d : Directory) (flash wear pspace bspace : List ℕ) (n :
     }
 
     pub way-6 : ExchangeEntered sz d v f pspace bspace n page d′ pspace′ bspace′
-        → Wrote sz d lent n page (exchange v f) (writeDone 6 vacant 0) d′ (buffers flash wear pspace′ bspace′)
-    unfolding writeOutcome isWorn written wornBy writtenPages putSlotPage exchangedPages filled memoryOf spaces
+        → Wrote sz d lent n page (exchange v f) (writeDone 6 vacant 0) d′ (buffers flash codes marks wear pspace′ bspace′)
+    unfolding writeOutcome isWorn written wornBy writtenPages putSlotPage exchangedPages filled memoryOf spaces flashCells
     way-6 h = record {
       answer-is = refl;
       directory-is = h .directory-is;
@@ -108,18 +114,20 @@ module _ (sz : Sizes) (d : Directory) (flash wear pspace bspace : List ℕ) (n :
 -- ---- way 7
 
 -- a join and an entering beside any flash
-joined-beside : (sz : Sizes) (e d′ : Directory) (flash wear pspace bspace pspace′ bspace′ : List ℕ) (v f n : ℕ) (page : Page)
+joined-beside : (sz : Sizes) (e d′ : Directory) (flash codes marks wear pspace bspace pspace′ bspace′ : List ℕ) (v f n : ℕ) (page : Page)
     → JoinEntered sz e v f pspace bspace n page d′ pspace′ bspace′
-    → memoryOf sz (buffers flash wear pspace′ bspace′) ≡ putSlotPage
-    (joinedPages (zeroPage sz) sz e (memoryOf sz (buffers flash wear pspace bspace)) v f) (slotOf sz (joined sz e v f) vacant) page
-unfolding putSlotPage joinedPages filled spaces memoryOf
-joined-beside sz e d′ flash wear pspace bspace pspace′ bspace′ v f n page j = beside sz e flash wear pspace bspace n page _ pspace′ bspace′
+    → memoryOf storeFormat sz (buffers flash codes marks wear pspace′ bspace′) ≡ putSlotPage
+    (joinedPages (zeroPage sz) sz e (memoryOf storeFormat sz (buffers flash codes marks wear pspace bspace)) v f)
+    (slotOf sz (joined sz e v f) vacant) page
+unfolding putSlotPage joinedPages filled spaces memoryOf flashCells
+joined-beside sz e d′ flash codes marks wear pspace bspace pspace′ bspace′ v f n page j = beside sz e flash codes marks wear pspace bspace
+    n page _ pspace′ bspace′
     (j .pages-are)
 
-module _ (sz : Sizes) (d : Directory) (flash wear pspace bspace : List ℕ) (v f : ℕ) (page : Page)
-    (q : MakesRoom sz d (buffers flash wear pspace bspace) (evict v f) page) where
+module _ (sz : Sizes) (d : Directory) (flash codes marks wear pspace bspace : List ℕ) (v f : ℕ) (page : Page)
+    (q : MakesRoom sz d (buffers flash codes marks wear pspace bspace) (evict v f) page) where
   abbrev evicting : Buffers
-  evicting = buffers flash wear pspace bspace
+  evicting = buffers flash codes marks wear pspace bspace
 
   block-below : frameAt d f < vacant
   block-below = block-vacant sz (q .ready .sound .limits) (frameAt d f) (q .holds .0 .block-lt)
@@ -149,23 +157,25 @@ module _ (sz : Sizes) (d : Directory) (flash wear pspace bspace : List ℕ) (v f
     },
   )
 
-  pub way-7 : (n reads : ℕ) (e d′ : Directory) (flash′ wear′ pspace′ bspace₁ bspace′ : List ℕ) → getD wear (frameAt d f) 0 < sz .W
-      → BlockCleaned sz d evicting (frameAt d f) f e reads (buffers flash′ wear′ pspace bspace₁)
+  pub way-7 : (n reads : ℕ) (e d′ : Directory) (flash′ codes′ marks′ wear′ pspace′ bspace₁ bspace′ : List ℕ)
+      → getD wear (frameAt d f) 0 < sz .W
+      → BlockCleaned sz d evicting (frameAt d f) f e reads (buffers flash′ codes′ marks′ wear′ pspace bspace₁)
       → JoinEntered sz e v f pspace bspace₁ n page d′ pspace′ bspace′
-      → Wrote sz d evicting n page (evict v f) (writeDone 7 (frameAt d f) reads) d′ (buffers flash′ wear′ pspace′ bspace′)
+      → Wrote sz d evicting n page (evict v f) (writeDone 7 (frameAt d f) reads) d′ (buffers flash′ codes′ marks′ wear′ pspace′ bspace′)
   unfolding writeOutcome isWorn written writtenPages
-  way-7 n reads e d′ flash′ wear′ pspace′ bspace₁ bspace′ l w j =
+  way-7 n reads e d′ flash′ codes′ marks′ wear′ pspace′ bspace₁ bspace′ l w j =
       let t : isWorn sz wear (frameAt d f) ≡ false = by-test (ltb (frameAt d f) vacant)
       (λ a. rw (a, lt-leb (sz .W) (getD wear (frameAt d f) 0) l)) (λ a. rw a) in
       rw (t, writeOutcome) (record {
         answer-is = ap (writeDone 7 (frameAt d f)) (w .reads-are);
         directory-is = j .directory-is ∙ ap (λ (x : Directory). entered sz (touched sz (joined sz x v f) f) n) (w .directory-is);
         wear-is = w .wear-is;
-        pages-are = joined-beside sz e d′ flash′ wear′ pspace bspace₁ pspace′ bspace′ v f n page j
-            ∙ ap (λ (x : Memory Page). putSlotPage (joinedPages (zeroPage sz) sz e x v f) (slotOf sz (joined sz e v f) vacant) page)
+        pages-are = joined-beside sz e d′ flash′ codes′ marks′ wear′ pspace bspace₁ pspace′ bspace′ v f n page j
+            ∙ ap (λ (x : Memory Cell Page). putSlotPage (joinedPages (zeroPage sz) sz e x v f) (slotOf sz (joined sz e v f) vacant) page)
             (w .pages-are)
             ∙ ap (λ (x : Directory). putSlotPage (joinedPages (zeroPage sz) sz x
-            (steppedPages (zeroPage sz) sz d (memoryOf sz evicting) (due (frameAt d f) f)) v f) (slotOf sz (joined sz x v f) vacant)
+            (steppedPages (chipFor sz) (zeroPage sz) sz d (memoryOf storeFormat sz evicting) (due (frameAt d f) f)) v f)
+            (slotOf sz (joined sz x v f) vacant)
             page) (w .directory-is);
       })
 
@@ -189,9 +199,9 @@ plan-holds pick picks sz d s w n = let Q = PlanHolds sz d in let v : ℕ = victi
 -- ---- from the plan that was found to the model's
 
 -- Wrote, of the wear and the pages that the buffers hold at the end
-abbrev To : Sizes → Directory → Buffers → ℕ → Page → Plan → Answer → Directory → List ℕ → Memory Page → Type 0
-To sz d u n page p a d′ w′ m′ = Carried (writeOutcome sz (state d u) n p) (memoryOf sz u)
-    (writtenPages (zeroPage sz) sz d (memoryOf sz u) n page p) a d′ w′ m′
+abbrev To : Sizes → Directory → Buffers → ℕ → Page → Plan → Answer → Directory → List ℕ → Memory Cell Page → Type 0
+To sz d u n page p a d′ w′ m′ = Carried (writeOutcome sz (state d u) n p) (memoryOf storeFormat sz u)
+    (writtenPages (chipFor sz) (zeroPage sz) sz d (memoryOf storeFormat sz u) n page p) a d′ w′ m′
 
 module _ (sz : Sizes) (d : Directory) (u : Buffers) (n : ℕ) (page : Page) (q : Writable sz d u n page) (found shown : code.Plan)
     (is-plan : planOf found ≡ plan leastRecent sz d (u .wear) n) (is-shown : found ≡ shown) where
@@ -199,7 +209,7 @@ module _ (sz : Sizes) (d : Directory) (u : Buffers) (n : ℕ) (page : Page) (q :
   holds = subst (PlanHolds sz d) (sym is-plan ∙ ap planOf is-shown)
       (plan-holds leastRecent leastRecent-picks sz d (q .ready .sound) (u .wear) n)
 
-  pub by-plan : {a : Answer} {d′ : Directory} {w′ : List ℕ} {m′ : Memory Page} → To sz d u n page (planOf shown) a d′ w′ m′
+  pub by-plan : {a : Answer} {d′ : Directory} {w′ : List ℕ} {m′ : Memory Cell Page} → To sz d u n page (planOf shown) a d′ w′ m′
       → To sz d u n page (plan leastRecent sz d (u .wear) n) a d′ w′ m′
   by-plan {a} {d′} {w′} {m′} w = subst (λ (p : Plan). To sz d u n page p a d′ w′ m′) (sym (ap planOf is-shown) ∙ is-plan) w
 
@@ -210,6 +220,6 @@ module _ (sz : Sizes) (d : Directory) (u : Buffers) (n : ℕ) (page : Page) (fou
   pub room-holds : PlanHolds sz d (roomOf shown)
   room-holds = subst (λ (r : room.Room). PlanHolds sz d (roomOf r)) is-shown (q .holds)
 
-  pub by-room : {a : Answer} {d′ : Directory} {w′ : List ℕ} {m′ : Memory Page} → To sz d u n page (roomOf shown) a d′ w′ m′
+  pub by-room : {a : Answer} {d′ : Directory} {w′ : List ℕ} {m′ : Memory Cell Page} → To sz d u n page (roomOf shown) a d′ w′ m′
       → To sz d u n page (roomOf found) a d′ w′ m′
   by-room {a} {d′} {w′} {m′} w = subst (λ (r : room.Room). To sz d u n page (roomOf r) a d′ w′ m′) (sym is-shown) w

@@ -7,6 +7,7 @@ use Rattle.model.specs.Sizes.{Sizes, InLimits}
 use Rattle.model.specs.Directory.{Directory}
 use Rattle.model.specs.Policy.{validCount, slotCount, Plan, slotHit, frameHit, freeSlot, join, fill, exchange, evict}
 use Rattle.model.specs.Moves.{writtenPages}
+use Rattle.model.specs.Formats.{storeFormat, chipFor}
 use Rattle.model.specs.Calls.{Answer, State, writeOutcome, Page, Buffers, zeroPage, memoryOf}
 use Rattle.answer.specs.Carried.{Ready, Carried}
 use Rattle.writes.specs.Enter.{Joining, Changing}
@@ -23,8 +24,9 @@ state d u = record { directory = d; wear = u .wear }
 -- the write of page n by plan p was carried out
 abbrev pub Wrote : Sizes → Directory → Buffers → ℕ → Page → Plan → Answer → Directory → Buffers → Type 0
 Wrote sz d u n page p answer d′ u′ =
-    Carried (writeOutcome sz (state d u) n p) (memoryOf sz u) (writtenPages (zeroPage sz) sz d (memoryOf sz u) n page p) answer d′
-    (u′ .wear) (memoryOf sz u′)
+    Carried (writeOutcome sz (state d u) n p) (memoryOf storeFormat sz u)
+    (writtenPages (chipFor sz) (zeroPage sz) sz d (memoryOf storeFormat sz u) n page p) answer d′
+    (u′ .wear) (memoryOf storeFormat sz u′)
 
 -- ---- one page put
 

@@ -21,7 +21,10 @@ pub fn write(
     frames: &mut [u32; 8],
     valid: &mut [u64; 8],
     recency: &mut [u8; 8],
+    uses: &mut [u32; 8],
     flash: &mut [u8],
+    codes: &mut [u8],
+    marks: &mut [u8],
     wear: &mut [u32],
     pspace: &mut [u8],
     bspace: &mut [u8],
@@ -29,17 +32,19 @@ pub fn write(
     page: &[u8],
 ) -> Write
     requires { ⌜ (
-        let d = numbers (now slots) (now frames) (now valid) (now recency) in
-        let u = buffers (now flash) (now wear) (now pspace) (now bspace) in
+        let d = numbers (now slots) (now frames) (now valid) (now recency) (now uses) in
+        let u = buffers (now flash) (now codes) (now marks) (now wear) (now pspace) (now bspace) in
         Writable (sizesOf z) d u (n .0) (now page)) ⌝ }
     ensures { λ r. ⌜ (
-        let d = numbers (now (slots .entry)) (now (frames .entry)) (now (valid .entry)) (now (recency .entry)) in
-        let u = buffers (now (flash .entry)) (now (wear .entry)) (now (pspace .entry)) (now (bspace .entry)) in
-        let d′ = numbers (now (slots .exit)) (now (frames .exit)) (now (valid .exit)) (now (recency .exit)) in
-        let u′ = buffers (now (flash .exit)) (now (wear .exit)) (now (pspace .exit)) (now (bspace .exit)) in
+        let d = numbers (now (slots .entry)) (now (frames .entry)) (now (valid .entry)) (now (recency .entry)) (now (uses .entry)) in
+        let u = buffers (now (flash .entry)) (now (codes .entry)) (now (marks .entry))
+        (now (wear .entry)) (now (pspace .entry)) (now (bspace .entry)) in
+        let d′ = numbers (now (slots .exit)) (now (frames .exit)) (now (valid .exit)) (now (recency .exit)) (now (uses .exit)) in
+        let u′ = buffers (now (flash .exit)) (now (codes .exit)) (now (marks .exit))
+        (now (wear .exit)) (now (pspace .exit)) (now (bspace .exit)) in
         Wrote (sizesOf z) d u (n .0) (now (page .entry)) (plan leastRecent (sizesOf z) d (now (wear .entry)) (n .0)) (writeOf r) d′ u′) ⌝ }
 {
-    let plan = policy::plan::plan(z, slots, frames, valid, recency, n, wear);
+    let plan = policy::plan::plan(z, slots, frames, valid, recency, uses, n, wear);
     match plan {
         Plan::SlotHit(i) => {
             put::over_slot(z, pspace, i, page);
@@ -62,7 +67,10 @@ pub fn write(
                 frames,
                 valid,
                 recency,
+                uses,
                 flash,
+                codes,
+                marks,
                 wear,
                 pspace,
                 bspace,

@@ -39,15 +39,16 @@ pub fn enter(
     frames: &[u32; 8],
     valid: &[u64; 8],
     recency: &mut [u8; 8],
+    uses: &mut [u32; 8],
     pspace: &mut [u8],
     f: usize,
     n: PageNo,
     page: &[u8],
 )
-    requires { ⌜ Enters (sizesOf z) (numbers (now slots) (now frames) (now valid) (now recency)) f (now pspace) (now page) ⌝ }
+    requires { ⌜ Enters (sizesOf z) (numbers (now slots) (now frames) (now valid) (now recency) (now uses)) f (now pspace) (now page) ⌝ }
     ensures { λ _. ⌜ (
-        let d = numbers (now (slots .entry)) (now (frames .entry)) (now (valid .entry)) (now (recency .entry)) in
-        let d′ = numbers (now (slots .exit)) (now (frames .entry)) (now (valid .entry)) (now (recency .exit)) in
+        let d = numbers (now (slots .entry)) (now (frames .entry)) (now (valid .entry)) (now (recency .entry)) (now (uses .entry)) in
+        let d′ = numbers (now (slots .exit)) (now (frames .entry)) (now (valid .entry)) (now (recency .exit)) (now (uses .exit)) in
         Entered (sizesOf z) d f (now (pspace .entry)) (n .0) (now (page .entry)) d′ (now (pspace .exit))) ⌝ }
 {
     numbers::touch(z, recency, f);

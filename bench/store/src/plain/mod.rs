@@ -5,15 +5,15 @@ mod flush;
 mod room;
 mod sound;
 
-use clash::{Answer, Buffers, Cache, Refusal, Sizes, VACANT};
+use clash::{Answer, Buffers, Cache, Directory, Options, Refusal, Sizes, VACANT};
 
 #[repr(transparent)]
 #[derive(Clone, Copy, Debug)]
 pub struct Plain(pub Cache);
 
 impl Plain {
-    pub fn open(sizes: Sizes, lent: &Buffers) -> Result<Plain, Refusal> {
-        if !sizes.in_limits() {
+    pub fn open(sizes: Sizes, options: Options, lent: &Buffers) -> Result<Plain, Refusal> {
+        if !sizes.in_limits() || !options.in_limits() {
             return Err(Refusal::Size);
         }
         if !lent.fit(&sizes) {
@@ -22,12 +22,13 @@ impl Plain {
         if lent.wear.iter().any(|&worn| worn > sizes.wear_limit) {
             return Err(Refusal::Overworn);
         }
-        Ok(Plain(Cache { sizes, ..Cache::blank() }))
+        Ok(Plain(Cache { sizes, options, ..Cache::blank() }))
     }
 
+    /// Whether all but the entries of the shelf is sound, as the proved test has it.
     #[inline(never)]
     pub fn sound(&self) -> bool {
-        sound::sound(&self.0)
+        sound::sound(&self.0.sizes, &self.0.options, &self.0.directory)
     }
 
     #[inline(never)]
@@ -73,10 +74,11 @@ impl Plain {
     }
 
     fn check(&self, lent: &Buffers) -> Result<(), Refusal> {
-        if !sound::sound(&self.0) {
+        let c = &self.0;
+        if c.entries != [VACANT; 8] || !sound::sound(&c.sizes, &c.options, &c.directory) {
             return Err(Refusal::Record);
         }
-        if !lent.fit(&self.0.sizes) {
+        if !lent.fit(&c.sizes) {
             return Err(Refusal::Buffer);
         }
         Ok(())

@@ -1,15 +1,16 @@
 //! The soundness test, with a filter of 4,096 bits: only where a bit is met already are entries compared.
-use super::{Cache, VACANT};
+use super::{Directory, Options, Sizes, VACANT};
 
+/// Of all but the entries of the shelf.
 #[inline(always)]
-pub fn sound(c: &Cache) -> bool {
+pub fn sound(z: &Sizes, options: &Options, d: &Directory) -> bool {
     let mut seen = [0u64; 64];
-    c.sizes.in_limits() && frames_ok(c, &mut seen) && slots_ok(c, &mut seen)
+    z.in_limits() && options.in_limits() && d.uses == [0; 8] && frames_ok(z, d, &mut seen) && slots_ok(z, d, &mut seen)
 }
 
 #[inline(always)]
-fn frames_ok(c: &Cache, seen: &mut [u64; 64]) -> bool {
-    let (d, k, b) = (&c.directory, c.sizes.pages_per_block, c.sizes.frames as usize);
+fn frames_ok(z: &Sizes, d: &Directory, seen: &mut [u64; 64]) -> bool {
+    let (k, b) = (z.pages_per_block, z.frames as usize);
     let all = u64::MAX >> (64 - k);
     let mut listed = 0u32;
     for f in 0..b {
@@ -24,7 +25,7 @@ fn frames_ok(c: &Cache, seen: &mut [u64; 64]) -> bool {
             }
             continue;
         }
-        if x >= c.sizes.blocks || v == 0 || v > all || d.frames[..f].contains(&x) {
+        if x >= z.blocks || v == 0 || v > all || d.frames[..f].contains(&x) {
             return false;
         }
         let at = x * k;
@@ -36,9 +37,9 @@ fn frames_ok(c: &Cache, seen: &mut [u64; 64]) -> bool {
 }
 
 #[inline(always)]
-fn slots_ok(c: &Cache, seen: &mut [u64; 64]) -> bool {
-    let (d, p) = (&c.directory, c.sizes.slots as usize);
-    let end = c.sizes.pages();
+fn slots_ok(z: &Sizes, d: &Directory, seen: &mut [u64; 64]) -> bool {
+    let p = z.slots as usize;
+    let end = z.pages();
     for j in 0..p {
         let y = d.slots[j];
         if y == VACANT {
@@ -48,7 +49,7 @@ fn slots_ok(c: &Cache, seen: &mut [u64; 64]) -> bool {
             return false;
         }
         let (w, o) = ((y % 4096 / 64) as usize, y % 64);
-        if seen[w] >> o & 1 == 1 && !is_new(c, j) {
+        if seen[w] >> o & 1 == 1 && !is_new(z, d, j) {
             return false;
         }
         seen[w] |= 1 << o;
@@ -59,8 +60,8 @@ fn slots_ok(c: &Cache, seen: &mut [u64; 64]) -> bool {
 
 /// The page of slot j stands in no slot before it and is valid in no frame.
 #[inline(always)]
-fn is_new(c: &Cache, j: usize) -> bool {
-    let (d, k, b) = (&c.directory, c.sizes.pages_per_block, c.sizes.frames as usize);
+fn is_new(z: &Sizes, d: &Directory, j: usize) -> bool {
+    let (k, b) = (z.pages_per_block, z.frames as usize);
     let y = d.slots[j];
     let (block, offset) = (y / k, y % k);
     !d.slots[..j].contains(&y) && !(0..b).any(|f| d.frames[f] == block && d.valid[f] >> offset & 1 == 1)

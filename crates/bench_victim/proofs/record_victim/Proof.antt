@@ -12,7 +12,7 @@ lists : (c : tie.After-slots) →
     let after-page-numbers : tie.After-page-numbers = search in
     let start : tie.Start = search in
     let d = start .args .r .directory in
-    numbers (after-page-numbers .page-numbers .result) (directoryOf d .frames) (d .valid) (d .recency) ≡ directoryOf d
+    numbers (after-page-numbers .page-numbers .result) (directoryOf d .frames) (d .valid) (d .recency) (d .uses) ≡ directoryOf d
 lists c =
     let after-page-numbers : tie.After-page-numbers = search in
     let start : tie.Start = search in
@@ -29,6 +29,7 @@ victim-requires c κs =
       frames = directoryOf d .frames;
       valid = d .valid;
       recency = d .recency;
+      uses = d .uses;
       sound = rw (lists c) (start .pre);
     }
 

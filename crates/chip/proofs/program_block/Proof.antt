@@ -1,115 +1,77 @@
-use mathlib.Core.Path.{refl, sym, _∙_}
-use Prim.Native.Nat.{_-_, _≤_, _<_}
-use native.Mathlib.Omega.{arith}
 use borrow.Author.Needs.{needs}
-use Rattle.cache.specs.View.{sizesOf}
-use Rattle.chip.specs.Chip.{Facing}
-use Rattle.chip.proofs.Blocks.{facing-on, before-fits, before-end, at-end, number-fits, in-flash, in-stretch, ProgrammedTo}
-use Rattle.chip.proofs.Blocks.{programmed-none, programmed-turn, programmed-all}
+use native.Mathlib.Omega.{arith}
+use mathlib.Core.Path.{refl}
+use Rattle.chip.proofs.Operations.{lesser-is, lent-on, block-none, block-all}
 use Rattle.chip.proofs.program_block.Statement.{statement}
 use Rattle.chip.proofs.program_block.Tie as tie
+use Rattle.chip.proofs.program_block.Reads as reads
+use Rattle.chip.proofs.program_block.Lts as lts
+use Rattle.chip.proofs.erase.Reads as erase-reads
+use Rattle.chip.proofs.lesser.Reads as lesser-reads
+use Rattle.chip.proofs.program_pages.Reads as program-pages-reads
 
--- the pages below done are programmed from the stretch, and flash is as long as before
-abbrev Inv-loop : tie.InvT-loop
-Inv-loop z flash₀ b stretch s size done₀ flash done =
-    Facing (sizesOf z) (b .0) flash stretch × ProgrammedTo (sizesOf z) (b .0) flash₀ stretch done flash × (done ≤ z .«pages_per_block»)
+returns : tie.Need-returns
+returns c = let start : tie.Start = search in block-none _ _ _ _ _ _ _ _ (start .pre .erasable .lent .codes-lent .limits) (c .if1 .taken)
 
-abbrev μ-loop : tie.MeasureT-loop
-μ-loop z flash₀ b stretch s size done₀ flash done = z .«pages_per_block» - done
+sub-lesser : tie.Need-sub-lesser
+sub-lesser c = search needs
 
--- an offset whose turn it is
-below : (c : tie.After-page-of Inv-loop μ-loop) →
-    let at-loop : tie.At-loop Inv-loop μ-loop = search in
-    let start : tie.Start Inv-loop μ-loop = search in
-    at-loop .loop .done < start .args .z .«pages_per_block»
-below c =
-    let in-loop : tie.In-loop Inv-loop μ-loop = search in
-    let start : tie.Start Inv-loop μ-loop = search in
-    before-end _ _ _ _ (start .pre) _ (in-loop .loop-test .taken)
+lesser-requires : tie.Need-lesser-requires
+lesser-requires c κs = search needs
 
-cast-s : tie.Need-cast-s Inv-loop μ-loop
-cast-s c = search needs
+erase-requires : tie.Need-erase-requires
+erase-requires c κs = search needs
 
-loop-holds : tie.Need-loop-holds Inv-loop μ-loop
-loop-holds c =
-    let start : tie.Start Inv-loop μ-loop = search in
-    let a = start .args in
-    (start .pre, programmed-none (sizesOf (a .z)) (a .b .0) (a .flash .now) (a .stretch .now) _ (start .pre), omega arith)
+program-pages-requires : tie.Need-program-pages-requires
+program-pages-requires c κs = let after : tie.After-erase = search in let least : tie.After-lesser = search in
+    let start : tie.Start = search in
+    record {
+      lent = lent-on (start .pre .erasable .lent) _ _ _ (after .erase .kept .1 .0) (after .erase .kept .1 .1 .0)
+          (after .erase .kept .1 .1 .1 .0);
+      b-lt = start .pre .erasable .b-lt;
+      stretch-length = start .pre .stretch-length;
+      many-le = lesser-is _ _ _ (least .lesser .ensures) .1;
+    }
 
-cast-loop : tie.Need-cast-loop Inv-loop μ-loop
-cast-loop c = search needs
+sub-result : tie.Need-sub-result
+sub-result c = search needs
 
-mul-loop : tie.Need-mul-loop Inv-loop μ-loop
-mul-loop c = record { fits = before-fits _ _ _ _ (c .loop .inv .0) _ (c .loop .inv .2) }
+sub-result-2 : tie.Need-sub-result-2
+sub-result-2 c = let after : tie.After-erase = search in let least : tie.After-lesser = search in
+    lesser-is _ _ _ (least .lesser .ensures) .0
 
-page-of-requires : tie.Need-page-of-requires Inv-loop μ-loop
-page-of-requires c κs =
-    let at-loop : tie.At-loop Inv-loop μ-loop = search in
-    let h = at-loop .loop .inv .0 in
-    number-fits _ _ _ _ h _ (before-end _ _ _ _ h _ (c .loop-test .taken))
+same-length : tie.Need-same-length
+same-length c = search needs
 
-cast-at : tie.Need-cast-at Inv-loop μ-loop
-cast-at c = search needs
+same-length-2 : tie.Need-same-length-2
+same-length-2 c = search needs
 
-program-page-requires : tie.Need-program-page-requires Inv-loop μ-loop
-program-page-requires c κs =
-    let after-page-of : tie.After-page-of Inv-loop μ-loop = search in
-    let at-loop : tie.At-loop Inv-loop μ-loop = search in
-    let inv = at-loop .loop .inv in
-    let l = below after-page-of in
-    (inv .0 .limits .S-high, rw (after-page-of .page-of .ensures) (in-flash _ _ _ _ (inv .0) _ l), in-stretch _ _ _ _ (inv .0) _ l)
+same-length-3 : tie.Need-same-length-3
+same-length-3 c = search needs
 
-add-done : tie.Need-add-done Inv-loop μ-loop
-add-done c =
-    let after-page-of : tie.After-page-of Inv-loop μ-loop = search in
-    let at-loop : tie.At-loop Inv-loop μ-loop = search in
-    let l = below after-page-of in
-    let k = at-loop .loop .inv .0 .limits .K-high in
-    omega arith
+same-length-4 : tie.Need-same-length-4
+same-length-4 c = search needs
 
-loop-less : tie.Need-loop-less Inv-loop μ-loop
-loop-less c =
-    let after-page-of : tie.After-page-of Inv-loop μ-loop = search in
-    let l = below after-page-of in
-    omega arith
-
-loop-again : tie.Need-loop-again Inv-loop μ-loop
-loop-again c =
-    let put : tie.After-program-page Inv-loop μ-loop = search in
-    let after-page-of : tie.After-page-of Inv-loop μ-loop = search in
-    let at-loop : tie.At-loop Inv-loop μ-loop = search in
-    let inv = at-loop .loop .inv in
-    let e = rw (after-page-of .page-of .ensures) at (put .program-page .ensures) in
-    let l = below after-page-of in
-    (facing-on _ _ _ _ (inv .0) _ _ (put .program-page .kept .0) refl, rw e (programmed-turn _ _ _ _ _ (inv .0) _ l (inv .1)), omega arith)
-
-same-length : tie.Need-same-length Inv-loop μ-loop
-same-length c =
-    let at-loop : tie.At-loop Inv-loop μ-loop = search in
-    let start : tie.Start Inv-loop μ-loop = search in
-    at-loop .loop .inv .0 .flash-length ∙ sym (start .pre .flash-length)
-
-returns : tie.Need-returns Inv-loop μ-loop
-returns c =
-    let at-loop : tie.At-loop Inv-loop μ-loop = search in
-    let inv = at-loop .loop .inv in
-    programmed-all _ _ _ _ _ (inv .0) _ (at-end _ _ _ _ (inv .0) _ (c .loop-test .left)) (inv .1)
+returns-2 : tie.Need-returns-2
+returns-2 c = let pages : tie.After-program-pages = search in let after : tie.After-erase = search in
+    let least : tie.After-lesser = search in let else1 : tie.Else1 = search in let start : tie.Start = search in
+    let p = else1 .if1 .left in
+    block-all _ _ _ _ _ _ _ _ _ _ (start .pre .erasable .lent .codes-lent .limits) (omega arith) (least .lesser .ensures) refl _ _ _ _ _ _
+    _ (after .erase .ensures) (pages .program-pages .ensures)
 
 pub program-block-spec : {M : Type 1} → statement M
 program-block-spec =
     tie.close
     (tie.spec
-    Inv-loop
-    μ-loop
-    cast-s
-    loop-holds
-    cast-loop
-    mul-loop
-    page-of-requires
-    cast-at
-    program-page-requires
-    add-done
-    loop-less
-    loop-again
+    returns
+    sub-lesser
+    lesser-requires
+    erase-requires
+    program-pages-requires
+    sub-result
+    sub-result-2
     same-length
-    returns)
+    same-length-2
+    same-length-3
+    same-length-4
+    returns-2)

@@ -4,7 +4,7 @@ use mathlib.Core.Path.{_≡_, refl, sym, _∙_}
 use mathlib.Core.Logic.{inl}
 use Prim.Native.Nat.{ℕ, _-_}
 use lib.ListN.{length, replicate, length-replicate}
-use Rattle.answer.specs.Carried.{buffers}
+use Rattle.store.specs.View.{plainLent}
 use Rattle.interpret.proofs.Front.{front-long}
 use Rattle.walk.proofs.Onward.{memory-kept}
 use Rattle.clash.proofs.Running.{Running, next, ends, goes-on, falls, sum-fits}
@@ -14,7 +14,7 @@ use Rattle.clash.proofs.run.Tie as tie
 -- done bytes of the script's output are written, and what the walk prints from here on is the rest of it
 abbrev Inv-loop : tie.InvT-loop
 Inv-loop script flash₀ wear₀ pspace₀ bspace₀ page₀ out₀ w₀ done₀ flash wear pspace bspace page out w done = Running script w done
-    (buffers flash wear pspace bspace) page out
+    (plainLent flash wear pspace bspace) page out
 
 abbrev μ-loop : tie.MeasureT-loop
 μ-loop script flash₀ wear₀ pspace₀ bspace₀ page₀ out₀ w₀ done₀ flash wear pspace bspace page out w done = length script - w .at
@@ -40,7 +40,7 @@ loop-holds c =
       out-length = after-start .start .kept .1 .0 ∙ length-replicate {A = ℕ} 49152 0;
       ready = s .ready;
       few = s .within;
-      left = s .output _;
+      left = s .output (plainLent (replicate 32768 0) (replicate 4096 0) (replicate 32768 0) (replicate 32768 0));
       written = omega arith;
       bound = omega arith;
       first = inl refl;

@@ -28,7 +28,21 @@ returns c =
     let after-flush : tie.After-flush = search in
     rw (c .of-flush .ensures) (ap inNumbers (after-flush .flush .ensures))
 
+same-length-4 : tie.Need-same-length-4
+same-length-4 c = search needs
+
+same-length-5 : tie.Need-same-length-5
+same-length-5 c = search needs
+
 pub clash-flush-spec : {M : Type 1} → statement M
 clash-flush-spec =
     tie.close
-    (tie.spec flush-requires of-flush-requires same-length same-length-2 same-length-3 returns)
+    (tie.spec
+    flush-requires
+    of-flush-requires
+    same-length
+    same-length-2
+    same-length-3
+    same-length-4
+    same-length-5
+    returns)

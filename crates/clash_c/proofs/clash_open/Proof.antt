@@ -17,7 +17,15 @@ of-opening-requires c κs = search needs
 returns : tie.Need-returns
 returns c =
     let after-open : tie.After-open = search in
-    rw (c .of-opening .ensures) (ap openedInNumbers (after-open .«open» .ensures))
+    let after-with-options : tie.After-with-options = search in
+    rw (c .of-opening .ensures) (ap openedInNumbers (rw (after-with-options .with-options .ensures) at (after-open .«open» .ensures)))
+
+with-options-requires : tie.Need-with-options-requires
+with-options-requires c = search needs
 
 pub clash-open-spec : {M : Type 1} → statement M
-clash-open-spec = tie.close (tie.spec open-requires of-opening-requires returns)
+clash-open-spec = tie.close (tie.spec
+    with-options-requires
+    open-requires
+    of-opening-requires
+    returns)

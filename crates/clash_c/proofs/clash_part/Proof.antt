@@ -34,6 +34,15 @@ returns c =
     let after-write-part : tie.After-write-part = search in
     rw (c .of-write .ensures) (ap inNumbers (after-write-part .write-part .ensures))
 
+same-length-6 : tie.Need-same-length-6
+same-length-6 c = search needs
+
+same-length-7 : tie.Need-same-length-7
+same-length-7 c = search needs
+
+same-length-8 : tie.Need-same-length-8
+same-length-8 c = search needs
+
 pub clash-part-spec : {M : Type 1} → statement M
 clash-part-spec =
     tie.close
@@ -45,4 +54,7 @@ clash-part-spec =
     same-length-3
     same-length-4
     same-length-5
+    same-length-6
+    same-length-7
+    same-length-8
     returns)

@@ -29,6 +29,12 @@ returns c =
     let after-flush-step : tie.After-flush-step = search in
     rw (after-of-step .of-step .ensures) (ap inNumbers (after-flush-step .flush-step .ensures))
 
+same-length-4 : tie.Need-same-length-4
+same-length-4 c = search needs
+
+same-length-5 : tie.Need-same-length-5
+same-length-5 c = search needs
+
 pub clash-step-spec : {M : Type 1} → statement M
 clash-step-spec =
     tie.close
@@ -38,4 +44,6 @@ clash-step-spec =
     same-length
     same-length-2
     same-length-3
+    same-length-4
+    same-length-5
     returns)

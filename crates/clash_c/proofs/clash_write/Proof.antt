@@ -31,6 +31,15 @@ returns c =
     let after-write : tie.After-write = search in
     rw (c .of-write .ensures) (ap inNumbers (after-write .write .ensures))
 
+same-length-5 : tie.Need-same-length-5
+same-length-5 c = search needs
+
+same-length-6 : tie.Need-same-length-6
+same-length-6 c = search needs
+
+same-length-7 : tie.Need-same-length-7
+same-length-7 c = search needs
+
 pub clash-write-spec : {M : Type 1} → statement M
 clash-write-spec =
     tie.close
@@ -41,4 +50,7 @@ clash-write-spec =
     same-length-2
     same-length-3
     same-length-4
+    same-length-5
+    same-length-6
+    same-length-7
     returns)

@@ -13,14 +13,17 @@ use Rattle.flushes.proofs.clean_all.Tie as tie
 
 -- the steps done and those still due are together the whole flush, in numbers and in pages, and no cached block is worn
 abbrev Inv-loop : tie.InvT-loop
-Inv-loop z slots₀ frames₀ valid₀ recency flash₀ wear₀ pspace bspace₀ rewrites₀ merged₀ slots frames valid flash wear bspace rewrites
-    merged =
-    Underway (sizesOf z) (numbers slots₀ frames₀ valid₀ recency) (buffers flash₀ wear₀ pspace bspace₀) (numbers slots frames valid recency)
-    (buffers flash wear pspace bspace) rewrites merged
+Inv-loop z slots₀ frames₀ valid₀ recency uses₀ flash₀ codes₀ marks₀ wear₀ pspace bspace₀ rewrites₀ merged₀ slots frames valid uses flash
+    codes marks
+    wear bspace rewrites merged =
+    Underway (sizesOf z) (numbers slots₀ frames₀ valid₀ recency uses₀) (buffers flash₀ codes₀ marks₀ wear₀ pspace bspace₀)
+    (numbers slots frames valid recency uses)
+    (buffers flash codes marks wear pspace bspace) rewrites merged
 
 abbrev μ-loop : tie.MeasureT-loop
-μ-loop z slots₀ frames₀ valid₀ recency flash₀ wear₀ pspace bspace₀ rewrites₀ merged₀ slots frames valid flash wear bspace rewrites
-    merged = z .blocks - rewrites
+μ-loop z slots₀ frames₀ valid₀ recency uses₀ flash₀ codes₀ marks₀ wear₀ pspace bspace₀ rewrites₀ merged₀ slots frames valid uses flash
+    codes marks
+    wear bspace rewrites merged = z .blocks - rewrites
 
 abbrev head : tie.After-due2 Inv-loop μ-loop → tie.At-loop Inv-loop μ-loop
 head c = search
@@ -29,10 +32,11 @@ head c = search
 found : (c : tie.After-due2 Inv-loop μ-loop) →
     let start : tie.Start Inv-loop μ-loop = search in
     let a = start .args in due (c .due2 .given .0 .0 .0) (c .due2 .given .0 .1 .0)
-    ≡ dueOf leastRecent (sizesOf (a .z)) (numbers (head c .loop .slots) (head c .loop .frames) (head c .loop .valid) (a .recency .now))
+    ≡ dueOf leastRecent (sizesOf (a .z)) (numbers (head c .loop .slots) (head c .loop .frames) (head c .loop .valid) (a .recency .now)
+    (head c .loop .uses))
 found c =
     let after-due : tie.After-due Inv-loop μ-loop = search in
-    sym (ap dueView (c .due2 .given .1)) ∙ after-due .due .ensures ∙ due-same _ _ _ _ _
+    sym (ap dueView (c .due2 .given .1)) ∙ after-due .due .ensures ∙ due-same _ _ _ _ _ _
 
 loop-holds : tie.Need-loop-holds Inv-loop μ-loop
 loop-holds c =
@@ -42,7 +46,7 @@ loop-holds c =
 due-requires : tie.Need-due-requires Inv-loop μ-loop
 due-requires c κs =
     let at-loop : tie.At-loop Inv-loop μ-loop = search in
-    record { valid = _; sound = at-loop .loop .inv .ready .sound }
+    record { valid = _; uses = _; sound = at-loop .loop .inv .ready .sound }
 
 enum-known-due : tie.Need-enum-known-due Inv-loop μ-loop
 enum-known-due c = search needs
@@ -64,10 +68,11 @@ returns c =
     let after-due : tie.After-due Inv-loop μ-loop = search in
     let at-loop : tie.At-loop Inv-loop μ-loop = search in
     let start : tie.Start Inv-loop μ-loop = search in
-    flush-done (at-loop .loop .inv) (start .pre) (sym (ap dueView (c .enum-told .given .1)) ∙ after-due .due .ensures ∙ due-same _ _ _ _ _)
+    flush-done (at-loop .loop .inv) (start .pre) (sym (ap dueView (c .enum-told .given .1)) ∙ after-due .due .ensures
+    ∙ due-same _ _ _ _ _ _)
 
-clean-block-requires : tie.Need-clean-block-requires Inv-loop μ-loop
-clean-block-requires c κs =
+clean-plain-requires : tie.Need-clean-plain-requires Inv-loop μ-loop
+clean-plain-requires c κs =
     let at : tie.After-due2 Inv-loop μ-loop = search in
     cleanable (head at .loop .inv) _ _ (found at)
 
@@ -80,9 +85,9 @@ add-rewrites c =
 
 add-merged : tie.Need-add-merged Inv-loop μ-loop
 add-merged c =
-    let after-clean-block : tie.After-clean-block Inv-loop μ-loop = search in
+    let after-clean-plain : tie.After-clean-plain Inv-loop μ-loop = search in
     let at : tie.After-due2 Inv-loop μ-loop = search in
-    let h = merges-small (head at .loop .inv) _ _ (found at) (after-clean-block .clean-block .ensures) in
+    let h = merges-small (head at .loop .inv) _ _ (found at) (after-clean-plain .clean-plain .ensures) in
     omega arith
 
 loop-less : tie.Need-loop-less Inv-loop μ-loop
@@ -93,11 +98,18 @@ loop-less c =
 
 loop-again : tie.Need-loop-again Inv-loop μ-loop
 loop-again c =
-    let after-clean-block : tie.After-clean-block Inv-loop μ-loop = search in
+    let after-clean-plain : tie.After-clean-plain Inv-loop μ-loop = search in
     let at : tie.After-due2 Inv-loop μ-loop = search in
-    let cleaned = after-clean-block .clean-block in
-    turns (head at .loop .inv) _ _ (found at) (cleaned .ensures) (fits-kept _ _ _ (head at .loop .inv .ready .fits)
-    (omega (arith, cleaned .kept)) (omega (arith, cleaned .kept)) (omega (arith, cleaned .kept))) _ _ (omega arith) (omega arith)
+    let cleaned = after-clean-plain .clean-plain in
+    turns (head at .loop .inv) _ _ (found at) (cleaned .ensures) (fits-kept _ _ _ _ _ (head at .loop .inv .ready .fits)
+    (omega (arith, cleaned .kept)) (omega (arith, cleaned .kept)) (omega (arith, cleaned .kept)) (omega (arith, cleaned .kept))
+    (omega (arith, cleaned .kept))) _ _ (omega arith) (omega arith)
+
+same-length-4 : tie.Need-same-length-4 Inv-loop μ-loop
+same-length-4 c = search needs
+
+same-length-5 : tie.Need-same-length-5 Inv-loop μ-loop
+same-length-5 c = search needs
 
 pub clean-all-spec : {M : Type 1} → statement M
 clean-all-spec =
@@ -112,8 +124,10 @@ clean-all-spec =
     same-length
     same-length-2
     same-length-3
+    same-length-4
+    same-length-5
     returns
-    clean-block-requires
+    clean-plain-requires
     add-rewrites
     add-merged
     loop-less

@@ -13,15 +13,15 @@ start c = search
 -- the block and the frame that are due
 found : (c : tie.After-due2) → due (c .due2 .given .0 .0 .0) (c .due2 .given .0 .1 .0)
     ≡ dueOf leastRecent (sizesOf (start c .args .z)) (numbers (start c .args .slots .now) (start c .args .frames .now)
-    (start c .args .valid .now) (start c .args .recency .now))
+    (start c .args .valid .now) (start c .args .recency .now) (start c .args .uses .now))
 found c =
     let after-due : tie.After-due = search in
-    sym (ap dueView (c .due2 .given .1)) ∙ after-due .due .ensures ∙ due-same _ _ _ _ _
+    sym (ap dueView (c .due2 .given .1)) ∙ after-due .due .ensures ∙ due-same _ _ _ _ _ _
 
 due-requires : tie.Need-due-requires
 due-requires c κs =
     let entry : tie.Start = search in
-    record { valid = _; sound = entry .pre .sound }
+    record { valid = _; uses = _; sound = entry .pre .sound }
 
 enum-known-due : tie.Need-enum-known-due
 enum-known-due c = search needs
@@ -33,7 +33,7 @@ returns : tie.Need-returns
 returns c =
     let after-due : tie.After-due = search in
     let entry : tie.Start = search in
-    step-clean (entry .pre) (sym (ap dueView (c .enum-told .given .1)) ∙ after-due .due .ensures ∙ due-same _ _ _ _ _)
+    step-clean (entry .pre) (sym (ap dueView (c .enum-told .given .1)) ∙ after-due .due .ensures ∙ due-same _ _ _ _ _ _)
 
 is-worn-requires : tie.Need-is-worn-requires
 is-worn-requires c κs =
@@ -49,8 +49,8 @@ returns-2 c =
     let at : tie.After-due2 = search in
     step-worn (start at .pre) _ _ (found at) (sym (after-is-worn .is-worn .ensures) ∙ c .if1 .taken)
 
-clean-block-requires : tie.Need-clean-block-requires
-clean-block-requires c κs =
+clean-plain-requires : tie.Need-clean-plain-requires
+clean-plain-requires c κs =
     let else1 : tie.Else1 = search in
     let after-is-worn : tie.After-is-worn = search in
     let at : tie.After-due2 = search in
@@ -67,12 +67,18 @@ same-length-4 c = search needs
 
 returns-3 : tie.Need-returns-3
 returns-3 c =
-    let after-clean-block : tie.After-clean-block = search in
+    let after-clean-plain : tie.After-clean-plain = search in
     let else1 : tie.Else1 = search in
     let after-is-worn : tie.After-is-worn = search in
     let at : tie.After-due2 = search in
     step-done (start at .pre) _ _ (found at) (sym (after-is-worn .is-worn .ensures) ∙ else1 .if1 .left)
-    (after-clean-block .clean-block .ensures)
+    (after-clean-plain .clean-plain .ensures)
+
+same-length-5 : tie.Need-same-length-5
+same-length-5 c = search needs
+
+same-length-6 : tie.Need-same-length-6
+same-length-6 c = search needs
 
 pub step-spec : {M : Type 1} → statement M
 step-spec =
@@ -85,8 +91,10 @@ step-spec =
     is-worn-requires
     same-length
     returns-2
-    clean-block-requires
+    clean-plain-requires
     same-length-2
     same-length-3
     same-length-4
+    same-length-5
+    same-length-6
     returns-3)

@@ -109,10 +109,10 @@ carry-requires c κs =
     let start : tie.Start = search in
     let q = start .pre in
     let a = start .args in
+    let held = held-as _ _ (meant (start .args .form)) (after-sizes-after .sizes-after .ensures) (start .pre .held) (start .pre .sized) in
     lent-parts _ _ (after-lengths .lengths .ensures) (a .flash .now) (a .wear .now) (a .pspace .now) (a .bspace .now) _
-    (after-sizes-after .sizes-after .ensures) (a .page .now) (a .out .now)
-    (parts-within _ _ (after-lengths .lengths .ensures) (held-as _ _ (meant (start .args .form))
-    (after-sizes-after .sizes-after .ensures) (start .pre .held) (start .pre .sized))) (q .memory .flash-length)
+    (after-sizes-after .sizes-after .ensures) (a .page .now) (a .out .now) held
+    (parts-within _ _ (after-lengths .lengths .ensures) held) (q .memory .flash-length)
     (q .memory .wear-length) (q .memory .pspace-length) (q .memory .bspace-length) (q .memory .page-length) (q .room)
 
 same-length : tie.Need-same-length

@@ -4,6 +4,7 @@ use mathlib.Core.Path.{refl}
 use Rattle.model.proofs.Soundness.{pages-small, flash-small, pspace-small, frames-small, bspace-small}
 use Rattle.cache.specs.View.{sizesOf}
 use Rattle.lent.specs.Lengths.{lengthsOk}
+use Rattle.lent.proofs.Lengths.{no-codes, no-marks}
 use Rattle.lent.proofs.lengths_ok.Statement.{statement}
 use Rattle.lent.proofs.lengths_ok.Tie as tie
 use Rattle.lent.proofs.lengths_ok.Reads as reads
@@ -56,7 +57,10 @@ mul-result-5 c =
 
 returns : tie.Need-returns
 unfolding lengthsOk
-returns c = refl
+returns c =
+    let start : tie.Start = search in
+    let sz = sizesOf (start .args .z) in
+    rw (no-codes sz (start .pre), no-marks sz (start .pre))
 
 pub lengths-ok-spec : {M : Type 1} → statement M
 lengths-ok-spec =

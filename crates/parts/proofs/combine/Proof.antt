@@ -3,6 +3,7 @@ use native.Mathlib.Omega.{arith}
 use mathlib.Core.Path.{_∙_, ap}
 use Rattle.prelude.specs.Pages.{laid}
 use Rattle.model.specs.Calls.{combined}
+use Rattle.reads.proofs.Plain.{peeked-page}
 use Rattle.parts.proofs.combine.Statement.{statement}
 use Rattle.parts.proofs.combine.Tie as tie
 use Rattle.parts.proofs.combine.Reads as reads
@@ -20,7 +21,7 @@ lay-requires c κs =
     let after-peek : tie.After-peek = search in
     let start : tie.Start = search in
     let p = start .pre in
-    let h = p .0 .limits .S-high in
+    let h = p .0 .lent .codes-lent .limits .S-high in
     let r = p .1 in
     let e = p .0 .page-length in
     let k = after-peek .peek .kept in
@@ -35,7 +36,8 @@ returns c =
     let after-lay : tie.After-lay = search in
     let after-peek : tie.After-peek = search in
     let start : tie.Start = search in
-    after-lay .lay .ensures ∙ ap (laid (start .args .first) (start .args .bytes .now)) (after-peek .peek .ensures .page-is)
+    after-lay .lay .ensures ∙ ap (laid (start .args .first) (start .args .bytes .now))
+    (peeked-page _ (start .pre .0 .lent .codes-lent .limits) _ _ _ _ _ _ _ _ _ _ (after-peek .peek .ensures))
 
 pub combine-spec : {M : Type 1} → statement M
 combine-spec = tie.close (tie.spec peek-requires lay-requires same-length returns)

@@ -49,6 +49,12 @@ returns c =
     let after-write-combined : tie.After-write-combined = search in
     after-write-combined .write-combined .ensures
 
+same-length-6 : tie.Need-same-length-6
+same-length-6 c = search needs
+
+same-length-7 : tie.Need-same-length-7
+same-length-7 c = search needs
+
 pub write-spec : {M : Type 1} → statement M
 write-spec =
     tie.close
@@ -62,4 +68,6 @@ write-spec =
     same-length-3
     same-length-4
     same-length-5
+    same-length-6
+    same-length-7
     returns)

@@ -4,23 +4,35 @@ use Rattle.parts.proofs.Parts.{part-readable, part-writable, part-wrote
 use Rattle.parts.proofs.write_combined.Statement.{statement}
 use Rattle.parts.proofs.write_combined.Tie as tie
 
+-- the ways back, from place to place: `search back` goes by them
+abbrev from-after-combine : tie.After-combine → tie.Start
+from-after-combine c = search
+
+abbrev from-after-write : tie.After-write → tie.After-combine
+from-after-write c = search
+
+abbrev from-after-deliver : tie.After-deliver → tie.After-write
+from-after-deliver c = search
+
+ruleset back = (from-after-combine, from-after-write, from-after-deliver)
+
 combine-requires : tie.Need-combine-requires
 combine-requires c κs =
-    let start : tie.Start = search in
+    let start : tie.Start = search back in
     let p = start .pre in
     (part-readable _ _ _ _ _ _ _ (p .0) _ (p .1), p .0 .reach)
 
 write-requires : tie.Need-write-requires
 write-requires c κs =
-    let after-combine : tie.After-combine = search in
-    let start : tie.Start = search in
+    let after-combine : tie.After-combine = search back in
+    let start : tie.Start = search back in
     let p = start .pre in
     part-writable _ _ _ _ _ _ _ (p .0) _ (omega (arith, after-combine .combine .kept, p))
 
 deliver-requires : tie.Need-deliver-requires
 deliver-requires c κs =
-    let after-combine : tie.After-combine = search in
-    let start : tie.Start = search in
+    let after-combine : tie.After-combine = search back in
+    let start : tie.Start = search back in
     let p = start .pre in
     let h = p .0 .ready .sound .limits .S-high in
     let e = after-combine .combine .kept in
@@ -47,11 +59,17 @@ same-length-6 c = search needs
 
 returns : tie.Need-returns
 returns c =
-    let after-deliver : tie.After-deliver = search in
-    let after-write : tie.After-write = search in
-    let after-combine : tie.After-combine = search in
-    part-wrote _ _ _ _ _ _ _ _ _ _ _ _ _ _ _ (after-combine .combine .ensures) (after-write .write .ensures)
+    let after-deliver : tie.After-deliver = search back in
+    let after-write : tie.After-write = search back in
+    let after-combine : tie.After-combine = search back in
+    part-wrote _ _ _ _ _ _ _ _ _ _ _ _ _ _ _ _ (after-combine .combine .ensures) (after-write .write .ensures)
     (after-deliver .deliver .ensures)
+
+same-length-7 : tie.Need-same-length-7
+same-length-7 c = search needs
+
+same-length-8 : tie.Need-same-length-8
+same-length-8 c = search needs
 
 pub write-combined-spec : {M : Type 1} → statement M
 write-combined-spec =
@@ -66,4 +84,6 @@ write-combined-spec =
     same-length-4
     same-length-5
     same-length-6
+    same-length-7
+    same-length-8
     returns)

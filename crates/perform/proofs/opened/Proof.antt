@@ -2,7 +2,7 @@ use borrow.Author.Needs.{needs}
 use mathlib.Core.Path.{sym, ap, _∙_}
 use lib.ListN.{length, length-replicate}
 use borrow.Author.Tests.{not-true, not-false}
-use Rattle.answer.specs.Carried.{buffers}
+use Rattle.store.specs.View.{plainLent}
 use Rattle.perform.proofs.Opening.{fresh-is, refused-carries, open-carries}
 use Rattle.perform.proofs.opened.Statement.{statement}
 use Rattle.perform.proofs.opened.Tie as tie
@@ -140,9 +140,18 @@ returns-2 c =
     let a = start .args in
     let ok = sym (after-ok .ok .ensures) ∙ not-false _ (else1 .if1 .left) in
     rw (c .printed2 .ensures) (open-carries _ _ _ _ _ _ ok
-    (fresh-is _ (buffers (a .flash .now) (a .wear .now) (a .pspace .now) (a .bspace .now)) (start .pre .0 ok) _ _ _ _
+    (fresh-is _ (plainLent (a .flash .now) (a .wear .now) (a .pspace .now) (a .bspace .now)) (start .pre .0 ok) _ _ _ _
     (after-fill .fill .ensures) (after-clear .clear .ensures) (after-fill2 .fill2 .ensures) (after-fill3 .fill3 .ensures))
     (after-open .«open» .result) (after-open .«open» .ensures) (after-opening .opening .ensures))
+
+slice-aggregate-open : tie.Need-slice-aggregate-open
+slice-aggregate-open c = search needs
+
+slice-aggregate-open-2 : tie.Need-slice-aggregate-open-2
+slice-aggregate-open-2 c = search needs
+
+slice-aggregate-open-3 : tie.Need-slice-aggregate-open-3
+slice-aggregate-open-3 c = search needs
 
 pub opened-spec : {M : Type 1} → statement M
 opened-spec =
@@ -157,6 +166,9 @@ opened-spec =
     clear-requires
     fill-requires-2
     fill-requires-3
+    slice-aggregate-open
+    slice-aggregate-open-2
+    slice-aggregate-open-3
     open-requires
     opening-requires
     printed-requires-2

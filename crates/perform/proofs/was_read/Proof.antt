@@ -1,5 +1,5 @@
 use borrow.Author.Needs.{needs}
-use mathlib.Core.Path.{ap, _∙_}
+use mathlib.Core.Path.{refl, ap, _∙_}
 use Prim.Native.Nat.{ℕ}
 use lib.ListN.{replicate}
 use Rattle.perform.proofs.Carrying.{read-carries}
@@ -48,14 +48,27 @@ returns c =
     let after-read : tie.After-read = search back in
     let after-fill : tie.After-fill = search back in
     let start : tie.Start = search back in
-    read-carries _ _ _ _ _ (start .args .n .0) _ _ _ (after-fill .fill .ensures ∙ ap (λ (m : ℕ). replicate {A = ℕ} m 0) (start .pre .0))
+    read-carries _ _ _ refl _ _ _ (start .args .n .0) _ _ _ (after-fill .fill .ensures ∙ ap (λ (m : ℕ). replicate {A = ℕ} m 0)
+    (start .pre .0))
     (after-read .read .result) (after-read .read .ensures) (after-first .first .ensures) (after-read2 .read2 .ensures)
+
+slice-aggregate-read : tie.Need-slice-aggregate-read
+slice-aggregate-read c = search needs
+
+slice-aggregate-read-2 : tie.Need-slice-aggregate-read-2
+slice-aggregate-read-2 c = search needs
+
+slice-aggregate-read-3 : tie.Need-slice-aggregate-read-3
+slice-aggregate-read-3 c = search needs
 
 pub was-read-spec : {M : Type 1} → statement M
 was-read-spec =
     tie.close
     (tie.spec
     fill-requires
+    slice-aggregate-read
+    slice-aggregate-read-2
+    slice-aggregate-read-3
     read-requires
     first-requires
     read-requires-2

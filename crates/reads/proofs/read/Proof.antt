@@ -1,4 +1,5 @@
 use borrow.Author.Needs.{needs}
+use native.Mathlib.Omega.{arith}
 use mathlib.Core.Path.{sym, ap, _∙_}
 use Rattle.model.specs.Sizes.{Sizes}
 use Rattle.model.specs.Directory.{Directory}
@@ -7,12 +8,16 @@ use Rattle.moves.proofs.Recency.{listed, touched-is}
 use Rattle.reads.proofs.Places.{wayOf, after, frame-below, read-out, peeked-any}
 use Rattle.reads.proofs.read.Statement.{statement}
 use Rattle.reads.proofs.read.Tie as tie
+use Rattle.reads.proofs.read.Reads as reads
+use Rattle.reads.proofs.read.Lts as lts
+use Rattle.moves.proofs.numbers.touch.Reads as touch-reads
+use Rattle.reads.proofs.peek.Reads as peek-reads
 
 abbrev sizes : tie.Start → Sizes
 sizes s = sizesOf (s .args .z)
 
 abbrev directory : tie.Start → Directory
-directory s = numbers (s .args .slots .now) (s .args .frames .now) (s .args .valid .now) (s .args .recency .now)
+directory s = numbers (s .args .slots .now) (s .args .frames .now) (s .args .valid .now) (s .args .recency .now) (s .args .uses .now)
 
 peek-requires : tie.Need-peek-requires
 peek-requires c κs = search needs
@@ -24,12 +29,9 @@ enum-known-found : tie.Need-enum-known-found
 enum-known-found c = search needs
 
 touch-requires : tie.Need-touch-requires
-touch-requires c κs =
-    let after-found : tie.After-found = search in
-    let after-peek : tie.After-peek = search in
-    let s : tie.Start = search in
-    let k = peeked-any _ (after-peek .peek .ensures) in
-    listed (sizes s) (directory s) _ (s .pre .0) (frame-below _ (directory s) _ _ (sym (after-found .found .given .1) ∙ k .found-is))
+touch-requires c κs = let found : tie.After-found = search in let peek : tie.After-peek = search in let s : tie.Start = search in
+    let k = peeked-any _ _ (peek .peek .ensures) in
+    listed (sizes s) (directory s) _ (s .pre .0) (frame-below _ (directory s) _ _ (sym (found .found .given .1) ∙ k .found-is))
 
 enum-told-2 : tie.Need-enum-told-2
 enum-told-2 c = search needs
@@ -38,34 +40,25 @@ same-length : tie.Need-same-length
 same-length c = search needs
 
 returns : tie.Need-returns
-returns c =
-    let after-peek : tie.After-peek = search in
-    let s : tie.Start = search in
-    let e = c .enum-told .given .1 in
-    read-out (sizes s) (directory s) _ _ _ _ (peeked-any _ (after-peek .peek .ensures)) (sym (ap (after (sizes s) (directory s)) e))
+returns c = let peek : tie.After-peek = search in let s : tie.Start = search in let e = c .enum-told .given .1 in
+    read-out (sizes s) (directory s) _ _ _ _ (peeked-any _ _ (peek .peek .ensures)) (sym (ap (after (sizes s) (directory s)) e))
     (sym (ap wayOf e))
 
 same-length-2 : tie.Need-same-length-2
 same-length-2 c = search needs
 
 returns-2 : tie.Need-returns-2
-returns-2 c =
-    let after-found : tie.After-found = search in
-    let after-peek : tie.After-peek = search in
-    let s : tie.Start = search in
-    let e = after-found .found .given .1 in
-    read-out (sizes s) (directory s) _ _ _ _ (peeked-any _ (after-peek .peek .ensures))
-    (touched-is (sizes s) (directory s) _ _ (c .touch .ensures) ∙ sym (ap (after (sizes s) (directory s)) e)) (sym (ap wayOf e))
+returns-2 c = let touch : tie.After-touch = search in let found : tie.After-found = search in let peek : tie.After-peek = search in
+    let s : tie.Start = search in let e = found .found .given .1 in
+    read-out (sizes s) (directory s) _ _ _ _ (peeked-any _ _ (peek .peek .ensures))
+    (touched-is (sizes s) (directory s) _ _ (touch .touch .ensures) ∙ sym (ap (after (sizes s) (directory s)) e)) (sym (ap wayOf e))
 
 same-length-3 : tie.Need-same-length-3
 same-length-3 c = search needs
 
 returns-3 : tie.Need-returns-3
-returns-3 c =
-    let after-peek : tie.After-peek = search in
-    let s : tie.Start = search in
-    let e = c .enum-told2 .given .1 in
-    read-out (sizes s) (directory s) _ _ _ _ (peeked-any _ (after-peek .peek .ensures)) (sym (ap (after (sizes s) (directory s)) e))
+returns-3 c = let peek : tie.After-peek = search in let s : tie.Start = search in let e = c .enum-told2 .given .1 in
+    read-out (sizes s) (directory s) _ _ _ _ (peeked-any _ _ (peek .peek .ensures)) (sym (ap (after (sizes s) (directory s)) e))
     (sym (ap wayOf e))
 
 pub read-spec : {M : Type 1} → statement M

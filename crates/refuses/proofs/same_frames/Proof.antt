@@ -55,6 +55,18 @@ loop-again c = search needs
 returns : tie.Need-returns Inv-loop μ-loop
 returns c = search needs
 
+mul-ok-3 : tie.Need-mul-ok-3 Inv-loop μ-loop
+mul-ok-3 c = search needs
+
+element-copy-out-ok-5 : tie.Need-element-copy-out-ok-5 Inv-loop μ-loop
+element-copy-out-ok-5 c = search needs
+
+mul-ok-4 : tie.Need-mul-ok-4 Inv-loop μ-loop
+mul-ok-4 c = search needs
+
+element-copy-out-ok-6 : tie.Need-element-copy-out-ok-6 Inv-loop μ-loop
+element-copy-out-ok-6 c = search needs
+
 pub same-frames-spec : {M : Type 1} → statement M
 same-frames-spec =
     tie.close
@@ -72,6 +84,10 @@ same-frames-spec =
     element-copy-out-ok-2
     element-copy-out-ok-3
     element-copy-out-ok-4
+    mul-ok-3
+    element-copy-out-ok-5
+    mul-ok-4
+    element-copy-out-ok-6
     add-f
     loop-less
     loop-again

@@ -13,12 +13,12 @@ block-numbers-requires : tie.Need-block-numbers-requires
 block-numbers-requires c κs = search needs
 
 -- the lists are the directory's
-lists : (c : tie.After-recency2) →
+lists : (c : tie.After-uses2) →
     let after-block-numbers : tie.After-block-numbers = search in
     let after-page-numbers : tie.After-page-numbers = search in
     let start : tie.Start = search in
     numbers (after-page-numbers .page-numbers .result) (after-block-numbers .block-numbers .result) (start .args .d .valid)
-    (start .args .d .recency) ≡ directoryOf (start .args .d)
+    (start .args .d .recency) (start .args .d .uses) ≡ directoryOf (start .args .d)
 lists c =
     let b : tie.After-block-numbers = search in
     let after-page-numbers : tie.After-page-numbers = search in
@@ -32,9 +32,9 @@ lists-sound-requires c κs =
 
 returns : tie.Need-returns
 returns c =
-    let after-recency2 : tie.After-recency2 = search in
+    let after-uses2 : tie.After-uses2 = search in
     let start : tie.Start = search in
-    c .lists-sound .ensures ∙ ap (sound (sizesOf (start .args .sizes))) (lists after-recency2)
+    c .lists-sound .ensures ∙ ap (sound (sizesOf (start .args .sizes))) (lists after-uses2)
 
 pub directory-sound-spec : {M : Type 1} → statement M
 directory-sound-spec = tie.close (tie.spec page-numbers-requires block-numbers-requires lists-sound-requires returns)

@@ -23,14 +23,14 @@ use Rattle.sound.proofs.frames_ok.Tie as tie
 
 -- the frames before f are as they should be, and the filter has their valid pages
 abbrev Inv-loop : tie.InvT-loop
-Inv-loop sizes frames valid seen₀ k b full f₀ seen f = let d = numbers [] frames valid [] in
+Inv-loop sizes frames valid seen₀ k b full f₀ seen f = let d = numbers [] frames valid [] [] in
     (f ≤ b) × (length seen ≡ 64) × (all f (frameOk (sizesOf sizes) d) ≡ true) × Laid (sizesOf sizes) d f seen
 
 abbrev μ-loop : tie.MeasureT-loop
 μ-loop sizes frames valid seen₀ k b full f₀ seen f = b - f
 
 abbrev lent : tie.Start Inv-loop μ-loop → Directory
-lent s = numbers [] (s .args .frames .now) (s .args .valid .now) []
+lent s = numbers [] (s .args .frames .now) (s .args .valid .now) [] []
 
 cast-b : tie.Need-cast-b Inv-loop μ-loop
 cast-b c = search needs

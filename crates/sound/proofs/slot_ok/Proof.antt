@@ -36,7 +36,7 @@ returns c =
     let start : tie.Start = search in
     let a = start .args in
     rw (after-new-at .new-at .ensures, c .outside .ensures, after-page .page .ensures) (slot-compared (sizesOf (a .sizes))
-    (numbers (a .slots .now) (a .frames .now) (a .valid .now) []) (a .j))
+    (numbers (a .slots .now) (a .frames .now) (a .valid .now) [] []) (a .j))
 
 pub slot-ok-spec : {M : Type 1} → statement M
 slot-ok-spec =

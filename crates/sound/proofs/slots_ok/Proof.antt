@@ -12,7 +12,7 @@ use Rattle.sound.proofs.slots_ok.Tie as tie
 
 -- the slots before j are as they should be, and the filter has their pages beside the frames' valid pages
 abbrev Inv-loop : tie.InvT-loop
-Inv-loop sizes slots frames valid seen₀ p j₀ seen j = (j ≤ p) × Tested (sizesOf sizes) (numbers slots frames valid []) j seen
+Inv-loop sizes slots frames valid seen₀ p j₀ seen j = (j ≤ p) × Tested (sizesOf sizes) (numbers slots frames valid [] []) j seen
 
 abbrev μ-loop : tie.MeasureT-loop
 μ-loop sizes slots frames valid seen₀ p j₀ seen j = p - j

@@ -4,7 +4,7 @@ use mathlib.Core.Path.{_≡_, refl}
 use mathlib.Core.Logic.{_⊎_, inl, inr}
 use Prim.Native.Nat.{_-_, _<_}
 use lib.ListN.{length}
-use Rattle.answer.specs.Carried.{buffers}
+use Rattle.store.specs.View.{plainLent}
 use Rattle.interpret.specs.View.{Memory}
 use Rattle.walk.specs.Walk.{More, Onward}
 use Rattle.walk.proofs.Onward.{more-true, more-false, memory-kept, onward-none, onward-then}
@@ -14,8 +14,8 @@ use Rattle.walk.proofs.run.Tie as tie
 -- what is printed and what is left to print are together what they were at the start, and a line was walked if one could be
 abbrev Inv-loop : tie.InvT-loop
 Inv-loop script flash₀ wear₀ pspace₀ bspace₀ page₀ out₀ r₀ flash wear pspace bspace page out r =
-    Memory (buffers flash wear pspace bspace) page × ((length out ≡ length out₀)
-    × (Onward script r₀ (buffers flash₀ wear₀ pspace₀ bspace₀) out₀ r (buffers flash wear pspace bspace) out
+    Memory (plainLent flash wear pspace bspace) page × ((length out ≡ length out₀)
+    × (Onward script r₀ (plainLent flash₀ wear₀ pspace₀ bspace₀) out₀ r (plainLent flash wear pspace bspace) out
     × (More script r₀ out₀ → (r₀ .at < r .at) ⊎ More script r out)))
 
 abbrev μ-loop : tie.MeasureT-loop

@@ -83,7 +83,7 @@ returns c =
     let after-plan : tie.After-plan = search back in
     let start : tie.Start = search back in
     by-plan _ _ _ _ _ (start .pre) _ _ (after-plan .plan .ensures) (after-plan2 .plan2 .given .1)
-    (way-1 _ _ _ _ _ _ _ _ _ _ (after-over-slot .over-slot .ensures))
+    (way-1 _ _ _ _ _ _ _ _ _ _ _ _ (after-over-slot .over-slot .ensures))
 
 enum-known-plan-2 : tie.Need-enum-known-plan-2
 enum-known-plan-2 c = search needs
@@ -122,7 +122,7 @@ returns-2 c =
     let after-plan : tie.After-plan = search back in
     let start : tie.Start = search back in
     by-plan _ _ _ _ _ (start .pre) _ _ (after-plan .plan .ensures) (after-plan3 .plan3 .given .1)
-    (way-2 _ _ _ _ _ _ _ _ _ _ _ (touched-is _ _ _ _ (c .touch .ensures)) (after-over-frame-page .over-frame-page .ensures))
+    (way-2 _ _ _ _ _ _ _ _ _ _ _ _ _ (touched-is _ _ _ _ (c .touch .ensures)) (after-over-frame-page .over-frame-page .ensures))
 
 enum-known-plan-3 : tie.Need-enum-known-plan-3
 enum-known-plan-3 c = search needs
@@ -174,7 +174,7 @@ returns-3 c =
     let after-plan : tie.After-plan = search back in
     let start : tie.Start = search back in
     by-plan _ _ _ _ _ (start .pre) _ _ (after-plan .plan .ensures) (after-plan4 .plan4 .given .1)
-    (way-3 _ _ _ _ _ _ _ _ _ _ _ refl (after-over-slot2 .over-slot2 .ensures))
+    (way-3 _ _ _ _ _ _ _ _ _ _ _ _ _ refl (after-over-slot2 .over-slot2 .ensures))
 
 enum-known-plan-4 : tie.Need-enum-known-plan-4
 enum-known-plan-4 c = search needs
@@ -212,6 +212,12 @@ returns-4 c =
     let start : tie.Start = search back in
     by-plan _ _ _ _ _ (start .pre) _ _ (after-plan .plan .ensures) (after-plan5 .plan5 .given .1) (after-write .write .ensures)
 
+same-length-11 : tie.Need-same-length-11
+same-length-11 c = search needs
+
+same-length-12 : tie.Need-same-length-12
+same-length-12 c = search needs
+
 pub write-spec : {M : Type 1} → statement M
 write-spec =
     tie.close
@@ -241,4 +247,6 @@ write-spec =
     same-length-8
     same-length-9
     same-length-10
+    same-length-11
+    same-length-12
     returns-4)

@@ -1,10 +1,10 @@
 //! What a line may say: the tables of forms, options and record fields, each with the release from which it is in force.
-use crate::in_force;
-use clash::{Cache, Sizes};
+use crate::Release;
+use clash::{Cache, Options, Sizes};
 
 pub enum Form {
-    Open(Sizes),
-    Reopen(Sizes),
+    Open(Sizes, Options),
+    Reopen(Sizes, Options),
     SetWear {
         block: u32,
         wear: u32,
@@ -49,8 +49,8 @@ struct Row {
 
 #[rustfmt::skip]
 const FORMS: &[Row] = &[
-    Row { word: "open", since: 0, make: |w| Some(Form::Open(opening(w)?)) },
-    Row { word: "reopen", since: 0, make: |w| Some(Form::Reopen(opening(w)?)) },
+    Row { word: "open", since: 0, make: |w| Some(Form::Open(sizes(w)?, options(w)?)) },
+    Row { word: "reopen", since: 0, make: |w| Some(Form::Reopen(sizes(w)?, options(w)?)) },
     Row { word: "setwear", since: 0, make: |w| Some(Form::SetWear { block: w.number()?, wear: w.number()? }) },
     Row { word: "flip", since: 0, make: flip },
     Row { word: "spoil", since: 0, make: spoil },
@@ -98,31 +98,43 @@ static FIELDS: &[Field] = &[
     Field { word: "frame", since: 0, entries: 8, most: WORD, set: |c, i, v| c.directory.frames[i] = v as u32 },
     Field { word: "valid", since: 0, entries: 8, most: u64::MAX, set: |c, i, v| c.directory.valid[i] = v },
     Field { word: "order", since: 0, entries: 8, most: 255, set: |c, i, v| c.directory.recency[i] = v as u8 },
+    Field { word: "policy", since: 5, entries: 1, most: WORD, set: |c, _, v| c.options.policy = v as u32 },
+    Field { word: "uses", since: 5, entries: 8, most: WORD, set: |c, i, v| c.directory.uses[i] = v as u32 },
+    Field { word: "coded", since: 6, entries: 1, most: WORD, set: |c, _, v| c.options.coded = v as u32 },
+    Field { word: "shelf", since: 8, entries: 1, most: WORD, set: |c, _, v| c.options.shelf_pages = v as u32 },
+    Field { word: "shelfno", since: 8, entries: 8, most: WORD, set: |c, i, v| c.entries[i] = v as u32 },
+    Field { word: "marked", since: 12, entries: 1, most: WORD, set: |c, _, v| c.options.marked = v as u32 },
 ];
 
 /// The form that a line says, with its first word; none where the line is bad.
-pub fn parse(line: &[u8]) -> Option<(&'static str, Form)> {
+pub fn parse(release: Release, line: &[u8]) -> Option<(&'static str, Form)> {
     let inner = line.strip_prefix(b"(")?.strip_suffix(b")")?;
-    let mut words = Words { rest: Some(inner) };
+    let mut words = Words { release, rest: Some(inner) };
     let said = form(&mut words)?;
     words.rest.is_none().then_some(said)
 }
 
 fn form(words: &mut Words) -> Option<(&'static str, Form)> {
     let first = words.next()?;
-    let row = FORMS.iter().find(|row| in_force(row.since) && row.word.as_bytes() == first)?;
+    let row = FORMS.iter().find(|row| words.release.has(row.since) && row.word.as_bytes() == first)?;
     Some((row.word, (row.make)(words)?))
 }
 
-fn opening(words: &mut Words) -> Option<Sizes> {
+fn sizes(words: &mut Words) -> Option<Sizes> {
     let mut sizes = [0; 6];
     for size in &mut sizes {
         *size = words.number()?;
     }
-    for choice in [POLICY, CODED, SHELF, MARKED] {
-        words.choice(choice)?;
-    }
     Some(Sizes::from(sizes))
+}
+
+fn options(words: &mut Words) -> Option<Options> {
+    Some(Options {
+        policy: words.choice(POLICY)?,
+        coded: words.choice(CODED)?,
+        shelf_pages: words.choice(SHELF)?,
+        marked: words.choice(MARKED)?,
+    })
 }
 
 fn flip(words: &mut Words) -> Option<Form> {
@@ -134,7 +146,7 @@ fn flip(words: &mut Words) -> Option<Form> {
 
 fn spoil(words: &mut Words) -> Option<Form> {
     let name = words.next()?;
-    let field = FIELDS.iter().find(|field| in_force(field.since) && field.word.as_bytes() == name)?;
+    let field = FIELDS.iter().find(|field| words.release.has(field.since) && field.word.as_bytes() == name)?;
     let index = words.number()? as usize;
     let value = words.wide()?;
     // the index of a field that is one number is ignored
@@ -142,8 +154,9 @@ fn spoil(words: &mut Words) -> Option<Form> {
     fits.then_some(Form::Spoil { field, index, value })
 }
 
-/// The words of a line that are still to be read; none once the last was read.
+/// The words of a line that are still to be read, none once the last was read, and the release that they are read at.
 struct Words<'a> {
+    release: Release,
     rest: Option<&'a [u8]>,
 }
 
@@ -161,7 +174,7 @@ impl<'a> Words<'a> {
     }
 
     fn choice(&mut self, choice: Choice) -> Option<u32> {
-        let most = if in_force(choice.since) { choice.most } else { 0 };
+        let most = if self.release.has(choice.since) { choice.most } else { 0 };
         self.number().filter(|&x| x <= most)
     }
 
@@ -177,7 +190,30 @@ impl<'a> Words<'a> {
 
 #[cfg(test)]
 mod tests {
-    use super::parse;
+    use super::{Form, Release};
+    use crate::RELEASE;
+    use clash::Options;
+
+    fn parse(line: &[u8]) -> Option<(&'static str, Form)> {
+        super::parse(RELEASE, line)
+    }
+
+    /// The options of an opening, at a release that has them.
+    fn options_at(release: u32, said: &str) -> Option<Options> {
+        match super::parse(Release(release), format!("(open 1 2 3 2 1 9 {said})").as_bytes())? {
+            ("open", Form::Open(_, options)) => Some(options),
+            _ => panic!("another form"),
+        }
+    }
+
+    #[test]
+    fn options_by_release() {
+        assert_eq!(options_at(12, "3 1 9 1"), Some(Options::from([3, 1, 9, 1])));
+        for (said, since) in [("1 0 0 0", 5), ("0 1 0 0", 6), ("0 0 1 0", 8), ("0 0 0 1", 12)] {
+            assert!(options_at(since - 1, said).is_none() && options_at(since, said).is_some(), "{said}");
+        }
+        assert!(["0 2 0 0", "0 0 0 2", "4294967296 0 0 0", "0 0 0", "0 0 0 0 0"].iter().all(|said| options_at(14, said).is_none()));
+    }
 
     #[test]
     fn good_lines() {

@@ -8,11 +8,16 @@ mod print;
 use std::io::{self, BufWriter, Read, Write};
 
 /// How many of document 02's requests are in force.
-const RELEASE: u32 = 4;
+#[derive(Clone, Copy)]
+pub struct Release(u32);
 
-/// Whether what request `since` brings, or the base where it is 0, is in force.
-fn in_force(since: u32) -> bool {
-    (0..=RELEASE).contains(&since)
+const RELEASE: Release = Release(4);
+
+impl Release {
+    /// Whether what request `since` brings, or the base where it is 0, is in force.
+    fn has(self, since: u32) -> bool {
+        since <= self.0
+    }
 }
 
 fn main() -> io::Result<()> {
@@ -21,7 +26,7 @@ fn main() -> io::Result<()> {
     let mut out = BufWriter::new(io::stdout().lock());
     let mut state = perform::State::new();
     for (i, line) in lines(&script).enumerate() {
-        if let Some(text) = answer(&mut state, line, i + 1) {
+        if let Some(text) = answer(RELEASE, &mut state, line, i + 1) {
             writeln!(out, "{text}")?;
         }
     }
@@ -35,9 +40,9 @@ fn lines(script: &[u8]) -> impl Iterator<Item = &[u8]> {
     text.split(|&byte| byte == b'\n').take(count)
 }
 
-fn answer(state: &mut perform::State, line: &[u8], number: usize) -> Option<String> {
-    let reply = match forms::parse(line) {
-        Some((word, form)) => state.perform(form).map(|said| print::said(word, &said, state)),
+fn answer(release: Release, state: &mut perform::State, line: &[u8], number: usize) -> Option<String> {
+    let reply = match forms::parse(release, line) {
+        Some((word, form)) => state.perform(form).map(|said| print::said(release, word, &said, state)),
         None => Err(perform::Bad),
     };
     reply.unwrap_or_else(|perform::Bad| Some(format!("(bad {number})")))
@@ -48,8 +53,12 @@ mod tests {
     use super::*;
 
     fn replay(script: &str) -> Vec<String> {
+        replay_at(RELEASE, script)
+    }
+
+    fn replay_at(release: Release, script: &str) -> Vec<String> {
         let mut state = perform::State::new();
-        lines(script.as_bytes()).enumerate().filter_map(|(i, line)| answer(&mut state, line, i + 1)).collect()
+        lines(script.as_bytes()).enumerate().filter_map(|(i, line)| answer(release, &mut state, line, i + 1)).collect()
     }
 
     #[test]
@@ -114,5 +123,38 @@ mod tests {
         assert!(said.starts_with("(dump (sizes 0 0 0 0 0 0) (places 4294967295 "), "{said}");
         let end = "(valid 0 0 0 0 0 0 0 0) (order 0 1 2 3 4 5 6 7) (flash 00000000) (wear) (pspace 00000000) (bspace 00000000))";
         assert!(said.ends_with(end), "{said}");
+    }
+
+    /// What follows p-space and b-space in the dump is of the options in force, and of no other.
+    #[test]
+    fn the_dump_says_the_options_in_force() {
+        let shelf = format!(" (shelf 0) (shelfno{}) (shelfbytes 00000000)", " 4294967295".repeat(8));
+        let told = [" (policy 0) (uses 0 0 0 0 0 0 0 0)", " (coded 0) (codes 00000000)", &shelf, " (marked 0) (marks 00000000)"];
+        for (release, many) in [(4, 0), (5, 1), (6, 2), (7, 2), (8, 3), (11, 3), (12, 4), (14, 4)] {
+            for script in ["(dump)", "(open 1 2 3 2 1 9 0 0 0 0)\n(dump)"] {
+                let said = replay_at(Release(release), script).pop().unwrap();
+                let (_, rest) = said.split_once(" (bspace ").unwrap();
+                assert_eq!(rest[8..], format!("){})", told[..many].concat()));
+            }
+        }
+    }
+
+    /// An option that is in force is the store's to refuse, and it takes none yet.
+    #[test]
+    fn options_reach_the_store() {
+        for options in ["1 0 0 0", "0 1 0 0", "0 0 1 0", "0 0 0 1"] {
+            let script = format!("(open 256 2 3 2 1 9 {options})\n(open 256 2 3 2 1 9 0 0 0 0)\n(reopen 256 2 3 2 1 9 {options})\n");
+            assert_eq!(replay(&script), ["(bad 1)", "(open (done))", "(bad 3)"]);
+            assert_eq!(replay_at(Release(12), &script), ["(open (refused 1))", "(open (done))", "(open (refused 1))"]);
+        }
+    }
+
+    #[test]
+    fn what_the_options_add_to_a_record_can_be_spoilt() {
+        for spoil in ["policy 0 1", "coded 0 1", "shelf 0 1", "marked 0 1", "uses 0 1", "uses 7 1", "shelfno 0 0", "shelfno 7 4294967294"] {
+            let script = format!("(open 1 2 3 2 1 9 0 0 0 0)\n(spoil {spoil})\n(read 0)\n");
+            assert_eq!(replay(&script)[1], "(bad 2)", "{spoil}");
+            assert_eq!(replay_at(Release(12), &script)[1..], ["(read (refused 4))"], "{spoil}");
+        }
     }
 }

@@ -1,7 +1,7 @@
 //! Carries a form out on the one store of a script.
 use crate::crc32::crc32;
 use crate::forms::Form;
-use clash::{Answer, Cache, Memory, Refusal, Sizes};
+use clash::{Answer, Cache, Memory, Options, Refusal, Sizes};
 
 /// The record, the blank one before an opening, and the buffers.
 pub struct State {
@@ -34,8 +34,8 @@ impl State {
 
     pub fn perform(&mut self, form: Form) -> Result<Said, Bad> {
         match form {
-            Form::Open(sizes) => self.open(sizes),
-            Form::Reopen(sizes) => Ok(self.reopen(sizes)),
+            Form::Open(sizes, options) => self.open(sizes, options),
+            Form::Reopen(sizes, options) => Ok(self.reopen(sizes, options)),
             Form::SetWear { block, wear } => set(&mut self.memory.wear, block, |entry| *entry = wear),
             Form::FlipFlash { bit: 8.., .. } => Err(Bad),
             Form::FlipFlash { byte, bit } => set(&mut self.memory.flash, byte, |entry| *entry ^= 1 << bit),
@@ -53,15 +53,15 @@ impl State {
     }
 
     /// An opening with buffers made afresh; a refused one keeps the store in use.
-    fn open(&mut self, sizes: Sizes) -> Result<Said, Bad> {
-        if !sizes.in_limits() {
-            return Ok(Said::Opened(Cache::open(sizes, &Memory::default().lend()).map(|_| ())));
+    fn open(&mut self, sizes: Sizes, options: Options) -> Result<Said, Bad> {
+        if !sizes.in_limits() || !options.in_limits() {
+            return Ok(Said::Opened(Cache::open(sizes, options, &Memory::default().lend()).map(|_| ())));
         }
         if sizes.flash_len() > MOST_FLASH {
             return Err(Bad);
         }
         let mut memory = Memory::new(&sizes);
-        let opened = Cache::open(sizes, &memory.lend());
+        let opened = Cache::open(sizes, options, &memory.lend());
         if let Ok(cache) = opened {
             *self = State { cache, memory };
         }
@@ -69,8 +69,8 @@ impl State {
     }
 
     /// An opening with the buffers as they are.
-    fn reopen(&mut self, sizes: Sizes) -> Said {
-        let opened = Cache::open(sizes, &self.memory.lend());
+    fn reopen(&mut self, sizes: Sizes, options: Options) -> Said {
+        let opened = Cache::open(sizes, options, &self.memory.lend());
         Said::Opened(opened.map(|cache| self.cache = cache))
     }
 

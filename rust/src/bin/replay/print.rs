@@ -1,19 +1,19 @@
 //! What is printed of a form, and the dump.
 use crate::crc32::crc32;
-use crate::in_force;
 use crate::perform::{Said, State};
+use crate::Release;
 use clash::{Answer, Refusal};
 use std::fmt::Display;
 
 /// The line of a form that was carried out, none where it prints nothing.
-pub fn said(word: &str, said: &Said, state: &State) -> Option<String> {
+pub fn said(release: Release, word: &str, said: &Said, state: &State) -> Option<String> {
     match said {
         Said::Nothing => None,
         Said::Opened(Ok(())) => Some("(open (done))".into()),
         Said::Opened(Err(why)) => Some(format!("(open {})", refused(why))),
         Said::Called(Ok(answer), page) => Some(format!("({word} {}{})", accepted(answer), with_page(page))),
         Said::Called(Err(why), _) => Some(format!("({word} {})", refused(why))),
-        Said::Dump => Some(dump(state)),
+        Said::Dump => Some(dump(release, state)),
     }
 }
 
@@ -56,10 +56,19 @@ const PARTS: &[Part] = &[
     Part { since: 0, text: |s| list("wear", &s.memory.wear) },
     Part { since: 0, text: |s| hash("pspace", &s.memory.pspace) },
     Part { since: 0, text: |s| hash("bspace", &s.memory.bspace) },
+    Part { since: 5, text: |s| list("policy", &[s.cache.options.policy]) },
+    Part { since: 5, text: |s| list("uses", &s.cache.directory.uses) },
+    Part { since: 6, text: |s| list("coded", &[s.cache.options.coded]) },
+    Part { since: 6, text: |s| hash("codes", &s.memory.codes) },
+    Part { since: 8, text: |s| list("shelf", &[s.cache.options.shelf_pages]) },
+    Part { since: 8, text: |s| list("shelfno", &s.cache.entries) },
+    Part { since: 8, text: |s| hash("shelfbytes", &s.memory.shelf) },
+    Part { since: 12, text: |s| list("marked", &[s.cache.options.marked]) },
+    Part { since: 12, text: |s| hash("marks", &s.memory.marks) },
 ];
 
-fn dump(state: &State) -> String {
-    let parts = PARTS.iter().filter(|part| in_force(part.since)).map(|part| format!(" {}", (part.text)(state)));
+fn dump(release: Release, state: &State) -> String {
+    let parts = PARTS.iter().filter(|part| release.has(part.since)).map(|part| format!(" {}", (part.text)(state)));
     format!("(dump{})", parts.collect::<String>())
 }
 

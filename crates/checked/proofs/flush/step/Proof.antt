@@ -1,3 +1,4 @@
+use Rattle.model.specs.Formats.{storeFormat}
 use native.Mathlib.Omega.{arith}
 use borrow.Author.Needs.{needs}
 use mathlib.Core.Path.{_≡_, sym, _∙_}
@@ -16,27 +17,45 @@ use Rattle.checked.proofs.Carrying.{ready, step-done, call-record, call
 use Rattle.checked.proofs.flush.step.Statement.{statement}
 use Rattle.checked.proofs.flush.step.Tie as tie
 
+-- the ways back, from place to place: `search back` goes by them
+abbrev from-after-lists-sound : tie.After-lists-sound → tie.Start
+from-after-lists-sound c = search
+
+abbrev from-else1 : tie.Else1 → tie.After-lists-sound
+from-else1 c = search
+
+abbrev from-after-lengths-ok : tie.After-lengths-ok → tie.Else1
+from-after-lengths-ok c = search
+
+abbrev from-else2 : tie.Else2 → tie.After-lengths-ok
+from-else2 c = search
+
+abbrev from-after-step : tie.After-step → tie.Else2
+from-after-step c = search
+
+ruleset back = (from-after-lists-sound, from-else1, from-after-lengths-ok, from-else2, from-after-step)
+
 -- as the call began
 abbrev store : tie.Start → Store
-store c = let a = c .args in storeWith (a .z) (numbers (a .slots .now) (a .frames .now) (a .valid .now) (a .recency .now))
-    (buffers (a .flash .now) (a .wear .now) (a .pspace .now) (a .bspace .now))
+store c = let a = c .args in storeWith (a .z) (numbers (a .slots .now) (a .frames .now) (a .valid .now) (a .recency .now) (a .uses .now))
+    (buffers (a .flash .now) (a .codes .now) (a .marks .now) (a .wear .now) (a .pspace .now) (a .bspace .now))
 
 -- the record is sound, and the buffers fit
 passed : (c : tie.Else1) →
-    let start : tie.Start = search in
+    let start : tie.Start = search back in
     sound (store start .cache .sizes) (store start .cache .directory) ≡ true
 passed c =
-    let after-lists-sound : tie.After-lists-sound = search in
+    let after-lists-sound : tie.After-lists-sound = search back in
     sym (after-lists-sound .lists-sound .ensures) ∙ not-false _ (c .if1 .left)
 
 fitting : (c : tie.Else2) →
-    let start : tie.Start = search in
-    lentOk (store start .cache .sizes) (store start .lent) ≡ true
+    let start : tie.Start = search back in
+    lentOk storeFormat (store start .cache .sizes) (store start .lent) ≡ true
 fitting c =
-    let after-lengths-ok : tie.After-lengths-ok = search in
-    let start : tie.Start = search in
+    let after-lengths-ok : tie.After-lengths-ok = search back in
+    let start : tie.Start = search back in
     let a = start .args in
-    sym (lengths-lent (sizesOf (a .z)) (a .flash .now) (a .wear .now) (a .pspace .now) (a .bspace .now))
+    sym (lengths-lent (sizesOf (a .z)) (a .flash .now) (a .codes .now) (a .marks .now) (a .wear .now) (a .pspace .now) (a .bspace .now))
     ∙ sym (after-lengths-ok .lengths-ok .ensures) ∙ not-false _ (c .if2 .left)
 
 lists-sound-requires : tie.Need-lists-sound-requires
@@ -44,7 +63,7 @@ lists-sound-requires c κs = search needs
 
 returns : tie.Need-returns
 returns c =
-    let after-lists-sound : tie.After-lists-sound = search in
+    let after-lists-sound : tie.After-lists-sound = search back in
     sym (call-record leastRecent _ _ (sym (after-lists-sound .lists-sound .ensures) ∙ not-true _ (c .if1 .taken)))
 
 lengths-ok-requires : tie.Need-lengths-ok-requires
@@ -52,19 +71,19 @@ lengths-ok-requires c κs = sound-facts _ _ (passed c) .limits
 
 returns-2 : tie.Need-returns-2
 returns-2 c =
-    let after-lengths-ok : tie.After-lengths-ok = search in
-    let else1 : tie.Else1 = search in
-    let start : tie.Start = search in
+    let after-lengths-ok : tie.After-lengths-ok = search back in
+    let else1 : tie.Else1 = search back in
+    let start : tie.Start = search back in
     let a = start .args in
     sym (call-buffer leastRecent (store start) _ (passed else1) (sym
-    (lengths-lent (sizesOf (a .z)) (a .flash .now) (a .wear .now) (a .pspace .now) (a .bspace .now))
+    (lengths-lent (sizesOf (a .z)) (a .flash .now) (a .codes .now) (a .marks .now) (a .wear .now) (a .pspace .now) (a .bspace .now))
     ∙ sym (after-lengths-ok .lengths-ok .ensures) ∙ not-true _ (c .if2 .taken)))
 
 step-requires : tie.Need-step-requires
 step-requires c κs =
-    let else2 : tie.Else2 = search in
-    let else1 : tie.Else1 = search in
-    let start : tie.Start = search in
+    let else2 : tie.Else2 = search back in
+    let else1 : tie.Else1 = search back in
+    let start : tie.Start = search back in
     ready (store start) (passed else1) (fitting else2)
 
 same-length : tie.Need-same-length
@@ -78,20 +97,28 @@ same-length-3 c = search needs
 
 returns-3 : tie.Need-returns-3
 returns-3 c =
-    let after-step : tie.After-step = search in
-    let else2 : tie.Else2 = search in
-    let else1 : tie.Else1 = search in
-    let s : tie.Start = search in
+    let after-step : tie.After-step = search back in
+    let else2 : tie.Else2 = search back in
+    let else1 : tie.Else1 = search back in
+    let s : tie.Start = search back in
     let w = after-step .step in
-    let f = fits-of _ (store s .lent) (fitting else2) in
+    let f = fits-of storeFormat _ (store s .lent) (fitting else2) in
     step-done (store s) (passed else1) (fitting else2) _
     (record {
       flash-length = omega (arith, w .kept, f);
+      codes-length = omega (arith, w .kept, f);
+      marks-length = omega (arith, w .kept, f);
       wear-length = omega (arith, w .kept, f);
       pspace-length = f .pspace-length;
       bspace-length = omega (arith, w .kept, f);
     })
     _ _ (w .ensures)
+
+same-length-4 : tie.Need-same-length-4
+same-length-4 c = search needs
+
+same-length-5 : tie.Need-same-length-5
+same-length-5 c = search needs
 
 pub step-spec : {M : Type 1} → statement M
 step-spec =
@@ -105,4 +132,6 @@ step-spec =
     same-length
     same-length-2
     same-length-3
+    same-length-4
+    same-length-5
     returns-3)

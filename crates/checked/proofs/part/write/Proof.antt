@@ -1,3 +1,4 @@
+use Rattle.model.specs.Formats.{storeFormat}
 use borrow.Author.Needs.{needs}
 use native.Mathlib.Omega.{arith}
 use mathlib.Core.Path.{_≡_, sym, _∙_}
@@ -63,8 +64,8 @@ ruleset back = (
 
 -- as the call began
 abbrev store : tie.Start → Store
-store c = let a = c .args in storeWith (a .z) (numbers (a .slots .now) (a .frames .now) (a .valid .now) (a .recency .now))
-    (buffers (a .flash .now) (a .wear .now) (a .pspace .now) (a .bspace .now))
+store c = let a = c .args in storeWith (a .z) (numbers (a .slots .now) (a .frames .now) (a .valid .now) (a .recency .now) (a .uses .now))
+    (buffers (a .flash .now) (a .codes .now) (a .marks .now) (a .wear .now) (a .pspace .now) (a .bspace .now))
 
 -- the record is sound, and the buffers fit
 passed : (c : tie.Else1) →
@@ -76,12 +77,12 @@ passed c =
 
 fitting : (c : tie.Else2) →
     let start : tie.Start = search back in
-    lentOk (store start .cache .sizes) (store start .lent) ≡ true
+    lentOk storeFormat (store start .cache .sizes) (store start .lent) ≡ true
 fitting c =
     let after-lengths-ok : tie.After-lengths-ok = search back in
     let start : tie.Start = search back in
     let a = start .args in
-    sym (lengths-lent (sizesOf (a .z)) (a .flash .now) (a .wear .now) (a .pspace .now) (a .bspace .now))
+    sym (lengths-lent (sizesOf (a .z)) (a .flash .now) (a .codes .now) (a .marks .now) (a .wear .now) (a .pspace .now) (a .bspace .now))
     ∙ sym (after-lengths-ok .lengths-ok .ensures) ∙ not-false _ (c .if2 .left)
 
 lists-sound-requires : tie.Need-lists-sound-requires
@@ -102,7 +103,7 @@ returns-2 c =
     let start : tie.Start = search back in
     let a = start .args in
     sym (call-buffer leastRecent (store start) _ (passed else1) (sym
-    (lengths-lent (sizesOf (a .z)) (a .flash .now) (a .wear .now) (a .pspace .now) (a .bspace .now))
+    (lengths-lent (sizesOf (a .z)) (a .flash .now) (a .codes .now) (a .marks .now) (a .wear .now) (a .pspace .now) (a .bspace .now))
     ∙ sym (after-lengths-ok .lengths-ok .ensures) ∙ not-true _ (c .if2 .taken)))
 
 cast-if3 : tie.Need-cast-if3
@@ -198,17 +199,25 @@ returns-7 c =
     let else1 : tie.Else1 = search back in
     let s : tie.Start = search back in
     let w = after-write .write in
-    let f = fits-of _ (store s .lent) (fitting else2) in
+    let f = fits-of storeFormat _ (store s .lent) (fitting else2) in
     part-done (store s) (s .args .n .0) (s .args .first) (s .args .bytes .now) (s .args .page .now) (passed else1) (fitting else2)
     (else3 .if3 .left) (else4 .if4 .left) (sym (after-reach-ok .reach-ok .ensures) ∙ not-false _ (else5 .if5 .left))
     (ne-eqb _ 0 (else6 .if6 .left)) _
     (record {
       flash-length = omega (arith, w .kept, f);
+      codes-length = omega (arith, w .kept, f);
+      marks-length = omega (arith, w .kept, f);
       wear-length = omega (arith, w .kept, f);
       pspace-length = omega (arith, w .kept, f);
       bspace-length = omega (arith, w .kept, f);
     })
     _ _ _ (w .ensures)
+
+same-length-6 : tie.Need-same-length-6
+same-length-6 c = search needs
+
+same-length-7 : tie.Need-same-length-7
+same-length-7 c = search needs
 
 pub write-spec : {M : Type 1} → statement M
 write-spec =
@@ -231,4 +240,6 @@ write-spec =
     same-length-3
     same-length-4
     same-length-5
+    same-length-6
+    same-length-7
     returns-7)

@@ -1,3 +1,4 @@
+use Rattle.model.specs.Formats.{storeFormat}
 use borrow.Author.Needs.{needs}
 use native.Mathlib.Omega.{arith}
 use mathlib.Core.Path.{_≡_, sym, _∙_}
@@ -41,8 +42,8 @@ ruleset back = (from-after-lists-sound, from-else1, from-after-lengths-ok, from-
 
 -- as the call began
 abbrev store : tie.Start → Store
-store c = let a = c .args in storeWith (a .z) (numbers (a .slots .now) (a .frames .now) (a .valid .now) (a .recency .now))
-    (buffers (a .flash .now) (a .wear .now) (a .pspace .now) (a .bspace .now))
+store c = let a = c .args in storeWith (a .z) (numbers (a .slots .now) (a .frames .now) (a .valid .now) (a .recency .now) (a .uses .now))
+    (buffers (a .flash .now) (a .codes .now) (a .marks .now) (a .wear .now) (a .pspace .now) (a .bspace .now))
 
 -- the record is sound, and the buffers fit
 passed : (c : tie.Else1) →
@@ -54,12 +55,12 @@ passed c =
 
 fitting : (c : tie.Else2) →
     let start : tie.Start = search back in
-    lentOk (store start .cache .sizes) (store start .lent) ≡ true
+    lentOk storeFormat (store start .cache .sizes) (store start .lent) ≡ true
 fitting c =
     let after-lengths-ok : tie.After-lengths-ok = search back in
     let start : tie.Start = search back in
     let a = start .args in
-    sym (lengths-lent (sizesOf (a .z)) (a .flash .now) (a .wear .now) (a .pspace .now) (a .bspace .now))
+    sym (lengths-lent (sizesOf (a .z)) (a .flash .now) (a .codes .now) (a .marks .now) (a .wear .now) (a .pspace .now) (a .bspace .now))
     ∙ sym (after-lengths-ok .lengths-ok .ensures) ∙ not-false _ (c .if2 .left)
 
 lists-sound-requires : tie.Need-lists-sound-requires
@@ -80,7 +81,7 @@ returns-2 c =
     let start : tie.Start = search back in
     let a = start .args in
     sym (call-buffer leastRecent (store start) _ (passed else1) (sym
-    (lengths-lent (sizesOf (a .z)) (a .flash .now) (a .wear .now) (a .pspace .now) (a .bspace .now))
+    (lengths-lent (sizesOf (a .z)) (a .flash .now) (a .codes .now) (a .marks .now) (a .wear .now) (a .pspace .now) (a .bspace .now))
     ∙ sym (after-lengths-ok .lengths-ok .ensures) ∙ not-true _ (c .if2 .taken)))
 
 cast-if3 : tie.Need-cast-if3

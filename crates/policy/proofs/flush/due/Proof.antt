@@ -13,7 +13,7 @@ use Rattle.policy.proofs.flush.due.Tie as tie
 
 -- the directory as the call began
 abbrev whole : tie.Start → Directory
-whole c = numbers (c .args .slots .now) (c .args .frames .now) (c .pre .valid) (c .args .recency .now)
+whole c = numbers (c .args .slots .now) (c .args .frames .now) (c .pre .valid) (c .args .recency .now) (c .pre .uses)
 
 oldest : (c : tie.After-oldest-occupied) →
     let start : tie.Start = search in
@@ -28,7 +28,7 @@ unfolding lowestInSlots slotCount inBlock
 lowest c = c .lowest-in-slots .ensures
 
 oldest-occupied-requires : tie.Need-oldest-occupied-requires
-oldest-occupied-requires c κs = record { slots = c .args .slots .now; valid = c .pre .valid; sound = c .pre .sound }
+oldest-occupied-requires c κs = record { slots = c .args .slots .now; valid = c .pre .valid; uses = c .pre .uses; sound = c .pre .sound }
 
 cast-if1 : tie.Need-cast-if1
 cast-if1 c = search needs
@@ -46,7 +46,13 @@ returns c =
 lowest-in-slots-requires : tie.Need-lowest-in-slots-requires
 lowest-in-slots-requires c κs =
     let start : tie.Start = search in
-    record { frames = start .args .frames .now; valid = start .pre .valid; recency = start .args .recency .now; sound = start .pre .sound }
+    record {
+      frames = start .args .frames .now;
+      valid = start .pre .valid;
+      recency = start .args .recency .now;
+      uses = start .pre .uses;
+      sound = start .pre .sound;
+    }
 
 returns-2 : tie.Need-returns-2
 unfolding dueOf leastRecent occupied lowestInSlots slotCount inBlock

@@ -16,14 +16,14 @@ use Rattle.policy.proofs.flush.lowest_in_slots.Tie as tie
 
 -- low is the least entry of the slots before i
 abbrev Inv-loop : tie.InvT-loop
-Inv-loop z slots end low₀ i₀ low i = (i ≤ end) × (low ≡ least i (slotAt (numbers slots [] [] [])) vacant)
+Inv-loop z slots end low₀ i₀ low i = (i ≤ end) × (low ≡ least i (slotAt (numbers slots [] [] [] [])) vacant)
 
 abbrev μ-loop : tie.MeasureT-loop
 μ-loop z slots end low₀ i₀ low i = end - i
 
 -- the directory as the call began
 abbrev whole : tie.Start Inv-loop μ-loop → Directory
-whole c = numbers (c .args .slots .now) (c .pre .frames) (c .pre .valid) (c .pre .recency)
+whole c = numbers (c .args .slots .now) (c .pre .frames) (c .pre .valid) (c .pre .recency) (c .pre .uses)
 
 -- the least of all slots
 all-slots : (c : tie.After-loop Inv-loop μ-loop) →

@@ -10,7 +10,7 @@ use Rattle.policy.proofs.flush.lowest_worn.Tie as tie
 
 -- the directory as the call began
 abbrev whole : tie.Start → Directory
-whole c = numbers (c .args .slots .now) (c .args .frames .now) (c .pre .valid) (c .pre .recency)
+whole c = numbers (c .args .slots .now) (c .args .frames .now) (c .pre .valid) (c .pre .recency) (c .pre .uses)
 
 in-slots : (c : tie.After-worn-in-slots) →
     let start : tie.Start = search in
@@ -31,13 +31,20 @@ worn-in-slots-requires c κs =
       frames = start .args .frames .now;
       valid = start .pre .valid;
       recency = start .pre .recency;
+      uses = start .pre .uses;
       with-wear = start .pre .with-wear;
     }
 
 worn-in-frames-requires : tie.Need-worn-in-frames-requires
 worn-in-frames-requires c κs =
     let start : tie.Start = search in
-    record { slots = start .args .slots .now; valid = start .pre .valid; recency = start .pre .recency; with-wear = start .pre .with-wear }
+    record {
+      slots = start .args .slots .now;
+      valid = start .pre .valid;
+      recency = start .pre .recency;
+      uses = start .pre .uses;
+      with-wear = start .pre .with-wear;
+    }
 
 returns : tie.Need-returns
 unfolding lowestWorn cached frameOf slotCount inBlock

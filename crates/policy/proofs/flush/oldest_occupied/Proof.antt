@@ -18,7 +18,7 @@ use Rattle.policy.proofs.flush.oldest_occupied.Statement.{statement}
 use Rattle.policy.proofs.flush.oldest_occupied.Tie as tie
 
 abbrev passes : List ℕ → List ℕ → ℕ → Bool
-passes frames recency j = occupied (numbers [] frames [] recency) (getD recency j 0)
+passes frames recency j = occupied (numbers [] frames [] recency []) (getD recency j 0)
 
 -- the first i frames of the order are vacant
 abbrev Inv-loop : tie.InvT-loop
@@ -29,7 +29,7 @@ abbrev μ-loop : tie.MeasureT-loop
 
 -- the directory as the call began
 abbrev whole : tie.Start Inv-loop μ-loop → Directory
-whole c = numbers (c .pre .slots) (c .args .frames .now) (c .pre .valid) (c .args .recency .now)
+whole c = numbers (c .pre .slots) (c .args .frames .now) (c .pre .valid) (c .args .recency .now) (c .pre .uses)
 
 -- the frame at hand
 frame-lt : (c : tie.In-loop Inv-loop μ-loop) →

@@ -35,7 +35,7 @@ abbrev μ-loop : tie.MeasureT-loop
 
 -- the directory as the call began
 abbrev whole : tie.Start Inv-loop μ-loop → Directory
-whole c = numbers (c .pre .slots) (c .args .frames .now) (c .pre .valid) (c .pre .recency)
+whole c = numbers (c .pre .slots) (c .args .frames .now) (c .pre .valid) (c .pre .recency) (c .pre .uses)
 
 loop-holds : tie.Need-loop-holds Inv-loop μ-loop
 unfolding least

@@ -37,7 +37,7 @@ abbrev μ-loop : tie.MeasureT-loop
 
 -- the directory as the call began
 abbrev whole : tie.Start Inv-loop μ-loop → Directory
-whole c = numbers (c .args .slots .now) (c .pre .frames) (c .pre .valid) (c .pre .recency)
+whole c = numbers (c .args .slots .now) (c .pre .frames) (c .pre .valid) (c .pre .recency) (c .pre .uses)
 
 -- the page in the slot, and its block
 found : (c : tie.After-block-by Inv-loop μ-loop) →

@@ -31,7 +31,7 @@ abbrev μ-loop : tie.MeasureT-loop
 
 -- the loop is about the block and the offset of page n
 with-page : (z : Sizes) (frames valid : List ℕ) (n b o : ℕ) → b ≡ n / z .«pages_per_block» → o ≡ n % z .«pages_per_block»
-    → first (z .frames) (holds frames valid b o) ≡ frameWith (sizesOf z) (numbers [] frames valid []) n
+    → first (z .frames) (holds frames valid b o) ≡ frameWith (sizesOf z) (numbers [] frames valid [] []) n
 unfolding frameWith inFrame
 with-page z frames valid n b o eb eo = ap₂ (λ (x y : ℕ). first (z .frames) (holds frames valid x y)) eb eo
 

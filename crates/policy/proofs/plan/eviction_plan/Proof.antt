@@ -17,7 +17,7 @@ abbrev sizes : tie.Start → Sizes
 sizes s = sizesOf (s .args .z)
 
 abbrev directory : tie.Start → Directory
-directory s = numbers (s .args .slots .now) (s .args .frames .now) (s .args .valid .now) (s .args .recency .now)
+directory s = numbers (s .args .slots .now) (s .args .frames .now) (s .args .valid .now) (s .args .recency .now) (s .args .uses .now)
 
 -- what each search finds, in the whole record: the victim's number and its pages
 block-is : (c : tie.After-victim) →
@@ -117,6 +117,7 @@ least-recent-with-requires c κs =
     record {
       slots = _;
       frames = _;
+      uses = _;
       sound = s .pre .sound;
       frame = _;
       frame-lt = k .0;
@@ -148,6 +149,7 @@ evict-frame-requires c κs =
     record {
       slots = _;
       valid = _;
+      uses = _;
       sound = q .sound;
       wear-length = q .wear-length;
       block-lt = occupied-all (sizes s) (directory s) (q .sound) (omega arith);

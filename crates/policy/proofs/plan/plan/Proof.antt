@@ -13,7 +13,7 @@ abbrev sizes : tie.Start → Sizes
 sizes s = sizesOf (s .args .z)
 
 abbrev directory : tie.Start → Directory
-directory s = numbers (s .args .slots .now) (s .args .frames .now) (s .args .valid .now) (s .args .recency .now)
+directory s = numbers (s .args .slots .now) (s .args .frames .now) (s .args .valid .now) (s .args .recency .now) (s .args .uses .now)
 
 -- what each search finds, in the whole record
 slot-is : (c : tie.After-slot-of) →

@@ -17,7 +17,7 @@ use Rattle.policy.proofs.victim.evict_frame.Statement.{statement}
 use Rattle.policy.proofs.victim.evict_frame.Tie as tie
 
 abbrev passes : Sizes → List ℕ → List ℕ → List ℕ → ℕ → Bool
-passes z frames recency wear j = evictable (sizesOf z) (numbers [] frames [] recency) wear (getD recency j 0)
+passes z frames recency wear j = evictable (sizesOf z) (numbers [] frames [] recency []) wear (getD recency j 0)
 
 -- the first i frames of the order hold worn blocks
 abbrev Inv-loop : tie.InvT-loop

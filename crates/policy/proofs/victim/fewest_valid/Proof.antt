@@ -14,7 +14,7 @@ use Rattle.policy.proofs.victim.fewest_valid.Statement.{statement}
 use Rattle.policy.proofs.victim.fewest_valid.Tie as tie
 
 abbrev pages : Sizes → List ℕ → ℕ → ℕ
-pages z valid = validCount (sizesOf z) (numbers [] [] valid [])
+pages z valid = validCount (sizesOf z) (numbers [] [] valid [] [])
 
 -- fewest is the least number of valid pages among the frames before f
 abbrev Inv-loop : tie.InvT-loop
@@ -60,7 +60,7 @@ loop-again c =
     let e = l .inv .1 in
     let top : ℕ = suc (a .z .«pages_per_block») in
     let n : after-count .count .result ≡ pages (a .z) (a .valid .now) (l .f) = after-count .count .ensures
-    ∙ valid-ones (sizesOf (a .z)) (numbers (q .slots) (q .frames) (a .valid .now) (q .recency)) (q .sound) (l .f) (omega arith) in
+    ∙ valid-ones (sizesOf (a .z)) (numbers (q .slots) (q .frames) (a .valid .now) (q .recency) (q .uses)) (q .sound) (l .f) (omega arith) in
     elim (c .if2 .came) [
       | inl w ↦ (omega arith, w .1 ∙ n ∙ least-hit (l .f) (pages (a .z) (a .valid .now)) top (let t = w .0 .taken in omega arith))
       | inr w ↦ (omega arith, w .1 ∙ e ∙ least-miss (l .f) (pages (a .z) (a .valid .now)) top (let t = w .0 .left in omega arith))

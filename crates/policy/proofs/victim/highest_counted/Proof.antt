@@ -18,7 +18,7 @@ use Rattle.policy.proofs.victim.highest_counted.Tie as tie
 -- the table counts the pages of each block in the slots before i, and lead is the highest rank met
 abbrev Inv-loop : tie.InvT-loop
 Inv-loop z slots counts₀ end m lead₀ i₀ counts lead i = (i ≤ end) × (length counts ≡ length counts₀)
-    × Counted (sizesOf z) (numbers slots [] [] []) i counts lead
+    × Counted (sizesOf z) (numbers slots [] [] [] []) i counts lead
 
 abbrev μ-loop : tie.MeasureT-loop
 μ-loop z slots counts₀ end m lead₀ i₀ counts lead i = end - i
@@ -27,7 +27,7 @@ abbrev μ-loop : tie.MeasureT-loop
 found : (c : tie.After-block-by Inv-loop μ-loop) →
     let at-loop : tie.At-loop Inv-loop μ-loop = search in
     let start : tie.Start Inv-loop μ-loop = search in
-    Held (sizesOf (start .args .z)) (numbers (start .args .slots .now) [] [] []) (at-loop .loop .i) (c .block-by .result .0)
+    Held (sizesOf (start .args .z)) (numbers (start .args .slots .now) [] [] [] []) (at-loop .loop .i) (c .block-by .result .0)
 found c =
     let after-page : tie.After-page Inv-loop μ-loop = search in
     let then1 : tie.Then1 Inv-loop μ-loop = search in
@@ -56,7 +56,7 @@ few c =
     let start : tie.Start Inv-loop μ-loop = search in
     let l = at-loop .loop in
     let e = l .inv .2 .each (c .block-by .result .0) (found c .low) in
-    let m = count-le (l .i) (inBlock (sizesOf (start .args .z)) (numbers (start .args .slots .now) [] [] []) (c .block-by .result .0)) in
+    let m = count-le (l .i) (inBlock (sizesOf (start .args .z)) (numbers (start .args .slots .now) [] [] [] []) (c .block-by .result .0)) in
     let p = start .pre .0 .sound .limits .P-high in
     omega arith
 
@@ -142,7 +142,7 @@ loop-again c =
     let l = at-loop .loop in
     let s = start .pre .0 .sound in
     let sz = sizesOf (start .args .z) in
-    let d = numbers (start .args .slots .now) [] [] [] in
+    let d = numbers (start .args .slots .now) [] [] [] [] in
     elim (c .if1 .came) [
       | inl w ↦ let p = found (record {
         before = record { before = record { before = after-x; if1 = w .0 }; page = w .1 };

@@ -19,7 +19,7 @@ use Rattle.policy.proofs.victim.least_recent_with.Tie as tie
 
 -- the pages of the frame at position i of the order
 abbrev pages : Sizes → List ℕ → List ℕ → ℕ → ℕ
-pages z valid recency i = validCount (sizesOf z) (numbers [] [] valid []) (getD recency i 0)
+pages z valid recency i = validCount (sizesOf z) (numbers [] [] valid [] []) (getD recency i 0)
 
 abbrev passes : Sizes → List ℕ → List ℕ → ℕ → ℕ → Bool
 passes z valid recency v i = eqb (pages z valid recency i) v
@@ -117,7 +117,7 @@ returns-2 c =
     let p = start .pre in
     let k = p .sound .listed .recency-has (p .frame) (p .frame-lt) in
     let kl = k .1 in
-    clash (eq-eqb _ _ (ap (validCount (sizesOf (a .z)) (numbers [] [] (a .valid .now) [])) (k .2) ∙ p .frame-has))
+    clash (eq-eqb _ _ (ap (validCount (sizesOf (a .z)) (numbers [] [] (a .valid .now) [] [])) (k .2) ∙ p .frame-has))
     (l .inv .1 (k .0) (omega arith))
 
 pub least-recent-with-spec : {M : Type 1} → statement M

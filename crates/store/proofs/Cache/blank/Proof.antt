@@ -1,4 +1,5 @@
 use borrow.Author.Needs.{needs}
+use mathlib.Core.Path.{refl}
 use Rattle.model.specs.Directory.{blankCache}
 use Rattle.store.proofs.Cache.blank.Statement.{statement}
 use Rattle.store.proofs.Cache.blank.Tie as tie
@@ -17,7 +18,7 @@ returns : tie.Need-returns
 unfolding blankCache
 returns c =
     let after-blank : tie.After-blank = search in
-    λ i. record { sizes = after-blank .blank .ensures i; directory = c .vacant .ensures i }
+    (λ i. record { sizes = after-blank .blank .ensures i; directory = c .vacant .ensures i }, refl)
 
 pub blank-spec : {M : Type 1} → statement M
 blank-spec = tie.close (tie.spec blank-requires vacant-requires returns)

@@ -1,11 +1,32 @@
 use borrow.Author.Needs.{needs}
 use mathlib.Core.Path.{_≡_, sym}
 use Rattle.cache.specs.declared.Directory.{Directory}
+use lib.ListN.{length, length-map}
 use Rattle.cache.specs.View.{directoryOf, numbers}
 use Rattle.cache.proofs.View.{shape-of, lists-of}
-use Rattle.store.proofs.Lists.{on-lists}
+use Rattle.store.proofs.OnLists.{on-lists}
 use Rattle.store.proofs.Cache.read.Statement.{statement}
 use Rattle.store.proofs.Cache.read.Tie as tie
+
+-- the ways back, from place to place: `search back` goes by them
+abbrev from-after-page-numbers : tie.After-page-numbers → tie.Start
+from-after-page-numbers c = search
+
+abbrev from-after-block-numbers : tie.After-block-numbers → tie.After-page-numbers
+from-after-block-numbers c = search
+
+abbrev from-after-read : tie.After-read → tie.After-block-numbers
+from-after-read c = search
+
+ruleset back = (
+  from-after-page-numbers,
+  from-after-block-numbers,
+  from-after-read,
+)
+
+-- there are eight entries
+long : (c : tie.Start) → length (c .args .self .entries) ≡ 8
+long c = simp length-map at (c .good .0 .1 .1 .1 .0 .1 .0 .1)
 
 page-numbers-requires : tie.Need-page-numbers-requires
 page-numbers-requires c κs = search needs
@@ -15,20 +36,20 @@ block-numbers-requires c κs = search needs
 
 -- the lists are the directory's
 lists : (c : tie.After-block-numbers) →
-    let after-page-numbers : tie.After-page-numbers = search in
-    let start : tie.Start = search in
+    let after-page-numbers : tie.After-page-numbers = search back in
+    let start : tie.Start = search back in
     let d = start .args .self .directory in numbers (after-page-numbers .page-numbers .result) (c .block-numbers .result) (d .valid)
-    (d .recency) ≡ directoryOf d
+    (d .recency) (d .uses) ≡ directoryOf d
 lists c =
-    let after-page-numbers : tie.After-page-numbers = search in
-    let start : tie.Start = search in
+    let after-page-numbers : tie.After-page-numbers = search back in
+    let start : tie.Start = search back in
     lists-of (start .args .self .directory) _ _ (after-page-numbers .page-numbers .ensures) (c .block-numbers .ensures)
 
 read-requires : tie.Need-read-requires
 read-requires c κs =
-    let after-block-numbers : tie.After-block-numbers = search in
-    let s : tie.Start = search in
-    rw (lists after-block-numbers) (shape-of (s .args .self .directory) _ (s .good .0 .1 .1 .1 .0 .1 .1))
+    let after-block-numbers : tie.After-block-numbers = search back in
+    let s : tie.Start = search back in
+    (rw (lists after-block-numbers) (shape-of (s .args .self .directory) _ (s .good .0 .1 .1 .1 .1 .0 .1 .1)), long s)
 
 same-length : tie.Need-same-length
 same-length c = search needs
@@ -36,18 +57,20 @@ same-length c = search needs
 returns : tie.Need-returns
 unfolding directoryOf
 returns c =
-    let after-read : tie.After-read = search in
-    let b : tie.After-block-numbers = search in
-    let after-page-numbers : tie.After-page-numbers = search in
-    let start : tie.Start = search in
+    let after-read : tie.After-read = search back in
+    let b : tie.After-block-numbers = search back in
+    let after-page-numbers : tie.After-page-numbers = search back in
+    let start : tie.Start = search back in
     let d = start .args .self .directory in
     let next : Directory = record {
-      recency = after-read .read .last .1 .1 .1 .1 .0;
+      recency = after-read .read .last .1 .1 .1 .1 .1 .0;
       valid = d .valid;
+      uses = after-read .read .last .1 .1 .1 .1 .1 .1 .0;
       frames = d .frames;
       slots = d .slots;
     } in
-    on-lists _ d next _ _ _ _ _ _ _ (lists b) (sym (lists-of next _ _ (after-page-numbers .page-numbers .ensures)
+    on-lists _ d next _ _ _ _ _ _ _ _ (lists b) (sym (lists-of next _ _
+    (after-page-numbers .page-numbers .ensures)
     (b .block-numbers .ensures))) (after-read .read .ensures)
 
 pub read-spec : {M : Type 1} → statement M

@@ -7,7 +7,7 @@ use Rattle.address.specs.declared.BlockNo.{BlockNo}
 use Rattle.model.specs.Sizes.{Sizes}
 use Rattle.model.specs.Directory.{Directory}
 use Rattle.model.specs.Calls.{Buffers, writeDone, refused}
-use Rattle.clean.specs.Clean.{Cleanable, BlockCleaned}
+use Rattle.clean.specs.Plain.{Cleanable, BlockCleaned}
 use Rattle.writes.proofs.Entering.{joins, join-enters, join-entered}
 use Rattle.writes.proofs.Ways.{worn-way, cleanable, cleaned, way-7}
 use Rattle.writes.proofs.evict.evict.Statement.{statement}
@@ -20,16 +20,16 @@ from-after-block c = search
 abbrev from-else1 : tie.Else1 → tie.After-block
 from-else1 c = search
 
-abbrev from-after-clean-block : tie.After-clean-block → tie.Else1
-from-after-clean-block c = search
+abbrev from-after-clean-plain : tie.After-clean-plain → tie.Else1
+from-after-clean-plain c = search
 
-abbrev from-after-join : tie.After-join → tie.After-clean-block
+abbrev from-after-join : tie.After-join → tie.After-clean-plain
 from-after-join c = search
 
 abbrev from-after-enter : tie.After-enter → tie.After-join
 from-after-enter c = search
 
-ruleset back = (from-after-block, from-else1, from-after-clean-block, from-after-join, from-after-enter)
+ruleset back = (from-after-block, from-else1, from-after-clean-plain, from-after-join, from-after-enter)
 
 mul-block : tie.Need-mul-block
 mul-block c =
@@ -77,7 +77,7 @@ returns c =
     let after-block : tie.After-block = search back in
     let start : tie.Start = search back in
     let e = block-is after-block in
-    let w = worn-way _ _ _ _ _ _ _ _ _ (start .pre) (start .args .n .0) (rw e at (c .if1 .taken)) in
+    let w = worn-way _ _ _ _ _ _ _ _ _ _ _ (start .pre) (start .args .n .0) (rw e at (c .if1 .taken)) in
     record {
       answer-is = ap (refused 6) e ∙ w .answer-is;
       directory-is = w .directory-is;
@@ -98,13 +98,13 @@ unworn c =
 may-clean : {sz : Sizes} {d : Directory} {u : Buffers} {a b f : ℕ} → a ≡ b → Cleanable sz d u a f → Cleanable sz d u b f
 may-clean {sz} {d} {u} {a} {b} {f} e w = subst (λ (x : ℕ). Cleanable sz d u x f) e w
 
-clean-block-requires : tie.Need-clean-block-requires
-clean-block-requires c κs =
+clean-plain-requires : tie.Need-clean-plain-requires
+clean-plain-requires c κs =
     let else1 : tie.Else1 = search back in
     let after-block : tie.After-block = search back in
     let start : tie.Start = search back in
     let e = block-is after-block in
-    may-clean (sym e) (cleanable _ _ _ _ _ _ _ _ _ (start .pre) (unworn else1))
+    may-clean (sym e) (cleanable _ _ _ _ _ _ _ _ _ _ _ (start .pre) (unworn else1))
 
 -- what was cleaned, of another name of the block
 by-block : {sz : Sizes} {d d′ : Directory} {u u′ : Buffers} {a b f r : ℕ} → a ≡ b → BlockCleaned sz d u a f d′ r u′
@@ -113,22 +113,22 @@ by-block {sz} {d} {d′} {u} {u′} {a} {b} {f} {r} e w = subst (λ (x : ℕ). B
 
 join-requires : tie.Need-join-requires
 join-requires c κs =
-    let after-clean-block : tie.After-clean-block = search back in
+    let after-clean-plain : tie.After-clean-plain = search back in
     let after-block : tie.After-block = search back in
     let start : tie.Start = search back in
     let q = start .pre in
-    let h = cleaned _ _ _ _ _ _ _ _ _ q _ (by-block (block-is after-block) (after-clean-block .clean-block .ensures) .directory-is) in
+    let h = cleaned _ _ _ _ _ _ _ _ _ _ _ q _ (by-block (block-is after-block) (after-clean-plain .clean-plain .ensures) .directory-is) in
     joins _ _ _ _ _ _ (start .args .page .now) (h .0) (h .1 .victim-lt) (h .1 .frame-lt) (q .ready .fits .pspace-length)
-    (omega (arith, after-clean-block .clean-block .kept, q .ready .fits))
+    (omega (arith, after-clean-plain .clean-plain .kept, q .ready .fits))
 
 enter-requires : tie.Need-enter-requires
 enter-requires c κs =
     let after-join : tie.After-join = search back in
-    let after-clean-block : tie.After-clean-block = search back in
+    let after-clean-plain : tie.After-clean-plain = search back in
     let after-block : tie.After-block = search back in
     let start : tie.Start = search back in
     let q = start .pre in
-    let h = cleaned _ _ _ _ _ _ _ _ _ q _ (by-block (block-is after-block) (after-clean-block .clean-block .ensures) .directory-is) in
+    let h = cleaned _ _ _ _ _ _ _ _ _ _ _ q _ (by-block (block-is after-block) (after-clean-plain .clean-plain .ensures) .directory-is) in
     join-enters _ _ _ _ _ (start .args .bspace .now) _ (h .0) (h .1) (q .ready .fits .pspace-length) (q .page-length) _
     (after-join .join .ensures .directory)
 
@@ -148,22 +148,28 @@ returns-2 : tie.Need-returns-2
 returns-2 c =
     let after-enter : tie.After-enter = search back in
     let after-join : tie.After-join = search back in
-    let after-clean-block : tie.After-clean-block = search back in
+    let after-clean-plain : tie.After-clean-plain = search back in
     let else1 : tie.Else1 = search back in
     let after-block : tie.After-block = search back in
     let start : tie.Start = search back in
     let q = start .pre in
     let e = block-is after-block in
-    let w = by-block e (after-clean-block .clean-block .ensures) in
-    let h = cleaned _ _ _ _ _ _ _ _ _ q _ (w .directory-is) in
-    let o = way-7 _ _ _ _ _ _ _ _ _ q _ _ _ _ _ _ _ _ _ (unworn else1) w
+    let w = by-block e (after-clean-plain .clean-plain .ensures) in
+    let h = cleaned _ _ _ _ _ _ _ _ _ _ _ q _ (w .directory-is) in
+    let o = way-7 _ _ _ _ _ _ _ _ _ _ _ q _ _ _ _ _ _ _ _ _ _ _ (unworn else1) w
     (join-entered _ _ _ _ _ _ _ (h .0) _ _ _ _ _ (after-join .join .ensures) (after-enter .enter .ensures)) in
     record {
-      answer-is = ap (λ (b : ℕ). writeDone 7 b (after-clean-block .clean-block .result)) e ∙ o .answer-is;
+      answer-is = ap (λ (b : ℕ). writeDone 7 b (after-clean-plain .clean-plain .result)) e ∙ o .answer-is;
       directory-is = o .directory-is;
       wear-is = o .wear-is;
       pages-are = o .pages-are;
     }
+
+same-length-5 : tie.Need-same-length-5
+same-length-5 c = search needs
+
+same-length-6 : tie.Need-same-length-6
+same-length-6 c = search needs
 
 pub evict-spec : {M : Type 1} → statement M
 evict-spec =
@@ -176,11 +182,13 @@ evict-spec =
     mul-if1
     slice-read-if1
     returns
-    clean-block-requires
+    clean-plain-requires
     join-requires
     enter-requires
     same-length
     same-length-2
     same-length-3
     same-length-4
+    same-length-5
+    same-length-6
     returns-2)

@@ -19,7 +19,7 @@ sizes s = sizesOf (s .args .z)
 
 -- the directory as the call began
 abbrev lent : tie.Start → Directory
-lent s = let a = s .args in numbers (a .slots .now) (a .frames .now) (a .valid .now) (a .recency .now)
+lent s = let a = s .args in numbers (a .slots .now) (a .frames .now) (a .valid .now) (a .recency .now) (a .uses .now)
 
 -- ---- what ways 4 and 5 share: the victim's pages join a frame, and the page enters a slot
 
@@ -74,7 +74,7 @@ returns c =
     let start : tie.Start = search in
     let is = after-room .room .given .1 in
     let g = room-holds _ _ _ (start .args .n .0) _ _ _ (start .pre) is in
-    by-room _ _ _ _ _ _ _ (start .pre) is (way-4 _ _ _ _ _ _ _ _ _ _ _ _ _
+    by-room _ _ _ _ _ _ _ (start .pre) is (way-4 _ _ _ _ _ _ _ _ _ _ _ _ _ _ _
     (has-joined start _ _ g _ _ _ _ (after-join .join .ensures) (after-enter .enter .ensures)))
 
 -- ---- way 5
@@ -110,7 +110,7 @@ returns-2 c =
     let start : tie.Start = search in
     let is = after-room2 .room2 .given .1 in
     let g = room-holds _ _ _ (start .args .n .0) _ _ _ (start .pre) is in
-    by-room _ _ _ _ _ _ _ (start .pre) is (way-5 _ _ _ _ _ _ _ _ _ _ _ _ _
+    by-room _ _ _ _ _ _ _ (start .pre) is (way-5 _ _ _ _ _ _ _ _ _ _ _ _ _ _ _
     (has-joined start _ _ g _ _ _ _ (after-join2 .join2 .ensures) (after-enter2 .enter2 .ensures)))
 
 -- ---- way 6
@@ -153,7 +153,7 @@ returns-3 c =
     let after-room3 : tie.After-room3 = search in
     let start : tie.Start = search in
     let q = start .pre in
-    by-room _ _ _ _ _ _ _ q (after-room3 .room3 .given .1) (way-6 _ _ _ _ _ _ _ _ _ _ _ _ _
+    by-room _ _ _ _ _ _ _ q (after-room3 .room3 .given .1) (way-6 _ _ _ _ _ _ _ _ _ _ _ _ _ _ _
     (exchange-entered _ _ _ _ _ _ _ (q .ready .sound) _ _ _ _ _ _ (after-exchange .exchange .ensures) (after-enter3 .enter3 .ensures)))
 
 -- ---- way 7
@@ -192,6 +192,12 @@ returns-4 c =
     let start : tie.Start = search in
     by-room _ _ _ _ _ _ _ (start .pre) (after-room4 .room4 .given .1) (after-evict .evict .ensures)
 
+same-length-11 : tie.Need-same-length-11
+same-length-11 c = search needs
+
+same-length-12 : tie.Need-same-length-12
+same-length-12 c = search needs
+
 pub write-spec : {M : Type 1} → statement M
 write-spec =
     tie.close
@@ -220,4 +226,6 @@ write-spec =
     same-length-8
     same-length-9
     same-length-10
+    same-length-11
+    same-length-12
     returns-4)

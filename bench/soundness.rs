@@ -7,9 +7,9 @@ mod numbers;
 #[path = "store/src/random.rs"]
 mod random;
 #[allow(dead_code)]
-#[path = "../rust/src/record.rs"]
+#[path = "plain/src/record.rs"]
 mod record;
-#[path = "store/src/plain/sound.rs"]
+#[path = "plain/src/sound.rs"]
 mod plain;
 
 use numbers::{Numbers, Opening};

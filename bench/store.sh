@@ -1,5 +1,5 @@
 #!/usr/bin/env bash
-# bench/store.sh: measures the proved store beside a plain Rust one (bench/store). Needs cargo on x86-64.
+# bench/store.sh: measures the proved store beside a plain Rust one (bench/plain). Needs cargo on x86-64.
 set -eu
 cd "$(dirname "$0")/.."
 rt staticlib bench_sound | tail -n 1

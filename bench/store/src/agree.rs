@@ -1,9 +1,10 @@
 //! Both stores on the same random histories: after each call the answers, the records, all buffers and the page must be equal. Some
 //! openings get a size or an option that is refused, some calls a record with an entry spoilt, a buffer of another length or a page that
 //! is not there.
-use crate::plain::Plain;
+use crate::both;
 use crate::random::Random;
-use clash::{Answer, Cache, Memory, Options, Refusal, Sizes, VACANT};
+use clash::{Cache, Memory, Options, Sizes, VACANT};
+use plain::{Answer, Plain, Said};
 
 const HISTORIES: u32 = 1000;
 const CALLS: u32 = 400;
@@ -66,7 +67,8 @@ fn opened(random: &mut Random, tally: &mut Tally) -> Option<Side> {
     spoil_opening(random, &mut sizes, &mut options, &mut memory);
     let (sizes, options) = (Sizes::from(sizes), Options::from(options));
     let cache = Cache::open(sizes, options, &memory.lend());
-    assert_eq!(cache, Plain::open(sizes, options, &memory.lend()).map(|plain| plain.0));
+    let plain = Plain::open(both::sizes(sizes), both::options(options), &both::lent(memory.lend()));
+    assert_eq!(cache.map_err(both::refused), plain.map(both::proved));
     tally.calls += 1;
     match cache {
         Ok(cache) => Some(Side { cache, memory, page: random.bytes(sizes.page_size as usize) }),
@@ -126,40 +128,40 @@ fn spoil(random: &mut Random, side: &mut Side) {
     }
 }
 
-type Calls = fn(&mut Side, u32, u32) -> Result<Answer, Refusal>;
+type Calls = fn(&mut Side, u32, u32) -> Said;
 
-fn call(kind: u32, n: u32, side: &mut Side, on: Calls) -> Result<Answer, Refusal> {
+fn call(kind: u32, n: u32, side: &mut Side, on: Calls) -> Said {
     side.page.iter_mut().enumerate().for_each(|(i, byte)| *byte = byte.wrapping_add(i as u8 * 3 + 1));
     on(side, kind, n)
 }
 
 impl Side {
-    fn proved(&mut self, kind: u32, n: u32) -> Result<Answer, Refusal> {
+    fn proved(&mut self, kind: u32, n: u32) -> Said {
         let mut lent = self.memory.lend();
-        match kind {
+        both::said(match kind {
             0 => self.cache.flush(&mut lent),
             1 => self.cache.step(&mut lent),
             2..=12 => self.cache.read(&lent, n, &mut self.page),
             _ => self.cache.write(&mut lent, n, &self.page),
-        }
+        })
     }
 
-    fn plain(&mut self, kind: u32, n: u32) -> Result<Answer, Refusal> {
-        let mut lent = self.memory.lend();
-        let mut plain = Plain(self.cache);
+    fn plain(&mut self, kind: u32, n: u32) -> Said {
+        let mut lent = both::lent(self.memory.lend());
+        let mut plain = both::plain(self.cache);
         let answer = match kind {
             0 => plain.flush(&mut lent),
             1 => plain.step(&mut lent),
             2..=12 => plain.read(&lent, n, &mut self.page),
             _ => plain.write(&mut lent, n, &self.page),
         };
-        self.cache = plain.0;
+        self.cache = both::proved(plain);
         answer
     }
 }
 
 impl Tally {
-    fn count(&mut self, answer: Result<Answer, Refusal>) {
+    fn count(&mut self, answer: Said) {
         self.calls += 1;
         match answer {
             Ok(Answer::Read { way }) => self.reads[way as usize - 1] += 1,

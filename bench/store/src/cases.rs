@@ -1,7 +1,8 @@
 //! The calls to time: records taken from a long random history of writes, each with a page for which the call goes the way wanted.
-use crate::plain::Plain;
+use crate::both;
 use crate::random::Random;
-use clash::{Answer, Cache, Memory, Options, Sizes, VACANT};
+use clash::{Cache, Sizes, VACANT};
+use plain::{Answer, Memory, Options, Plain};
 
 /// So many for each way.
 pub const CASES: usize = 32;
@@ -31,14 +32,14 @@ pub fn cases(random: &mut Random, sizes: Sizes) -> Cases {
 
 /// A history with pages of one byte: how long pages are changes nothing in the record.
 fn writes(random: &mut Random, sizes: Sizes) -> [Vec<Case>; 7] {
-    let small = Sizes { page_size: 1, ..sizes };
-    let mut memory = Memory::new(&small);
-    let mut store = Plain::open(small, Options::default(), &memory.lend()).expect("sizes within limits");
+    let (small, options) = (both::sizes(Sizes { page_size: 1, ..sizes }), Options::default());
+    let mut memory = Memory::new(&small, &options);
+    let mut store = Plain::open(small, options, &memory.lend()).expect("sizes within limits");
     let mut hot: Vec<u32> = (0..2 * sizes.frames + 8).map(|_| random.below(sizes.blocks)).collect();
     let mut found: [Vec<Case>; 7] = Default::default();
     for i in 0.. {
         let n = page(random, &sizes, &mut hot);
-        let before = store.0;
+        let before = both::proved(store);
         if let Ok(Answer::Write { way, .. }) = store.write(&mut memory.lend(), n, &[0]) {
             let list = &mut found[way as usize - 1];
             if i > 2000 && list.len() < CASES && random.one_in(8) {

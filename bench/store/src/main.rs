@@ -1,9 +1,9 @@
 //! The proved store beside a plain Rust one: first both must agree on random histories, then each call is timed at run-time sizes, the
 //! sides in turn on the same records and buffers. Medians.
 mod agree;
+mod both;
 mod cases;
 mod numbers;
-mod plain;
 mod random;
 mod rows;
 mod timing;

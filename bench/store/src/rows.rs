@@ -1,10 +1,11 @@
 //! The rows of the table: which call is timed on which cases.
+use crate::both;
 use crate::cases::{cases, Case, Cases, CASES};
 use crate::numbers::Numbers;
-use crate::plain::Plain;
 use crate::random::Random;
 use crate::timing::{measure, Sides, Times};
-use clash::{Answer, Buffers, Cache, Refusal, Sizes};
+use clash::{Buffers, Cache, Refusal, Sizes};
+use plain::{Answer, Said};
 use std::hint::black_box;
 use std::time::Duration;
 
@@ -52,6 +53,12 @@ impl Lent {
         (Buffers { flash, wear: &mut self.wear, pspace, bspace, ..Default::default() }, self.page.part())
     }
 
+    /// The same, in the plain store's type.
+    fn plain_parts(&mut self) -> (plain::Buffers<'_>, &mut [u8]) {
+        let (lent, page) = self.parts();
+        (both::lent(lent), page)
+    }
+
     /// Each buffer starts at some multiple of 16 bytes, as memory from an allocator does.
     fn place(&mut self) {
         for run in [&mut self.flash, &mut self.pspace, &mut self.bspace, &mut self.page] {
@@ -66,7 +73,7 @@ pub struct Bench {
     lent: Lent,
 }
 
-type Calls = Sides<Lent, Result<Answer, Refusal>>;
+type Calls = Sides<Lent, Result<clash::Answer, Refusal>, Said>;
 
 const TIME: Duration = Duration::from_secs(1);
 
@@ -74,7 +81,7 @@ extern "C" {
     fn record_sound(r: Numbers) -> bool;
 }
 
-const SOUND: Sides<Lent, bool, Numbers> = Sides {
+const SOUND: Sides<Lent, bool, bool, Numbers> = Sides {
     idle: |_| (),
     proved: |r, _, _| unsafe { record_sound(*r) },
     plain: |c, _, _| c.sound(),
@@ -92,11 +99,11 @@ const READ: Calls = Sides {
         c.read(&lent, n, page)
     },
     plain: |c, n, l| {
-        let (lent, page) = l.parts();
+        let (lent, page) = l.plain_parts();
         c.read(&lent, n, page)
     },
     by_value: |c, n, l| {
-        let (lent, page) = l.parts();
+        let (lent, page) = l.plain_parts();
         let (next, answer) = c.read_by_value(&lent, n, page);
         *c = next;
         answer
@@ -110,11 +117,11 @@ const WRITE: Calls = Sides {
         c.write(&mut lent, n, page)
     },
     plain: |c, n, l| {
-        let (mut lent, page) = l.parts();
+        let (mut lent, page) = l.plain_parts();
         c.write(&mut lent, n, page)
     },
     by_value: |c, n, l| {
-        let (mut lent, page) = l.parts();
+        let (mut lent, page) = l.plain_parts();
         let (next, answer) = c.write_by_value(&mut lent, n, page);
         *c = next;
         answer
@@ -124,9 +131,9 @@ const WRITE: Calls = Sides {
 const STEP: Calls = Sides {
     idle: lend,
     proved: |c, _, l| c.step(&mut l.parts().0),
-    plain: |c, _, l| c.step(&mut l.parts().0),
+    plain: |c, _, l| c.step(&mut l.plain_parts().0),
     by_value: |c, _, l| {
-        let (next, answer) = c.step_by_value(&mut l.parts().0);
+        let (next, answer) = c.step_by_value(&mut l.plain_parts().0);
         *c = next;
         answer
     },
@@ -135,9 +142,9 @@ const STEP: Calls = Sides {
 const FLUSH: Calls = Sides {
     idle: lend,
     proved: |c, _, l| c.flush(&mut l.parts().0),
-    plain: |c, _, l| c.flush(&mut l.parts().0),
+    plain: |c, _, l| c.flush(&mut l.plain_parts().0),
     by_value: |c, _, l| {
-        let (next, answer) = c.flush_by_value(&mut l.parts().0);
+        let (next, answer) = c.flush_by_value(&mut l.plain_parts().0);
         *c = next;
         answer
     },
@@ -199,11 +206,11 @@ impl Bench {
 fn same(cases: &[Case], lent: &mut Lent, sides: &Calls, mut wanted: impl FnMut(Answer) -> bool) {
     lent.wear.fill(0);
     for case in cases {
-        let (mut a, mut b, mut c) = (case.record, Plain(case.record), Plain(case.record));
-        let answer = (sides.proved)(&mut a, case.n, lent);
+        let (mut a, mut b, mut c) = (case.record, both::plain(case.record), both::plain(case.record));
+        let answer = both::said((sides.proved)(&mut a, case.n, lent));
         assert_eq!(answer, (sides.plain)(&mut b, case.n, lent));
         assert_eq!(answer, (sides.by_value)(&mut c, case.n, lent));
-        assert!(a == b.0 && a == c.0);
+        assert!(a == both::proved(b) && a == both::proved(c));
         assert!(answer.is_ok_and(&mut wanted));
     }
 }

@@ -1,7 +1,8 @@
 //! Times the sides in turn on the same cases and the same buffers.
+use crate::both;
 use crate::cases::Case;
-use crate::plain::Plain;
 use clash::Cache;
+use plain::Plain;
 use std::hint::black_box;
 use std::time::{Duration, Instant};
 
@@ -14,22 +15,23 @@ pub struct Times {
     pub by_value: f64,
 }
 
-/// One call on each side, and what is done for a call on every side alike. The proved call takes what it needs of a record.
-pub struct Sides<L, T, R = Cache> {
+/// One call on each side, each with what it answers, and what is done for a call on every side alike. The proved call takes what it needs
+/// of a record.
+pub struct Sides<L, T, U, R = Cache> {
     pub idle: fn(&mut L),
     pub proved: fn(&mut R, u32, &mut L) -> T,
-    pub plain: fn(&mut Plain, u32, &mut L) -> T,
-    pub by_value: fn(&mut Plain, u32, &mut L) -> T,
+    pub plain: fn(&mut Plain, u32, &mut L) -> U,
+    pub by_value: fn(&mut Plain, u32, &mut L) -> U,
 }
 
 /// Passes over the cases, the sides in turn, until the time is up and each side has gone first from each depth of the stack as often as
 /// the others. What is lent is placed anew before each turn. What a pass without calls takes, lending included, is subtracted.
-pub fn measure<L, T, R>(cases: &[Case], lent: &mut L, time: Duration, place: fn(&mut L), sides: &Sides<L, T, R>) -> Times
+pub fn measure<L, T, U, R>(cases: &[Case], lent: &mut L, time: Duration, place: fn(&mut L), sides: &Sides<L, T, U, R>) -> Times
 where
     R: Copy + From<Cache>,
 {
     let proved: Vec<Case<R>> = cases.iter().map(|case| Case { record: R::from(case.record), n: case.n }).collect();
-    let plain: Vec<Case<Plain>> = cases.iter().map(|case| Case { record: Plain(case.record), n: case.n }).collect();
+    let plain: Vec<Case<Plain>> = cases.iter().map(|case| Case { record: both::plain(case.record), n: case.n }).collect();
     let mut times: [Vec<f64>; 4] = Default::default();
     let start = Instant::now();
     for turn in 0.. {

@@ -1,8 +1,7 @@
 //! The same calls with the record by value, as document 01 has it: taken, and handed back beside the answer.
-use super::Plain;
-use clash::{Answer, Buffers, Refusal};
+use crate::{Buffers, Plain, Said};
 
-pub type Outcome = (Plain, Result<Answer, Refusal>);
+pub type Outcome = (Plain, Said);
 
 impl Plain {
     #[inline(never)]

@@ -1,11 +1,11 @@
 //! The soundness test, with a filter of 4,096 bits: only where a bit is met already are entries compared.
-use super::{Directory, Options, Sizes, VACANT};
+use crate::{Directory, Options, Sizes, VACANT};
 
 /// Of all but the entries of the shelf.
 #[inline(always)]
 pub fn sound(z: &Sizes, options: &Options, d: &Directory) -> bool {
     let mut seen = [0u64; 64];
-    z.in_limits() && options.in_limits() && d.uses == [0; 8] && frames_ok(z, d, &mut seen) && slots_ok(z, d, &mut seen)
+    z.in_limits() && options.in_limits(z) && d.uses == [0; 8] && frames_ok(z, d, &mut seen) && slots_ok(z, d, &mut seen)
 }
 
 #[inline(always)]

@@ -1,6 +1,6 @@
 //! The rewrite of a block: merge reads, erasure, programs.
-use super::{page_at, page_at_mut};
-use clash::{Buffers, Cache};
+use crate::store::{page_at, page_at_mut};
+use crate::{Buffers, Cache};
 
 /// Rewrites a block, which is not worn, from frame f, and gives the number of merge reads.
 pub fn rewrite(c: &Cache, lent: &mut Buffers, block: u32, f: usize) -> u32 {

@@ -1,28 +1,44 @@
 //! Ways 4 to 7 of a write: the pages of the victim block leave the slots.
-use super::{page_at, page_at_mut, Plain};
-use clash::{Answer, Buffers, Refusal, VACANT};
+use crate::store::{page_at, page_at_mut};
+use crate::{Buffers, Plain, Refusal, VACANT};
+
+/// The block whose pages leave the slots, the frame that takes them, and the way.
+pub(crate) struct Room {
+    pub way: u32,
+    victim: u32,
+    frame: usize,
+}
 
 impl Plain {
-    /// Vacates the slots of the block with the most pages there.
-    pub(super) fn make_room(&mut self, lent: &mut Buffers) -> Result<Answer, Refusal> {
+    /// How the slots of the block with the most pages there come to be vacated. All slots are in use.
+    #[inline(never)]
+    pub(crate) fn room(&self, lent: &Buffers) -> Result<Room, Refusal> {
         let (victim, pages) = self.victim();
-        let (way, f) = self.frame_for(lent, victim, pages);
+        let (way, frame) = self.frame_for(lent, victim, pages);
+        let block = self.0.directory.frames[frame];
+        if way == 7 && self.is_worn(lent, block) {
+            return Err(Refusal::Worn(block));
+        }
+        Ok(Room { way, victim, frame })
+    }
+
+    /// The block erased if any, and its merge reads.
+    #[inline(always)]
+    pub(crate) fn make_room(&mut self, lent: &mut Buffers, room: &Room) -> (Option<u32>, u32) {
+        let &Room { way, victim, frame } = room;
         let (mut erased, mut merged) = (None, 0);
         match way {
-            4 | 5 => self.join(lent, victim, f),
-            6 => self.exchange(lent, victim, f),
+            4 | 5 => self.join(lent, victim, frame),
+            6 => self.exchange(lent, victim, frame),
             _ => {
-                let block = self.0.directory.frames[f];
-                if self.is_worn(lent, block) {
-                    return Err(Refusal::Worn(block));
-                }
-                merged = self.clean(lent, block, f);
+                let block = self.0.directory.frames[frame];
+                merged = self.clean(lent, block, frame);
                 erased = Some(block);
-                self.join(lent, victim, f);
+                self.join(lent, victim, frame);
             }
         }
-        self.touch(f);
-        Ok(Answer::Write { way, erased, merged })
+        self.touch(frame);
+        (erased, merged)
     }
 
     /// The block with the most pages in slots, the lowest among equals, and how many. All slots are in use.
@@ -66,7 +82,7 @@ impl Plain {
     }
 
     /// The pages of a block in slots go into frame f, which is the block's or vacant.
-    pub(super) fn join(&mut self, lent: &mut Buffers, block: u32, f: usize) {
+    pub(crate) fn join(&mut self, lent: &mut Buffers, block: u32, f: usize) {
         let (s, k, p) = (self.0.sizes.page_size as usize, self.0.sizes.pages_per_block, self.0.sizes.slots as usize);
         let stretch = page_at_mut(lent.bspace, f, k as usize * s);
         let d = &mut self.0.directory;
@@ -116,7 +132,7 @@ impl Plain {
         }
     }
 
-    pub(super) fn vacate(&mut self, f: usize) {
+    pub(crate) fn vacate(&mut self, f: usize) {
         self.0.directory.frames[f] = VACANT;
         self.0.directory.valid[f] = 0;
     }

@@ -1,10 +1,9 @@
 //! A flush step and a flush.
-use super::{chip, Plain};
-use clash::{Answer, Buffers, Refusal, VACANT};
+use crate::{chip, Answer, Buffers, Plain, Refusal, Said, VACANT};
 
 impl Plain {
     #[inline(never)]
-    pub fn step(&mut self, lent: &mut Buffers) -> Result<Answer, Refusal> {
+    pub fn step(&mut self, lent: &mut Buffers) -> Said {
         self.check(lent)?;
         match self.due() {
             None => Ok(Answer::Clean),
@@ -14,7 +13,7 @@ impl Plain {
     }
 
     #[inline(never)]
-    pub fn flush(&mut self, lent: &mut Buffers) -> Result<Answer, Refusal> {
+    pub fn flush(&mut self, lent: &mut Buffers) -> Said {
         self.check(lent)?;
         if let Some(block) = self.lowest_worn(lent) {
             return Err(Refusal::Worn(block));
@@ -39,14 +38,14 @@ impl Plain {
     }
 
     /// The block's pages in slots join the frame, which is rewritten and vacated.
-    pub(super) fn clean(&mut self, lent: &mut Buffers, block: u32, f: usize) -> u32 {
+    pub(crate) fn clean(&mut self, lent: &mut Buffers, block: u32, f: usize) -> u32 {
         self.join(lent, block, f);
         let merged = chip::rewrite(&self.0, lent, block, f);
         self.vacate(f);
         merged
     }
 
-    pub(super) fn is_worn(&self, lent: &Buffers, block: u32) -> bool {
+    pub(crate) fn is_worn(&self, lent: &Buffers, block: u32) -> bool {
         lent.wear[block as usize] >= self.0.sizes.wear_limit
     }
 

@@ -1,11 +1,5 @@
-//! A plain Rust store of document 01, with the same checks: what the proved one is measured beside. The record is changed in place.
-mod by_value;
-mod chip;
-mod flush;
-mod room;
-mod sound;
-
-use clash::{Answer, Buffers, Cache, Directory, Options, Refusal, Sizes, VACANT};
+//! The store: opening and reading, and what every call looks up.
+use crate::{sound, Answer, Buffers, Cache, Options, Refusal, Said, Sizes, VACANT};
 
 #[repr(transparent)]
 #[derive(Clone, Copy, Debug)]
@@ -13,10 +7,10 @@ pub struct Plain(pub Cache);
 
 impl Plain {
     pub fn open(sizes: Sizes, options: Options, lent: &Buffers) -> Result<Plain, Refusal> {
-        if !sizes.in_limits() || !options.in_limits() {
+        if !sizes.in_limits() || !options.in_limits(&sizes) {
             return Err(Refusal::Size);
         }
-        if !lent.fit(&sizes) {
+        if !lent.fit(&sizes, &options) {
             return Err(Refusal::Buffer);
         }
         if lent.wear.iter().any(|&worn| worn > sizes.wear_limit) {
@@ -32,7 +26,7 @@ impl Plain {
     }
 
     #[inline(never)]
-    pub fn read(&mut self, lent: &Buffers, n: u32, page: &mut [u8]) -> Result<Answer, Refusal> {
+    pub fn read(&mut self, lent: &Buffers, n: u32, page: &mut [u8]) -> Said {
         self.check(lent)?;
         self.check_page(n, page.len())?;
         let s = page.len();
@@ -49,42 +43,20 @@ impl Plain {
         Ok(Answer::Read { way: 3 })
     }
 
-    #[inline(never)]
-    pub fn write(&mut self, lent: &mut Buffers, n: u32, page: &[u8]) -> Result<Answer, Refusal> {
-        self.check(lent)?;
-        self.check_page(n, page.len())?;
-        let s = page.len();
-        if let Some(i) = self.slot_of(n) {
-            page_at_mut(lent.pspace, i, s).copy_from_slice(page);
-            return Ok(Answer::Write { way: 1, erased: None, merged: 0 });
-        }
-        if let Some((f, at)) = self.frame_with(n) {
-            page_at_mut(lent.bspace, at, s).copy_from_slice(page);
-            self.touch(f);
-            return Ok(Answer::Write { way: 2, erased: None, merged: 0 });
-        }
-        if let Some(i) = self.slot_of(VACANT) {
-            self.enter(lent, i, n, page);
-            return Ok(Answer::Write { way: 3, erased: None, merged: 0 });
-        }
-        let answer = self.make_room(lent)?;
-        let i = self.slot_of(VACANT).expect("room was made");
-        self.enter(lent, i, n, page);
-        Ok(answer)
-    }
-
-    fn check(&self, lent: &Buffers) -> Result<(), Refusal> {
+    /// Checks 4 and 2.
+    pub(crate) fn check(&self, lent: &Buffers) -> Result<(), Refusal> {
         let c = &self.0;
         if c.entries != [VACANT; 8] || !sound::sound(&c.sizes, &c.options, &c.directory) {
             return Err(Refusal::Record);
         }
-        if !lent.fit(&c.sizes) {
+        if !lent.fit(&c.sizes, &c.options) {
             return Err(Refusal::Buffer);
         }
         Ok(())
     }
 
-    fn check_page(&self, n: u32, len: usize) -> Result<(), Refusal> {
+    /// Check 2 of a page buffer's length, and 5.
+    pub(crate) fn check_page(&self, n: u32, len: usize) -> Result<(), Refusal> {
         if len != self.0.sizes.page_size as usize {
             return Err(Refusal::Buffer);
         }
@@ -95,29 +67,29 @@ impl Plain {
     }
 
     /// The slots in use.
-    fn slots(&self) -> &[u32] {
+    pub(crate) fn slots(&self) -> &[u32] {
         &self.0.directory.slots[..self.0.sizes.slots as usize]
     }
 
-    fn frames(&self) -> &[u32] {
+    pub(crate) fn frames(&self) -> &[u32] {
         &self.0.directory.frames[..self.0.sizes.frames as usize]
     }
 
     /// The frames by their use, least recent first.
-    fn by_use(&self) -> &[u8] {
+    pub(crate) fn by_use(&self) -> &[u8] {
         &self.0.directory.recency[..self.0.sizes.frames as usize]
     }
 
-    fn slot_of(&self, n: u32) -> Option<usize> {
+    pub(crate) fn slot_of(&self, n: u32) -> Option<usize> {
         self.slots().iter().position(|&x| x == n)
     }
 
-    fn frame_of(&self, block: u32) -> Option<usize> {
+    pub(crate) fn frame_of(&self, block: u32) -> Option<usize> {
         self.frames().iter().position(|&x| x == block)
     }
 
     /// The frame that has page n valid, and the page's place in b-space.
-    fn frame_with(&self, n: u32) -> Option<(usize, usize)> {
+    pub(crate) fn frame_with(&self, n: u32) -> Option<(usize, usize)> {
         let k = self.0.sizes.pages_per_block;
         let (block, offset) = (n / k, n % k);
         let f = self.frame_of(block)?;
@@ -126,23 +98,18 @@ impl Plain {
     }
 
     /// Frame f becomes most recent.
-    fn touch(&mut self, f: usize) {
+    pub(crate) fn touch(&mut self, f: usize) {
         let b = self.0.sizes.frames as usize;
         let order = &mut self.0.directory.recency[..b];
         let at = order.iter().position(|&x| x as usize == f).expect("the order lists each frame");
         order[at..].rotate_left(1);
     }
-
-    fn enter(&mut self, lent: &mut Buffers, i: usize, n: u32, page: &[u8]) {
-        page_at_mut(lent.pspace, i, page.len()).copy_from_slice(page);
-        self.0.directory.slots[i] = n;
-    }
 }
 
-fn page_at(bytes: &[u8], i: usize, s: usize) -> &[u8] {
+pub(crate) fn page_at(bytes: &[u8], i: usize, s: usize) -> &[u8] {
     &bytes[i * s..(i + 1) * s]
 }
 
-fn page_at_mut(bytes: &mut [u8], i: usize, s: usize) -> &mut [u8] {
+pub(crate) fn page_at_mut(bytes: &mut [u8], i: usize, s: usize) -> &mut [u8] {
     &mut bytes[i * s..(i + 1) * s]
 }

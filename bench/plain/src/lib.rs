@@ -1,0 +1,19 @@
+//! A plain Rust store of documents 01 and 02, with the same checks: what the proved one is measured beside and compared with on random
+//! histories. It has types of its own, of the same fields as those of the crate `clash`, and needs no archive: its tests replay the
+//! outside vectors on it alone. The record is changed in place.
+mod answer;
+mod by_value;
+mod chip;
+mod flush;
+mod memory;
+mod part;
+mod record;
+mod room;
+mod sound;
+mod store;
+mod write;
+
+pub use answer::{Answer, Refusal, Said};
+pub use memory::{Buffers, Memory};
+pub use record::{Cache, Directory, Options, Sizes, VACANT};
+pub use store::Plain;

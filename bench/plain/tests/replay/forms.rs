@@ -1,0 +1,186 @@
+//! What a line may say: the tables of forms, options and record fields, each with the release from which it is in force.
+use crate::Release;
+use plain::{Cache, Options, Sizes};
+
+pub enum Form {
+    Open(Sizes, Options),
+    Reopen(Sizes, Options),
+    SetWear { block: u32, wear: u32 },
+    FlipFlash { byte: u32, bit: u32 },
+    Spoil { field: &'static Field, index: usize, value: u64 },
+    Read { n: u32, len: Option<u32> },
+    Call(Call),
+    Dump,
+}
+
+/// A call that may change a buffer.
+#[derive(Clone, Copy)]
+pub enum Call {
+    /// a page buffer of `len` bytes, of the record's page size where it is not said
+    Write {
+        n: u32,
+        seed: u32,
+        len: Option<u32>,
+    },
+    /// `len` bytes from byte `first` of the page on
+    Part {
+        n: u32,
+        first: u32,
+        seed: u32,
+        len: u32,
+    },
+    Step,
+    Flush,
+}
+
+/// A form by its first word, and how it is made of the words after it.
+struct Row {
+    word: &'static str,
+    since: u32,
+    make: fn(&mut Words) -> Option<Form>,
+}
+
+#[rustfmt::skip]
+const FORMS: &[Row] = &[
+    Row { word: "open", since: 0, make: |w| Some(Form::Open(sizes(w)?, options(w)?)) },
+    Row { word: "reopen", since: 0, make: |w| Some(Form::Reopen(sizes(w)?, options(w)?)) },
+    Row { word: "setwear", since: 0, make: |w| Some(Form::SetWear { block: w.number()?, wear: w.number()? }) },
+    Row { word: "flip", since: 0, make: flip },
+    Row { word: "spoil", since: 0, make: spoil },
+    Row { word: "read", since: 0, make: |w| Some(Form::Read { n: w.number()?, len: None }) },
+    Row { word: "readlen", since: 0, make: |w| Some(Form::Read { n: w.number()?, len: Some(w.number()?) }) },
+    Row { word: "write", since: 0, make: |w| call(Call::Write { n: w.number()?, seed: w.number()?, len: None }) },
+    Row { word: "writelen", since: 0, make: |w| call(Call::Write { n: w.number()?, seed: w.number()?, len: Some(w.number()?) }) },
+    Row { word: "part", since: 1, make: |w| call(Call::Part { n: w.number()?, first: w.number()?, seed: w.number()?, len: w.number()? }) },
+    Row { word: "step", since: 0, make: |_| call(Call::Step) },
+    Row { word: "flush", since: 0, make: |_| call(Call::Flush) },
+    Row { word: "dump", since: 0, make: |_| Some(Form::Dump) },
+];
+
+fn call(call: Call) -> Option<Form> {
+    Some(Form::Call(call))
+}
+
+/// An option of an opening: 0 before its release, and never above `most`.
+struct Choice {
+    since: u32,
+    most: u32,
+}
+
+const POLICY: Choice = Choice { since: 5, most: u32::MAX };
+const CODED: Choice = Choice { since: 6, most: 1 };
+const SHELF: Choice = Choice { since: 8, most: u32::MAX };
+const MARKED: Choice = Choice { since: 12, most: 1 };
+
+/// A field of the record: how many entries it has, the largest number that one holds, and how it is set.
+pub struct Field {
+    word: &'static str,
+    since: u32,
+    entries: usize,
+    most: u64,
+    pub set: fn(&mut Cache, usize, u64),
+}
+
+const WORD: u64 = u32::MAX as u64;
+
+#[rustfmt::skip]
+static FIELDS: &[Field] = &[
+    Field { word: "s", since: 0, entries: 1, most: WORD, set: |c, _, v| c.sizes.page_size = v as u32 },
+    Field { word: "k", since: 0, entries: 1, most: WORD, set: |c, _, v| c.sizes.pages_per_block = v as u32 },
+    Field { word: "n", since: 0, entries: 1, most: WORD, set: |c, _, v| c.sizes.blocks = v as u32 },
+    Field { word: "p", since: 0, entries: 1, most: WORD, set: |c, _, v| c.sizes.slots = v as u32 },
+    Field { word: "b", since: 0, entries: 1, most: WORD, set: |c, _, v| c.sizes.frames = v as u32 },
+    Field { word: "w", since: 0, entries: 1, most: WORD, set: |c, _, v| c.sizes.wear_limit = v as u32 },
+    Field { word: "place", since: 0, entries: 128, most: WORD, set: |c, i, v| c.directory.slots[i] = v as u32 },
+    Field { word: "frame", since: 0, entries: 8, most: WORD, set: |c, i, v| c.directory.frames[i] = v as u32 },
+    Field { word: "valid", since: 0, entries: 8, most: u64::MAX, set: |c, i, v| c.directory.valid[i] = v },
+    Field { word: "order", since: 0, entries: 8, most: 255, set: |c, i, v| c.directory.recency[i] = v as u8 },
+    Field { word: "policy", since: 5, entries: 1, most: WORD, set: |c, _, v| c.options.policy = v as u32 },
+    Field { word: "uses", since: 5, entries: 8, most: WORD, set: |c, i, v| c.directory.uses[i] = v as u32 },
+    Field { word: "coded", since: 6, entries: 1, most: WORD, set: |c, _, v| c.options.coded = v as u32 },
+    Field { word: "shelf", since: 8, entries: 1, most: WORD, set: |c, _, v| c.options.shelf_pages = v as u32 },
+    Field { word: "shelfno", since: 8, entries: 8, most: WORD, set: |c, i, v| c.entries[i] = v as u32 },
+    Field { word: "marked", since: 12, entries: 1, most: WORD, set: |c, _, v| c.options.marked = v as u32 },
+];
+
+/// The form that a line says, with its first word; none where the line is bad.
+pub fn parse(release: Release, line: &[u8]) -> Option<(&'static str, Form)> {
+    let inner = line.strip_prefix(b"(")?.strip_suffix(b")")?;
+    let mut words = Words { release, rest: Some(inner) };
+    let said = form(&mut words)?;
+    words.rest.is_none().then_some(said)
+}
+
+fn form(words: &mut Words) -> Option<(&'static str, Form)> {
+    let first = words.next()?;
+    let row = FORMS.iter().find(|row| words.release.has(row.since) && row.word.as_bytes() == first)?;
+    Some((row.word, (row.make)(words)?))
+}
+
+fn sizes(words: &mut Words) -> Option<Sizes> {
+    let mut sizes = [0; 6];
+    for size in &mut sizes {
+        *size = words.number()?;
+    }
+    Some(Sizes::from(sizes))
+}
+
+fn options(words: &mut Words) -> Option<Options> {
+    Some(Options {
+        policy: words.choice(POLICY)?,
+        coded: words.choice(CODED)?,
+        shelf_pages: words.choice(SHELF)?,
+        marked: words.choice(MARKED)?,
+    })
+}
+
+fn flip(words: &mut Words) -> Option<Form> {
+    match words.next()? {
+        b"flash" => Some(Form::FlipFlash { byte: words.number()?, bit: words.number()? }),
+        _ => None,
+    }
+}
+
+fn spoil(words: &mut Words) -> Option<Form> {
+    let name = words.next()?;
+    let field = FIELDS.iter().find(|field| words.release.has(field.since) && field.word.as_bytes() == name)?;
+    let index = words.number()? as usize;
+    let value = words.wide()?;
+    // the index of a field that is one number is ignored
+    let fits = (field.entries == 1 || index < field.entries) && value <= field.most;
+    fits.then_some(Form::Spoil { field, index, value })
+}
+
+/// The words of a line that are still to be read, none once the last was read, and the release that they are read at.
+struct Words<'a> {
+    release: Release,
+    rest: Option<&'a [u8]>,
+}
+
+impl<'a> Words<'a> {
+    /// The next word; single spaces part them, so that it is empty where two stand together.
+    fn next(&mut self) -> Option<&'a [u8]> {
+        let rest = self.rest?;
+        let end = rest.iter().position(|&byte| byte == b' ');
+        self.rest = end.map(|at| &rest[at + 1..]);
+        Some(&rest[..end.unwrap_or(rest.len())])
+    }
+
+    fn number(&mut self) -> Option<u32> {
+        self.wide()?.try_into().ok()
+    }
+
+    fn choice(&mut self, choice: Choice) -> Option<u32> {
+        let most = if self.release.has(choice.since) { choice.most } else { 0 };
+        self.number().filter(|&x| x <= most)
+    }
+
+    /// A decimal number of 64 bits without leading zeros.
+    fn wide(&mut self) -> Option<u64> {
+        let digits = self.next()?;
+        if !digits.iter().all(u8::is_ascii_digit) || (digits.len() > 1 && digits[0] == b'0') {
+            return None;
+        }
+        std::str::from_utf8(digits).ok()?.parse().ok()
+    }
+}

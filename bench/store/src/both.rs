@@ -1,0 +1,61 @@
+//! The types of the proved store and of the plain one: the same fields, in two crates.
+use plain::{Plain, Said};
+
+/// The plain store on a record.
+pub fn plain(c: clash::Cache) -> Plain {
+    let clash::Directory { recency, valid, uses, frames, slots } = c.directory;
+    let directory = plain::Directory { recency, valid, uses, frames, slots };
+    Plain(plain::Cache { sizes: sizes(c.sizes), options: options(c.options), entries: c.entries, directory })
+}
+
+/// The record of the plain store.
+pub fn proved(store: Plain) -> clash::Cache {
+    let plain::Cache { sizes: z, options: o, entries, directory } = store.0;
+    let plain::Directory { recency, valid, uses, frames, slots } = directory;
+    clash::Cache {
+        sizes: clash::Sizes::from([z.page_size, z.pages_per_block, z.blocks, z.slots, z.frames, z.wear_limit]),
+        options: clash::Options::from([o.policy, o.coded, o.shelf_pages, o.marked]),
+        entries,
+        directory: clash::Directory { recency, valid, uses, frames, slots },
+    }
+}
+
+pub fn sizes(z: clash::Sizes) -> plain::Sizes {
+    plain::Sizes::from([z.page_size, z.pages_per_block, z.blocks, z.slots, z.frames, z.wear_limit])
+}
+
+pub fn options(o: clash::Options) -> plain::Options {
+    plain::Options::from([o.policy, o.coded, o.shelf_pages, o.marked])
+}
+
+#[inline]
+pub fn lent(b: clash::Buffers) -> plain::Buffers {
+    let clash::Buffers { flash, codes, marks, wear, pspace, bspace, shelf } = b;
+    plain::Buffers { flash, codes, marks, wear, pspace, bspace, shelf }
+}
+
+/// What the proved store said, in the plain one's words.
+pub fn said(answer: Result<clash::Answer, clash::Refusal>) -> Said {
+    answer.map(accepted).map_err(refused)
+}
+
+fn accepted(answer: clash::Answer) -> plain::Answer {
+    match answer {
+        clash::Answer::Read { way } => plain::Answer::Read { way },
+        clash::Answer::Write { way, erased, merged } => plain::Answer::Write { way, erased, merged },
+        clash::Answer::Step { block, merged } => plain::Answer::Step { block, merged },
+        clash::Answer::Clean => plain::Answer::Clean,
+        clash::Answer::Flush { rewrites, merged } => plain::Answer::Flush { rewrites, merged },
+    }
+}
+
+pub fn refused(why: clash::Refusal) -> plain::Refusal {
+    match why {
+        clash::Refusal::Size => plain::Refusal::Size,
+        clash::Refusal::Buffer => plain::Refusal::Buffer,
+        clash::Refusal::Overworn => plain::Refusal::Overworn,
+        clash::Refusal::Record => plain::Refusal::Record,
+        clash::Refusal::Page => plain::Refusal::Page,
+        clash::Refusal::Worn(block) => plain::Refusal::Worn(block),
+    }
+}

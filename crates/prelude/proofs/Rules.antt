@@ -14,11 +14,11 @@ use borrow.Author.Tests.{ltb-true, ltb-false, eqb-true, eq-eqb}
 use Rattle.prelude.specs.Scan.{first, count, nth}
 use Rattle.prelude.specs.Bits.{bit, mask}
 use Rattle.prelude.specs.Pages.{pageAt, laid, flat}
-use Rattle.prelude.specs.Rules.{FirstRule, FirstNoneRule, CountRule, CountOneRule, AllRule, ArgmaxRule, LeastRule, TabRule}
-use Rattle.prelude.specs.Rules.{BitRule, BitWholeRule, MaskRule, PageAtRule, FlatRule, LaidRule}
+use Rattle.prelude.specs.Rules.{FirstRule, FirstNoneRule, CountRule, CountOneRule, AllRule, ArgmaxRule, LeastRule, GreatestRule}
+use Rattle.prelude.specs.Rules.{TabRule, BitRule, BitWholeRule, MaskRule, PageAtRule, FlatRule, LaidRule}
 use Rattle.prelude.proofs.Tests.{by-test}
 use Rattle.prelude.proofs.Scan.{all-at, all-of, first-hit, first-at, first-is, count-past, count-mono, count-inj, nth-is, nth-rank}
-use Rattle.prelude.proofs.Scan.{nth-some, leads-is, least-le, least-is}
+use Rattle.prelude.proofs.Scan.{nth-some, leads-is, least-le, least-is, greatest-ge, greatest-le}
 use Rattle.prelude.proofs.Tab.{length-tab, getD-tab}
 use Rattle.prelude.proofs.Bits.{mask-lt, bit-mask, bit-high}
 use Rattle.prelude.proofs.Pages.{length-laid, length-pageAt, in-run, page-flat, length-flat}
@@ -75,6 +75,9 @@ argmax-rule n g i l le lt = sym (leads-is n g i (record { low = l; le = le; lt =
 pub least-rule : LeastRule
 least-rule n g d i l low le = let a = least-le n g d i l in let b = least-is n g d (omega arith) in
     let c = le (b .0) (b .1) in let e = b .2 in omega arith
+
+pub greatest-rule : GreatestRule
+greatest-rule n g i l top = let a = greatest-ge n g i l in let b = greatest-le n g (g i) top in omega arith
 
 pub tab-rule : TabRule
 tab-rule A n f z = (length-tab n f, λ i l. getD-tab n f z i l)

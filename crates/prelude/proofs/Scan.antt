@@ -7,7 +7,7 @@ use native.Mathlib.Numerals.{add-one}
 use native.Mathlib.Omega.{arith}
 use lib.Dec.{ltb, eqb}
 use borrow.Author.Tests.{ltb-true, ltb-false, eqb-true, eqb-false, lt-ltb, le-ltb, eq-eqb, ne-eqb}
-use Rattle.prelude.specs.Scan.{firstFrom, first, count, all, allPairs, nth, argmax, least}
+use Rattle.prelude.specs.Scan.{firstFrom, first, count, all, allPairs, nth, argmax, least, greatest}
 use Rattle.prelude.proofs.Tests.{by-test, clash, and-l, and-r, and-i, not-i, same-test, or-l, or-r}
 
 -- ---- all
@@ -48,6 +48,12 @@ all-end p i n e q = e ∙ ap (λ (k : ℕ). all k p) q
 -- one that fails
 pub all-fails : (n : ℕ) (p : ℕ → Bool) (i : ℕ) → i < n → p i ≡ false → all n p ≡ false
 all-fails n p i l e = by-test (all n p) (λ h. clash (all-at n p h i l) e) (λ h. h)
+
+-- two tests alike below n
+pub all-same : (n : ℕ) (p q : ℕ → Bool) → ((j : ℕ) → j < n → p j ≡ q j) → all n p ≡ all n q
+all-same n p q f = same-test
+    (λ h. all-of n q (λ j l. sym (f j l) ∙ all-at n p h j l))
+    (λ h. all-of n p (λ j l. f j l ∙ all-at n q h j l))
 
 -- a test that does not look at the number
 pub all-or : (n : ℕ) (a : Bool) (p : ℕ → Bool) → (a || all n p) ≡ all n (λ i. a || p i)
@@ -269,6 +275,15 @@ count-inj (suc n) k p q h f g = by-test (p n)
     (λ e. rw e (let ih = count-inj n k p q h (λ i l t. f i (omega arith) t)
     (λ i j l l2 t t2 y. g i j (omega arith) (omega arith) t t2 y) in omega arith))
 
+-- fewer pass a test that implies another, and fails at a number where that passes
+pub count-less : (n : ℕ) (p q : ℕ → Bool) → ((i : ℕ) → i < n → p i ≡ true → q i ≡ true)
+    → (x : ℕ) → x < n → p x ≡ false → q x ≡ true → count n p < count n q
+count-less n p q h x l a b = let s = count-remove n q x l b in
+    let k = count-inj n n p (λ i. q i && not (eqb i x)) (λ i. i)
+    (λ i il t. (il, and-i (h i il t) (not-i (by-test (eqb i x) (λ u. clash t (ap p (eqb-true i x u) ∙ a)) (λ u. u)))))
+    (λ i j il jl t u e. e) in
+    omega arith
+
 -- at most one passes
 pub count-one : (n : ℕ) (p : ℕ → Bool) → ((i j : ℕ) → i < n → j < n → p i ≡ true → p j ≡ true → i ≡ j) → count n p ≤ 1
 unfolding count
@@ -426,6 +441,50 @@ first-least n m p g f h = let top = least-top m g n in first-is n p (least m g n
     (λ j l. by-test (p j) (λ t. absurd (let w = h j (omega arith) t in let a = least-le m g n (w .0) (w .1) in let e = w .2 in
     omega arith)) (λ t. t))
     (λ l. let w = least-is m g n l in let e = w .2 in rw (← e) (f (w .0) (w .1) (omega arith)))
+
+-- ---- greatest
+
+-- a loop that keeps the greatest of the numbers that pass: none seen yet, and one more turn
+pub greatest-none : (g : ℕ → ℕ) → greatest 0 g ≡ 0
+unfolding greatest
+greatest-none g = refl
+
+module _ (i : ℕ) (g : ℕ → ℕ) {best : ℕ} (x : ℕ) (b : Bool) (e : best ≡ greatest i g) (f : cond b x 0 ≡ g i) where
+  pub greatest-taken : (ltb best x && b) ≡ true → x ≡ greatest (i + 1) g
+  unfolding greatest
+  greatest-taken t = let l = ltb-true best x (and-l (ltb best x) b t) in
+      let h : x ≡ g i = sym (ap (λ (d : Bool). cond d x 0) (and-r (ltb best x) b t)) ∙ f in rw add-one (omega arith)
+
+  pub greatest-left : (ltb best x && b) ≡ false → best ≡ greatest (i + 1) g
+  unfolding greatest
+  greatest-left t = rw add-one (by-test b
+      (λ u. let h : x ≡ g i = sym (ap (λ (d : Bool). cond d x 0) u) ∙ f in
+      let l = ltb-false best x (by-test (ltb best x) (λ v. clash (and-i v u) t) (λ v. v)) in omega arith)
+      (λ u. let h : 0 ≡ g i = sym (ap (λ (d : Bool). cond d x 0) u) ∙ f in omega arith))
+
+-- and where it ends
+pub greatest-end : (g : ℕ → ℕ) (i n : ℕ) {best : ℕ} → best ≡ greatest i g → i ≡ n → best ≡ greatest n g
+greatest-end g i n e q = e ∙ ap (λ (k : ℕ). greatest k g) q
+
+pub greatest-ge : (n : ℕ) (g : ℕ → ℕ) (i : ℕ) → i < n → g i ≤ greatest n g
+unfolding greatest
+greatest-ge zero g i l = absurd (not-suc-le-zero l)
+greatest-ge (suc n) g i l = by-test (eqb i n)
+    (λ t. rw (eqb-true i n t) (omega arith))
+    (λ t. let ne = eqb-false i n t in let h = greatest-ge n g i (omega arith) in omega arith)
+
+pub greatest-le : (n : ℕ) (g : ℕ → ℕ) (m : ℕ) → ((i : ℕ) → i < n → g i ≤ m) → greatest n g ≤ m
+unfolding greatest
+greatest-le zero g m f = omega arith
+greatest-le (suc n) g m f = let a = f n (omega arith) in let b = greatest-le n g m (λ i l. f i (omega arith)) in omega arith
+
+pub greatest-is : (n : ℕ) (g : ℕ → ℕ) → 0 < greatest n g → (i : ℕ) × (i < n) × (g i ≡ greatest n g)
+unfolding greatest
+greatest-is zero g h = absurd (not-suc-le-zero h)
+greatest-is (suc n) g h = by-test (ltb (g n) (greatest n g))
+    (λ t. let l = ltb-true (g n) (greatest n g) t in let k = greatest-is n g (omega arith) in let e = k .2 in let m = k .1 in
+    (k .0, omega arith, omega arith))
+    (λ t. let l = ltb-false (g n) (greatest n g) t in (n, omega arith, omega arith))
 
 -- ---- a list of n entries that has each number below n
 

@@ -1,7 +1,7 @@
 -- Laws of lists built by a rule, and of loops that settle a list entry by entry.
 use mathlib.Core.Path.{_≡_, refl, sym, ap, _∙_}
 use mathlib.Core.Bool.{cond}
-use mathlib.Core.List.{List}
+use mathlib.Core.List.{List, [], _∷_}
 use Prim.Native.Nat.{ℕ, zero, suc, _+_, _≤_, _<_}
 use native.Mathlib.Nat.{not-suc-le-zero, add-zero, zero-add}
 use native.Mathlib.Omega.{arith}
@@ -40,6 +40,12 @@ tab-ext d n f g h = ext-getD d (tab n f) (tab n g) (length-tab n f ∙ sym (leng
 pub tab-list : {A : Type 0} (d : A) (n : ℕ) (l : List A) → length l ≡ n → tab n (λ i. getD l i d) ≡ l
 tab-list d n l h = ext-getD d (tab n (λ i. getD l i d)) l (length-tab n _ ∙ sym h)
     (λ i k. getD-tab n (λ j. getD l j d) d i (rw length-tab at k))
+
+-- past its end a list has nothing
+pub getD-past : {A : Type 0} (d : A) (l : List A) (i : ℕ) → length l ≤ i → getD l i d ≡ d
+getD-past d [] i h = refl
+getD-past d (x ∷ l) zero h = absurd (not-suc-le-zero h)
+getD-past d (x ∷ l) (suc i) h = getD-past d l i (omega arith)
 
 -- entries below o are what the rule gives, the others as they were
 pub record Done {A : Type 0} (d : A) (n : ℕ) (new : ℕ → A) (old : List A) (o : ℕ) (l : List A) : Type 0 where

@@ -4,7 +4,7 @@ use mathlib.Core.Bool.{Bool, true, false}
 use mathlib.Core.List.{List, []}
 use Prim.Native.Nat.{ℕ, _+_, _*_, _^_, _≤_, _<_}
 use lib.ListN.{length, getD}
-use Rattle.prelude.specs.Scan.{first, count, all, nth, argmax, least, tab}
+use Rattle.prelude.specs.Scan.{first, count, all, nth, argmax, least, greatest, tab}
 use Rattle.prelude.specs.Bits.{bit, mask}
 use Rattle.prelude.specs.Pages.{pageAt, laid, flat}
 
@@ -44,6 +44,10 @@ ArgmaxRule = (n : ℕ) (g : ℕ → ℕ) (i : ℕ) → i < n → ((j : ℕ) → 
 -- The least value, where one is below d.
 abbrev pub LeastRule : Type 0
 LeastRule = (n : ℕ) (g : ℕ → ℕ) (d i : ℕ) → i < n → g i < d → ((j : ℕ) → j < n → g i ≤ g j) → least n g d ≡ g i
+
+-- The greatest value.
+abbrev pub GreatestRule : Type 0
+GreatestRule = (n : ℕ) (g : ℕ → ℕ) (i : ℕ) → i < n → ((j : ℕ) → j < n → g j ≤ g i) → greatest n g ≡ g i
 
 -- A table has n entries, entry i what the rule gives.
 abbrev pub TabRule : Type 1

@@ -1,7 +1,7 @@
 -- Scans over the numbers below a bound. "None" is the bound itself.
 use mathlib.Core.Bool.{Bool, true, false, cond, _&&_}
 use mathlib.Core.List.{List, [], _∷_}
-use Prim.Native.Nat.{ℕ, zero, suc, _+_}
+use Prim.Native.Nat.{ℕ, zero, suc, _+_, max}
 use lib.Dec.{ltb, eqb}
 
 -- the first of the n numbers from i that passes: i + n where none does
@@ -40,6 +40,11 @@ argmax (suc n) g = let b = argmax n g in cond (ltb (g b) (g n)) n b
 unfoldable pub least : ℕ → (ℕ → ℕ) → ℕ → ℕ
 least zero g d = d
 least (suc n) g d = let m = least n g d in cond (ltb (g n) m) (g n) m
+
+-- the greatest value below n: 0 where n is 0
+unfoldable pub greatest : ℕ → (ℕ → ℕ) → ℕ
+greatest zero g = 0
+greatest (suc n) g = max (g n) (greatest n g)
 
 module _ {A : Type 0} where
   -- the values of a rule at i to i + n - 1

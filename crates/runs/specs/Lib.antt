@@ -1,0 +1,12 @@
+pub mod Sheet
+pub mod Runs
+pub mod Ranges
+pub mod Roles
+pub mod Current
+pub mod Verdict
+pub mod RulesWords
+pub mod Rules
+pub mod RulesCurrent
+pub mod RulesRoles
+pub mod RulesVerdict
+pub mod RulesEnds

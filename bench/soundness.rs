@@ -51,6 +51,7 @@ fn filled(random: &mut Random, sizes: Sizes) -> Numbers {
         if !r.directory.frames.contains(&x) {
             r.directory.frames[f] = x;
             r.directory.valid[f] = (0..sizes.pages_per_block).fold(1, |v, o| v | (random.below(2) as u64) << o);
+            r.directory.uses[f] = 1 + random.below(3);
         }
     }
     for j in 0..sizes.slots as usize {

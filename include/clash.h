@@ -34,7 +34,7 @@ extern "C" {
 /* Why a call is turned down; 0 is an accepted call. */
 enum {
     CLASH_ACCEPTED = 0,
-    CLASH_SIZE = 1,     /* open: a size or the wear limit is beyond its limits, or an option is not 0 */
+    CLASH_SIZE = 1,     /* open: a size, the wear limit or an option is beyond its limits */
     CLASH_BUFFER = 2,   /* a lent buffer has another length than the sizes ask for; part: the bytes reach past the page */
     CLASH_OVERWORN = 3, /* open: a wear entry is above the wear limit */
     CLASH_RECORD = 4,   /* the record is not sound; the blank one is not */
@@ -51,9 +51,16 @@ typedef struct {
     uint32_t wear_limit;      /* 1 to 1,000,000 */
 } clash_sizes;
 
-/* What a store may have beside its sizes. No option is in force yet: each must be 0. */
+/* Which frame is old: the one that way 7 rewrites, that a step takes, and that way 6 takes of those with the fewest pages. */
+enum {
+    CLASH_LRU = 0,  /* the least recent; hits, joins and fillings make a frame recent */
+    CLASH_FIFO = 1, /* the same, where only being filled makes a frame recent */
+    CLASH_LFU = 2   /* the one with the fewest uses, among equals the least recent */
+};
+
+/* What a store may have beside its sizes. Only the policy is in force yet: the others must be 0. */
 typedef struct {
-    uint32_t policy;      /* which frame is old: 0, the least recent */
+    uint32_t policy;      /* CLASH_LRU, CLASH_FIFO or CLASH_LFU */
     uint32_t coded;       /* 0: pages have no codes */
     uint32_t shelf_pages; /* 0: nothing is shelved */
     uint32_t marked;      /* 0: pages have no marks */
@@ -62,7 +69,7 @@ typedef struct {
 typedef struct {
     uint8_t recency[8];
     uint64_t valid[8];
-    uint32_t uses[8]; /* all 0 */
+    uint32_t uses[8]; /* how often each frame was used since it was filled, 0 where it is vacant */
     uint32_t frames[8];
     uint32_t slots[128];
 } clash_directory;
@@ -108,7 +115,8 @@ clash_reply clash_read(clash_cache cache,
     const uint32_t *wear, size_t wear_count, const uint8_t *pspace, size_t pspace_bytes, const uint8_t *bspace, size_t bspace_bytes,
     const uint8_t *shelf, size_t shelf_bytes, uint32_t n, uint8_t *page, size_t page_bytes);
 
-/* Stores page as page n. Refused 6 only where every frame holds a worn block; the one named is the least recent. */
+/* Stores page as page n. Refused 6 only where every frame holds a worn block; the one named is the one that
+ * the policy would take. */
 clash_reply clash_write(clash_cache cache,
     uint8_t *flash, size_t flash_bytes, uint8_t *codes, size_t codes_bytes, uint8_t *marks, size_t marks_bytes,
     uint32_t *wear, size_t wear_count, uint8_t *pspace, size_t pspace_bytes, uint8_t *bspace, size_t bspace_bytes,

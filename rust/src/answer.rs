@@ -18,7 +18,7 @@ pub enum Answer {
 /// Why a call is turned down, by document 01's words.
 #[derive(Clone, Copy, Debug, PartialEq, Eq)]
 pub enum Refusal {
-    /// 1, opening: a size or the wear limit is beyond its limits, or an option is not 0
+    /// 1, opening: a size, the wear limit or an option is beyond its limits
     Size,
     /// 2: a lent buffer has another length than the sizes ask for, or the bytes of a part write reach past the page
     Buffer,

@@ -27,5 +27,5 @@ mod store;
 
 pub use answer::{Answer, Refusal};
 pub use memory::{Buffers, Memory};
-pub use record::{Cache, Directory, Options, Sizes, VACANT};
+pub use record::{Cache, Directory, Options, Sizes, FIFO, LFU, LRU, VACANT};
 pub use store::Store;

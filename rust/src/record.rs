@@ -19,11 +19,11 @@ pub struct Sizes {
     pub wear_limit: u32,
 }
 
-/// What an opening may set beside the sizes. No option is in force yet: each must be 0, as the default has it.
+/// What an opening may set beside the sizes. The default is LRU and no other option. Only the policy is in force yet: the others must be 0.
 #[repr(C)]
 #[derive(Clone, Copy, Debug, Default, PartialEq, Eq)]
 pub struct Options {
-    /// which frame is old: 0, the least recent
+    /// which frame is old: [`LRU`], [`FIFO`] or [`LFU`]
     pub policy: u32,
     /// 0: pages have no codes
     pub coded: u32,
@@ -33,6 +33,13 @@ pub struct Options {
     pub marked: u32,
 }
 
+/// The least recent frame is old; hits, joins and fillings make a frame recent.
+pub const LRU: u32 = 0;
+/// The same, where only being filled makes a frame recent.
+pub const FIFO: u32 = 1;
+/// The frame with the fewest uses is old, among equals the least recent.
+pub const LFU: u32 = 2;
+
 /// What stands where. Slots are document 01's places.
 #[repr(C)]
 #[derive(Clone, Copy, Debug, PartialEq, Eq)]
@@ -41,7 +48,7 @@ pub struct Directory {
     pub recency: [u8; 8],
     /// the valid pages of each frame, bit i for offset i
     pub valid: [u64; 8],
-    /// the uses of each frame: all 0, since no policy counts them yet
+    /// how often each frame was used since it was filled, 0 where it is vacant
     pub uses: [u32; 8],
     /// a block number or [`VACANT`] for each frame
     pub frames: [u32; 8],
@@ -120,7 +127,7 @@ impl From<[u32; 4]> for Options {
 impl Options {
     /// Whether each is one that an opening takes.
     pub fn in_limits(&self) -> bool {
-        *self == Options::default()
+        *self == Options { policy: self.policy, ..Options::default() } && self.policy <= LFU
     }
 }
 

@@ -1,5 +1,5 @@
 //! Each refusal of document 01, and that it changes nothing. Wrong lengths go through the record's own calls, which assert nothing.
-use clash::{Answer, Cache, Memory, Options, Refusal, Sizes, Store, VACANT};
+use clash::{Answer, Cache, Memory, Options, Refusal, Sizes, Store, FIFO, LFU, LRU, VACANT};
 
 const SIZES: [u32; 6] = [2, 4, 3, 3, 1, 9];
 
@@ -54,12 +54,12 @@ fn size() {
     }
 }
 
-/// No option is in force: each other than 0 is refused, whatever is lent.
+/// The policy is 0, 1 or 2. No other option is in force: each other than 0 is refused, whatever is lent.
 #[test]
 fn option() {
     let sizes = Sizes::from([256, 4, 3, 3, 1, 9]);
-    for i in 0..4 {
-        for wrong in [1, 2, 8, u32::MAX] {
+    for (i, wrongs) in [(0, [3, 4, 8, u32::MAX]), (1, NONE), (2, NONE), (3, NONE)] {
+        for wrong in wrongs {
             let mut options = [0; 4];
             options[i] = wrong;
             let mut memory = Memory::new(&sizes);
@@ -69,11 +69,16 @@ fn option() {
             assert_eq!(Store::open(sizes, Options::from(options), &Memory::default().lend()), Err(Refusal::Size));
         }
     }
-    let options = Options::default();
-    assert_eq!(options, Options { policy: 0, coded: 0, shelf_pages: 0, marked: 0 });
-    let store = Store::open(sizes, options, &Memory::new(&sizes).lend()).unwrap();
-    assert_eq!(*store.record(), Cache { sizes, ..Cache::blank() });
+    assert_eq!(Options::default(), Options { policy: LRU, coded: 0, shelf_pages: 0, marked: 0 });
+    for policy in [LRU, FIFO, LFU] {
+        let options = Options { policy, ..Options::default() };
+        let store = Store::open(sizes, options, &Memory::new(&sizes).lend()).unwrap();
+        assert_eq!(*store.record(), Cache { sizes, options, ..Cache::blank() });
+    }
 }
+
+/// What an option that is not in force may not be.
+const NONE: [u32; 4] = [1, 2, 8, u32::MAX];
 
 #[test]
 fn buffer() {
@@ -147,20 +152,22 @@ fn record() {
     }
 }
 
-/// What the options add to a record: each option is 0, each use count 0 and each entry of the shelf vacant.
+/// What the options add to a record: the policy is up to 2, any other option 0, a frame that is vacant has no use and any other one at least,
+/// and each entry of the shelf is vacant.
 #[test]
 fn record_of_options() {
-    let options: [fn(&mut Cache) -> &mut u32; 4] =
-        [|c| &mut c.options.policy, |c| &mut c.options.coded, |c| &mut c.options.shelf_pages, |c| &mut c.options.marked];
-    for option in options {
-        for wrong in [1, 2, 8, u32::MAX] {
-            let (mut cache, memory) = filled();
-            *option(&mut cache) = wrong;
-            all_refused(cache, memory, 0, 2, Refusal::Record);
-        }
-    }
+    let options: [fn(&mut Cache) -> &mut u32; 3] = [|c| &mut c.options.coded, |c| &mut c.options.shelf_pages, |c| &mut c.options.marked];
+    let spoilt = |option: fn(&mut Cache) -> &mut u32, wrong| {
+        let (mut cache, memory) = filled();
+        *option(&mut cache) = wrong;
+        all_refused(cache, memory, 0, 2, Refusal::Record);
+    };
+    options.iter().for_each(|&option| NONE.iter().for_each(|&wrong| spoilt(option, wrong)));
+    [3, 4, u32::MAX].iter().for_each(|&wrong| spoilt(|c| &mut c.options.policy, wrong));
     for i in 0..8 {
-        for wrong in [1, VACANT] {
+        let (cache, _) = filled();
+        let wrongs: &[u32] = if cache.directory.frames[i] == VACANT { &[1, VACANT] } else { &[0] };
+        for &wrong in wrongs {
             let (mut cache, memory) = filled();
             cache.directory.uses[i] = wrong;
             all_refused(cache, memory, 0, 2, Refusal::Record);

@@ -29,8 +29,7 @@ impl Plain {
     /// The block that a step rewrites, and the frame that it goes through.
     fn due(&self) -> Option<(u32, usize)> {
         let d = &self.0.directory;
-        let oldest = self.by_use().iter().map(|&f| f as usize).find(|&f| d.frames[f] != VACANT);
-        if let Some(f) = oldest {
+        if let Some(f) = self.oldest(|f| d.frames[f] != VACANT) {
             return Some((d.frames[f], f));
         }
         let lowest = self.slots().iter().copied().min().filter(|&n| n != VACANT)?;

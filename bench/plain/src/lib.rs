@@ -7,6 +7,7 @@ mod chip;
 mod flush;
 mod memory;
 mod part;
+pub mod policy;
 mod record;
 mod room;
 mod sound;

@@ -15,10 +15,11 @@ pub struct Sizes {
     pub wear_limit: u32,
 }
 
-/// What an opening may set beside the sizes. No option is in force yet: each must be 0.
+/// What an opening may set beside the sizes. Codes, shelf and marks are not in force yet: each must be 0.
 #[repr(C)]
 #[derive(Clone, Copy, Debug, Default, PartialEq, Eq)]
 pub struct Options {
+    /// which frame is old, of [`crate::policy`]
     pub policy: u32,
     pub coded: u32,
     pub shelf_pages: u32,
@@ -33,7 +34,7 @@ pub struct Directory {
     pub recency: [u8; 8],
     /// the valid pages of each frame, bit i for offset i
     pub valid: [u64; 8],
-    /// the uses of each frame
+    /// the uses of each frame since it was filled, 0 where it is vacant
     pub uses: [u32; 8],
     /// a block number or [`VACANT`] for each frame
     pub frames: [u32; 8],
@@ -101,7 +102,7 @@ impl From<[u32; 4]> for Options {
 impl Options {
     /// Whether each is one that an opening of these sizes takes.
     pub fn in_limits(&self, _: &Sizes) -> bool {
-        *self == Options::default()
+        self.policy <= 2 && self.coded | self.shelf_pages | self.marked == 0
     }
 
     /// Bytes of codes: none yet.

@@ -27,17 +27,19 @@ impl Plain {
     pub(crate) fn make_room(&mut self, lent: &mut Buffers, room: &Room) -> (Option<u32>, u32) {
         let &Room { way, victim, frame } = room;
         let (mut erased, mut merged) = (None, 0);
-        match way {
-            4 | 5 => self.join(lent, victim, frame),
-            6 => self.exchange(lent, victim, frame),
-            _ => {
-                let block = self.0.directory.frames[frame];
-                merged = self.clean(lent, block, frame);
-                erased = Some(block);
-                self.join(lent, victim, frame);
-            }
+        if way == 7 {
+            let block = self.0.directory.frames[frame];
+            merged = self.clean(lent, block, frame);
+            erased = Some(block);
         }
-        self.touch(frame);
+        match way {
+            6 => self.exchange(lent, victim, frame),
+            _ => self.join(lent, victim, frame),
+        }
+        match way {
+            4 => self.used(frame),
+            _ => self.filled(frame),
+        }
         (erased, merged)
     }
 
@@ -65,20 +67,16 @@ impl Plain {
         if let Some(f) = self.frame_of(VACANT) {
             return (5, f);
         }
-        let count = |f: usize| self.0.directory.valid[f].count_ones();
-        // the first of equals is the least recent
-        let fewest = self.by_use().iter().map(|&f| f as usize).min_by_key(|&f| count(f));
-        match fewest {
-            Some(f) if count(f) < pages => (6, f),
+        match self.fewest() {
+            (f, valid) if valid < pages => (6, f),
             _ => (7, self.evict_frame(lent)),
         }
     }
 
-    /// The least recent frame whose block has wear below the limit; where every frame holds a worn block, the least recent.
+    /// The oldest frame whose block has wear below the limit; where every frame holds a worn block, the oldest.
     fn evict_frame(&self, lent: &Buffers) -> usize {
-        let frames = self.by_use();
-        let below = |f: u8| lent.wear[self.0.directory.frames[f as usize] as usize] < self.0.sizes.wear_limit;
-        frames.iter().copied().find(|&f| below(f)).unwrap_or(frames[0]) as usize
+        let below = |f: usize| !self.is_worn(lent, self.0.directory.frames[f]);
+        self.oldest(below).or_else(|| self.oldest(|_| true)).expect("there is a frame")
     }
 
     /// The pages of a block in slots go into frame f, which is the block's or vacant.
@@ -135,5 +133,6 @@ impl Plain {
     pub(crate) fn vacate(&mut self, f: usize) {
         self.0.directory.frames[f] = VACANT;
         self.0.directory.valid[f] = 0;
+        self.0.directory.uses[f] = 0;
     }
 }

@@ -5,7 +5,7 @@ use crate::{Directory, Options, Sizes, VACANT};
 #[inline(always)]
 pub fn sound(z: &Sizes, options: &Options, d: &Directory) -> bool {
     let mut seen = [0u64; 64];
-    z.in_limits() && options.in_limits(z) && d.uses == [0; 8] && frames_ok(z, d, &mut seen) && slots_ok(z, d, &mut seen)
+    z.in_limits() && options.in_limits(z) && frames_ok(z, d, &mut seen) && slots_ok(z, d, &mut seen)
 }
 
 #[inline(always)]
@@ -19,6 +19,9 @@ fn frames_ok(z: &Sizes, d: &Directory, seen: &mut [u64; 64]) -> bool {
             return false;
         }
         listed |= 1 << u;
+        if (x == VACANT) != (d.uses[f] == 0) {
+            return false;
+        }
         if x == VACANT {
             if v != 0 {
                 return false;
@@ -33,7 +36,7 @@ fn frames_ok(z: &Sizes, d: &Directory, seen: &mut [u64; 64]) -> bool {
         seen[w] |= v << o;
         seen[(w + 1) % 64] |= v >> 1 >> (63 - o);
     }
-    (b..8).all(|f| d.frames[f] == VACANT && d.valid[f] == 0 && d.recency[f] as usize == f)
+    (b..8).all(|f| d.frames[f] == VACANT && d.valid[f] == 0 && d.uses[f] == 0 && d.recency[f] as usize == f)
 }
 
 #[inline(always)]

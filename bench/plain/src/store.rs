@@ -36,7 +36,7 @@ impl Plain {
         }
         if let Some((f, at)) = self.frame_with(n) {
             page.copy_from_slice(page_at(lent.bspace, at, s));
-            self.touch(f);
+            self.used(f);
             return Ok(Answer::Read { way: 2 });
         }
         page.copy_from_slice(page_at(lent.flash, n as usize, s));
@@ -46,7 +46,7 @@ impl Plain {
     /// Checks 4 and 2.
     pub(crate) fn check(&self, lent: &Buffers) -> Result<(), Refusal> {
         let c = &self.0;
-        if c.entries != [VACANT; 8] || !sound::sound(&c.sizes, &c.options, &c.directory) {
+        if !sound::sound(&c.sizes, &c.options, &c.directory) || c.entries != [VACANT; 8] {
             return Err(Refusal::Record);
         }
         if !lent.fit(&c.sizes, &c.options) {
@@ -95,14 +95,6 @@ impl Plain {
         let f = self.frame_of(block)?;
         let valid = self.0.directory.valid[f] >> offset & 1 == 1;
         valid.then_some((f, f * k as usize + offset as usize))
-    }
-
-    /// Frame f becomes most recent.
-    pub(crate) fn touch(&mut self, f: usize) {
-        let b = self.0.sizes.frames as usize;
-        let order = &mut self.0.directory.recency[..b];
-        let at = order.iter().position(|&x| x as usize == f).expect("the order lists each frame");
-        order[at..].rotate_left(1);
     }
 }
 

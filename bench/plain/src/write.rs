@@ -48,7 +48,7 @@ impl Plain {
             }
             Plan::Frame(f, at) => {
                 page_at_mut(lent.bspace, at, s).copy_from_slice(page);
-                self.touch(f);
+                self.used(f);
                 Answer::Write { way: 2, erased: None, merged: 0 }
             }
             Plan::Vacant(i) => {

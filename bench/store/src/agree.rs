@@ -61,7 +61,7 @@ fn history(random: &mut Random, tally: &mut Tally) {
 fn opened(random: &mut Random, tally: &mut Tally) -> Option<Side> {
     let limit = 1 + random.below(60);
     let mut sizes = [1 + random.below(20), 2 + random.below(8), 1 + random.below(10), 1 + random.below(12), 1 + random.below(4), limit];
-    let mut options = [0; 4];
+    let mut options = [random.below(3), 0, 0, 0];
     let mut memory = Memory::new(&Sizes::from(sizes));
     memory.flash = random.bytes(memory.flash.len());
     spoil_opening(random, &mut sizes, &mut options, &mut memory);
@@ -111,7 +111,7 @@ fn spoil(random: &mut Random, side: &mut Side) {
         2 => d.frames[f] = random.below(12),
         3 => d.valid[f] ^= 1 << random.below(64),
         4 => d.recency.swap(f, random.below(8) as usize),
-        5 => d.uses[f] = random.below(3),
+        5 => d.uses[f] = random.of(&[0, 1, 2, u32::MAX - 1, u32::MAX]),
         6 => side.cache.entries[f] = random.of(&[0, 5, VACANT - 1, VACANT]),
         7 => side.cache.sizes.pages_per_block += 1,
         8 => side.cache.sizes.slots = random.below(140),

@@ -3,7 +3,7 @@ use address::BlockNo;
 
 // Why a call is turned down: document 01's refusals 1 to 6.
 pub enum Refusal {
-    // 1: at opening, a size or the wear limit is beyond its limits, or an option is not one that a store takes
+    // 1: at opening, a size, the wear limit or an option is beyond its limits
     Size,
     // 2: a lent buffer has another length than the sizes ask for
     Buffer,

@@ -22,7 +22,7 @@ pub struct Sizes {
     pub slots: u32,
     pub frames: u32,
     pub wear_limit: u32,
-    // the block policy (request A5)
+    // the block policy (request A5): 0 LRU, 1 FIFO, 2 LFU
     pub policy: u32,
     // 1 where pages have codes (request A6)
     pub coded: u32,
@@ -51,7 +51,7 @@ impl Sizes {
         }
     }
 
-    // Whether each size and the wear limit are within their limits, and no option is set: none is in force yet.
+    // Whether each size and the wear limit are within their limits, the policy is one of the three, and no other option is set.
     pub fn ok(self) -> bool
         ensures { λ r. ⌜ r ≡ sizesOk (sizesOf self) ⌝ }
     {
@@ -67,7 +67,7 @@ impl Sizes {
             & (self.frames <= 8)
             & (1 <= self.wear_limit)
             & (self.wear_limit <= 1000000)
-            & (self.policy == 0)
+            & (self.policy <= 2)
             & (self.coded == 0)
             & (self.shelf_pages == 0)
             & (self.marked == 0)

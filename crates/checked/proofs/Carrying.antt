@@ -10,7 +10,7 @@ use Rattle.prelude.proofs.Tests.{by-test}
 use Rattle.model.specs.Sizes.{Sizes, vacant, InLimits}
 use Rattle.model.specs.Directory.{Directory}
 use Rattle.model.specs.Soundness.{sound}
-use Rattle.model.specs.Policy.{Choice, leastRecent, plan, dueOf}
+use Rattle.model.specs.Policy.{Choice, policyChoice, plan, dueOf}
 use Rattle.model.specs.Moves.{Memory}
 use Rattle.model.specs.Formats.{storeFormat, chipFor}
 use Rattle.model.specs.Calls.{Answer, readDone, writeDone, refused, isRefused, Call, read, write, part, step, flush, State, Outcome}
@@ -130,18 +130,18 @@ module _ (sz : Sizes) (k : State) (n long : ℕ) (o : Outcome) where
 
 -- a call whose page buffer and page number are checked
 module _ (s : Store) (c : Call Page) (n long : ℕ) (o : Outcome)
-    (is : decide leastRecent (s .cache .sizes) (stateOf s) (told c) ≡ checked (s .cache .sizes) (stateOf s) n long o)
+    (is : decide policyChoice (s .cache .sizes) (stateOf s) (told c) ≡ checked (s .cache .sizes) (stateOf s) n long o)
     (a : sound (s .cache .sizes) (s .cache .directory) ≡ true) (b : lentOk storeFormat (s .cache .sizes) (s .lent) ≡ true) where
   turned-down : (m : ℕ) → checked (s .cache .sizes) (stateOf s) n long o ≡ turnedDown (stateOf s) m vacant
-      → call storeFormat leastRecent s c ≡ unaltered (refused m vacant) s c
-  turned-down m e = call-carried leastRecent s c a b ∙ ap (carriedOut storeFormat leastRecent s c (λ i. false)) (is ∙ e)
-      ∙ carried-refused leastRecent s c m vacant
+      → call storeFormat policyChoice s c ≡ unaltered (refused m vacant) s c
+  turned-down m e = call-carried policyChoice s c a b ∙ ap (carriedOut storeFormat policyChoice s c (λ i. false)) (is ∙ e)
+      ∙ carried-refused policyChoice s c m vacant
 
-  pub call-page-buffer : (long ≡ s .cache .sizes .S → ⊥) → call storeFormat leastRecent s c ≡ unaltered (refused 2 vacant) s c
+  pub call-page-buffer : (long ≡ s .cache .sizes .S → ⊥) → call storeFormat policyChoice s c ≡ unaltered (refused 2 vacant) s c
   call-page-buffer e = turned-down 2 (checked-buffer (s .cache .sizes) (stateOf s) n long o e)
 
   pub call-page : long ≡ s .cache .sizes .S → s .cache .sizes .N * s .cache .sizes .K ≤ n
-      → call storeFormat leastRecent s c ≡ unaltered (refused 5 vacant) s c
+      → call storeFormat policyChoice s c ≡ unaltered (refused 5 vacant) s c
   call-page e l = turned-down 5 (checked-page (s .cache .sizes) (stateOf s) n long o e l)
 
   -- accepted, as far as these checks go
@@ -149,36 +149,36 @@ module _ (s : Store) (c : Call Page) (n long : ℕ) (o : Outcome)
       → Fits storeFormat (s .cache .sizes) u′
       → (answer : Answer) (d′ : Directory) (page′ : Page)
       → Carried o (memoryOf storeFormat (s .cache .sizes) (s .lent))
-      (callPages (chipFor (s .cache .sizes)) (zeroPage (s .cache .sizes)) leastRecent (s .cache .sizes) (stateOf s)
+      (callPages (chipFor (s .cache .sizes)) (zeroPage (s .cache .sizes)) policyChoice (s .cache .sizes) (stateOf s)
       (memoryOf storeFormat (s .cache .sizes) (s .lent)) c) answer d′ (u′ .wear) (memoryOf storeFormat (s .cache .sizes) u′)
-      → page′ ≡ bufferAfter leastRecent s c o
+      → page′ ≡ bufferAfter policyChoice s c o
       → record {
         answer = answer;
         mends = 0;
         store = record { cache = record { sizes = s .cache .sizes; directory = d′ }; lent = u′ };
         page = page′;
       }
-      ≡ call storeFormat leastRecent s c
+      ≡ call storeFormat policyChoice s c
   call-passed e l u′ f′ answer d′ page′ h p =
-      let q : decide leastRecent (s .cache .sizes) (stateOf s) (told c) ≡ o = is
+      let q : decide policyChoice (s .cache .sizes) (stateOf s) (told c) ≡ o = is
       ∙ checked-passed (s .cache .sizes) (stateOf s) n long o e l in
-      carried-call leastRecent s c (sound-facts (s .cache .sizes) (s .cache .directory) a .limits)
+      carried-call policyChoice s c (sound-facts (s .cache .sizes) (s .cache .directory) a .limits)
       (fits-of storeFormat (s .cache .sizes) (s .lent) b) u′ f′ answer d′ page′ (rw q h) (rw q p)
-      ∙ sym (call-carried leastRecent s c a b)
+      ∙ sym (call-carried policyChoice s c a b)
 
 same-either : (x : Page) (t : Bool) → x ≡ cond t x x
 same-either x true = refl
 same-either x false = refl
 
 module _ (s : Store) (n : ℕ) (x : Page) where
-  pub read-checked : decide leastRecent (s .cache .sizes) (stateOf s) (told (read n x))
+  pub read-checked : decide policyChoice (s .cache .sizes) (stateOf s) (told (read n x))
       ≡ checked (s .cache .sizes) (stateOf s) n (length x) (readOutcome (s .cache .sizes) (stateOf s) n)
   unfolding decide
   read-checked = refl
 
-  pub write-checked : decide leastRecent (s .cache .sizes) (stateOf s) (told (write n x))
+  pub write-checked : decide policyChoice (s .cache .sizes) (stateOf s) (told (write n x))
       ≡ checked (s .cache .sizes) (stateOf s) n (length x) (writeOutcome (s .cache .sizes) (stateOf s) n
-      (plan leastRecent (s .cache .sizes) (s .cache .directory) (s .lent .wear) n))
+      (plan policyChoice (s .cache .sizes) (s .cache .directory) (s .lent .wear) n))
   unfolding decide
   write-checked = refl
 
@@ -210,7 +210,7 @@ module _ (s : Store) (n : ℕ) (x : Page) where
           mends = 0;
           store = record { cache = record { sizes = s .cache .sizes; directory = d′ }; lent = s .lent };
           page = page′;
-        } ≡ call storeFormat leastRecent s (read n x)
+        } ≡ call storeFormat policyChoice s (read n x)
     unfolding readOutcome callPages memoryOf flashCells
     read-done r d′ page′ h =
         let sz : Sizes = s .cache .sizes in
@@ -223,19 +223,19 @@ module _ (s : Store) (n : ℕ) (x : Page) where
 
     pub write-done : (u′ : Buffers) → Fits storeFormat (s .cache .sizes) u′ → (answer : Answer) (d′ : Directory)
         → Wrote (s .cache .sizes) (s .cache .directory) (s .lent) n x
-        (plan leastRecent (s .cache .sizes) (s .cache .directory) (s .lent .wear) n) answer d′ u′
+        (plan policyChoice (s .cache .sizes) (s .cache .directory) (s .lent .wear) n) answer d′ u′
         → record {
           answer = answer;
           mends = 0;
           store = record { cache = record { sizes = s .cache .sizes; directory = d′ }; lent = u′ };
           page = x;
         }
-        ≡ call storeFormat leastRecent s (write n x)
+        ≡ call storeFormat policyChoice s (write n x)
     unfolding callPages
     write-done u′ f′ answer d′ h = call-passed s (write n x) n (length x)
-        (writeOutcome (s .cache .sizes) (stateOf s) n (plan leastRecent (s .cache .sizes) (s .cache .directory) (s .lent .wear) n))
+        (writeOutcome (s .cache .sizes) (stateOf s) n (plan policyChoice (s .cache .sizes) (s .cache .directory) (s .lent .wear) n))
         write-checked a b e l u′ f′ answer d′ x h (same-either x (isRefused
-        (writeOutcome (s .cache .sizes) (stateOf s) n (plan leastRecent (s .cache .sizes) (s .cache .directory) (s .lent .wear)
+        (writeOutcome (s .cache .sizes) (stateOf s) n (plan policyChoice (s .cache .sizes) (s .cache .directory) (s .lent .wear)
         n) .answer)))
 
 -- ---- a part write
@@ -256,9 +256,9 @@ module _ (sz : Sizes) (k : State) (first many : ℕ) (w : Outcome) where
 
 module _ (s : Store) (n first : ℕ) (x page : Page) where
   abbrev asWrite : Outcome
-  asWrite = writeOutcome (s .cache .sizes) (stateOf s) n (plan leastRecent (s .cache .sizes) (s .cache .directory) (s .lent .wear) n)
+  asWrite = writeOutcome (s .cache .sizes) (stateOf s) n (plan policyChoice (s .cache .sizes) (s .cache .directory) (s .lent .wear) n)
 
-  pub part-checked : decide leastRecent (s .cache .sizes) (stateOf s) (told (part n first x page))
+  pub part-checked : decide policyChoice (s .cache .sizes) (stateOf s) (told (part n first x page))
       ≡ checked (s .cache .sizes) (stateOf s) n (length page) (partOutcome (s .cache .sizes) (stateOf s) first (length x) asWrite)
   unfolding decide
   part-checked = refl
@@ -267,12 +267,12 @@ module _ (s : Store) (n first : ℕ) (x page : Page) where
       (e : length page ≡ s .cache .sizes .S) (l : n < s .cache .sizes .N * s .cache .sizes .K) where
     -- the checks passed, the outcome is o
     passed-as : (o : Outcome) → partOutcome (s .cache .sizes) (stateOf s) first (length x) asWrite ≡ o
-        → decide leastRecent (s .cache .sizes) (stateOf s) (told (part n first x page))
+        → decide policyChoice (s .cache .sizes) (stateOf s) (told (part n first x page))
         ≡ checked (s .cache .sizes) (stateOf s) n (length page) o
     passed-as o h = part-checked ∙ ap (checked (s .cache .sizes) (stateOf s) n (length page)) h
 
     pub call-reach : leb (first + length x) (s .cache .sizes .S) ≡ false
-        → call storeFormat leastRecent s (part n first x page) ≡ unaltered (refused 2 vacant) s (part n first x page)
+        → call storeFormat policyChoice s (part n first x page) ≡ unaltered (refused 2 vacant) s (part n first x page)
     call-reach h = let o : Outcome = turnedDown (stateOf s) 2 vacant in
         turned-down s (part n first x page) n (length page) o (passed-as o
         (part-past (s .cache .sizes) (stateOf s) first (length x) asWrite h)) a b 2
@@ -281,7 +281,7 @@ module _ (s : Store) (n first : ℕ) (x page : Page) where
     module _ (r : leb (first + length x) (s .cache .sizes .S) ≡ true) where
       -- way 0
       pub nothing-done : noBytes x ≡ true → record { answer = writeDone 0 vacant 0; mends = 0; store = s; page = page }
-          ≡ call storeFormat leastRecent s (part n first x page)
+          ≡ call storeFormat policyChoice s (part n first x page)
       unfolding callPages
       nothing-done q = let o : Outcome = record { answer = writeDone 0 vacant 0; state = stateOf s } in
           call-passed s (part n first x page) n (length page) o (passed-as o
@@ -308,7 +308,7 @@ module _ (s : Store) (n first : ℕ) (x page : Page) where
             mends = 0;
             store = record { cache = record { sizes = s .cache .sizes; directory = d′ }; lent = u′ };
             page = page′;
-          } ≡ call storeFormat leastRecent s (part n first x page)
+          } ≡ call storeFormat policyChoice s (part n first x page)
       unfolding callPages
       part-done q u′ f′ answer d′ page′ h =
           let y : Page = combinedOf (s .cache .sizes) (s .cache .directory) (s .lent) n first x in
@@ -336,11 +336,11 @@ module _ (s : Store) (a : sound (s .cache .sizes) (s .cache .directory) ≡ true
             store = record { cache = record { sizes = s .cache .sizes; directory = d′ }; lent = u′ };
             page = [];
           }
-          ≡ call storeFormat leastRecent s step
+          ≡ call storeFormat policyChoice s step
       unfolding decide callPages
-      step-done h = carried-call leastRecent s step (ready .sound .limits) (ready .fits) u′ f′ answer d′ [] h
+      step-done h = carried-call policyChoice s step (ready .sound .limits) (ready .fits) u′ f′ answer d′ [] h
           (same-either [] (isRefused (stepOutcome (s .cache .sizes) (stateOf s)
-          (dueOf leastRecent (s .cache .sizes) (s .cache .directory)) .answer))) ∙ sym (call-carried leastRecent s step a b)
+          (dueOf policyChoice (s .cache .sizes) (s .cache .directory)) .answer))) ∙ sym (call-carried policyChoice s step a b)
 
       pub flush-done : FlushCarried (s .cache .sizes) (s .cache .directory) (s .lent) answer d′ u′
           → record {
@@ -349,8 +349,8 @@ module _ (s : Store) (a : sound (s .cache .sizes) (s .cache .directory) ≡ true
             store = record { cache = record { sizes = s .cache .sizes; directory = d′ }; lent = u′ };
             page = [];
           }
-          ≡ call storeFormat leastRecent s flush
+          ≡ call storeFormat policyChoice s flush
       unfolding decide callPages
-      flush-done h = carried-call leastRecent s flush (ready .sound .limits) (ready .fits) u′ f′ answer d′ [] h
-          (same-either [] (isRefused (flushOutcome leastRecent (s .cache .sizes) (stateOf s) .answer)))
-          ∙ sym (call-carried leastRecent s flush a b)
+      flush-done h = carried-call policyChoice s flush (ready .sound .limits) (ready .fits) u′ f′ answer d′ [] h
+          (same-either [] (isRefused (flushOutcome policyChoice (s .cache .sizes) (stateOf s) .answer)))
+          ∙ sym (call-carried policyChoice s flush a b)

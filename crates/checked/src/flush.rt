@@ -6,7 +6,7 @@ use cache::Sizes;
 use sound::lists_sound;
 ghost use mathlib.Core.Path.{_≡_};
 ghost use mathlib.Core.List.{[]};
-ghost use Rattle.model.specs.Policy.{leastRecent};
+ghost use Rattle.model.specs.Policy.{policyChoice};
 ghost use Rattle.model.specs.Soundness.{Shape};
 ghost use Rattle.model.specs.Formats.{storeFormat};
 ghost use Rattle.model.specs.Calls.{step, flush, call};
@@ -38,7 +38,7 @@ pub fn step(
         let d′ = numbers (now (slots .exit)) (now (frames .exit)) (now (valid .exit)) (now (recency .entry)) (now (uses .exit)) in
         let u′ = buffers (now (flash .exit)) (now (codes .exit)) (now (marks .exit))
         (now (wear .exit)) (now (pspace .entry)) (now (bspace .exit)) in
-        resultWith (stepOf r) z d′ u′ [] ≡ call storeFormat leastRecent (storeWith z d u) step) ⌝ }
+        resultWith (stepOf r) z d′ u′ [] ≡ call storeFormat policyChoice (storeWith z d u) step) ⌝ }
 {
     if !lists_sound(z, slots, frames, valid, recency, uses) {
         return Step::Refused(Refusal::Record);
@@ -93,7 +93,7 @@ pub fn flush(
         let d′ = numbers (now (slots .exit)) (now (frames .exit)) (now (valid .exit)) (now (recency .entry)) (now (uses .exit)) in
         let u′ = buffers (now (flash .exit)) (now (codes .exit)) (now (marks .exit))
         (now (wear .exit)) (now (pspace .entry)) (now (bspace .exit)) in
-        resultWith (flushOf r) z d′ u′ [] ≡ call storeFormat leastRecent (storeWith z d u) flush) ⌝ }
+        resultWith (flushOf r) z d′ u′ [] ≡ call storeFormat policyChoice (storeWith z d u) flush) ⌝ }
 {
     if !lists_sound(z, slots, frames, valid, recency, uses) {
         return Flush::Refused(Refusal::Record);

@@ -5,7 +5,7 @@ use answer::Write;
 use cache::Sizes;
 use sound::lists_sound;
 ghost use mathlib.Core.Path.{_≡_};
-ghost use Rattle.model.specs.Policy.{leastRecent};
+ghost use Rattle.model.specs.Policy.{policyChoice};
 ghost use Rattle.model.specs.Soundness.{Shape};
 ghost use Rattle.model.specs.Formats.{storeFormat};
 ghost use Rattle.model.specs.Calls.{part, call};
@@ -41,7 +41,7 @@ pub fn write(
         let d′ = numbers (now (slots .exit)) (now (frames .exit)) (now (valid .exit)) (now (recency .exit)) (now (uses .exit)) in
         let u′ = buffers (now (flash .exit)) (now (codes .exit)) (now (marks .exit))
         (now (wear .exit)) (now (pspace .exit)) (now (bspace .exit)) in
-        resultWith (writeOf r) z d′ u′ (now (page .exit)) ≡ call storeFormat leastRecent (storeWith z d u)
+        resultWith (writeOf r) z d′ u′ (now (page .exit)) ≡ call storeFormat policyChoice (storeWith z d u)
         (part (n .0) first (now (bytes .entry)) (now (page .entry)))) ⌝ }
 {
     if !lists_sound(z, slots, frames, valid, recency, uses) {

@@ -5,7 +5,7 @@ use answer::Refusal;
 use cache::Sizes;
 use sound::lists_sound;
 ghost use mathlib.Core.Path.{_≡_};
-ghost use Rattle.model.specs.Policy.{leastRecent};
+ghost use Rattle.model.specs.Policy.{policyChoice};
 ghost use Rattle.model.specs.Soundness.{Shape};
 ghost use Rattle.model.specs.Formats.{storeFormat};
 ghost use Rattle.model.specs.Calls.{read, call};
@@ -38,7 +38,7 @@ pub fn read(
         let d = numbers (now (slots .entry)) (now (frames .entry)) (now (valid .entry)) (now (recency .entry)) (now (uses .entry)) in
         let d′ = numbers (now (slots .entry)) (now (frames .entry)) (now (valid .entry)) (now (recency .exit)) (now (uses .exit)) in
         resultWith (readOf r) z d′ u (now (page .exit))
-        ≡ call storeFormat leastRecent (storeWith z d u) (read (n .0) (now (page .entry)))) ⌝ }
+        ≡ call storeFormat policyChoice (storeWith z d u) (read (n .0) (now (page .entry)))) ⌝ }
 {
     if !lists_sound(z, slots, frames, valid, recency, uses) {
         return Read::Refused(Refusal::Record);

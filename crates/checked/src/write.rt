@@ -5,7 +5,7 @@ use answer::Write;
 use cache::Sizes;
 use sound::lists_sound;
 ghost use mathlib.Core.Path.{_≡_};
-ghost use Rattle.model.specs.Policy.{leastRecent};
+ghost use Rattle.model.specs.Policy.{policyChoice};
 ghost use Rattle.model.specs.Soundness.{Shape};
 ghost use Rattle.model.specs.Formats.{storeFormat};
 ghost use Rattle.model.specs.Calls.{write, call};
@@ -40,7 +40,7 @@ pub fn write(
         let u′ = buffers (now (flash .exit)) (now (codes .exit)) (now (marks .exit))
         (now (wear .exit)) (now (pspace .exit)) (now (bspace .exit)) in
         resultWith (writeOf r) z d′ u′ (now (page .entry))
-        ≡ call storeFormat leastRecent (storeWith z d u) (write (n .0) (now (page .entry)))) ⌝ }
+        ≡ call storeFormat policyChoice (storeWith z d u) (write (n .0) (now (page .entry)))) ⌝ }
 {
     if !lists_sound(z, slots, frames, valid, recency, uses) {
         return Write::Refused(Refusal::Record);

@@ -7,13 +7,13 @@ use native.Mathlib.Omega.{arith}
 use Rattle.model.specs.Sizes as model
 use Rattle.model.specs.Sizes.{vacant}
 use Rattle.model.specs.Directory as cached
-use Rattle.model.specs.Policy.{leastRecent}
+use Rattle.model.specs.Policy.{policyChoice}
 use Rattle.model.specs.Calls.{isRefused, refused, Page, Outcome, flashCells, openStore, openDone}
 use Rattle.model.specs.Formats.{storeFormat, StoreMatches, StoreNear}
 use Rattle.model.specs.Lists.{Borne}
 use Rattle.model.specs.Shelf.{noEntries, plainly, ShelfOpened, ShelfStore, ShelfResult, ShelfReference, ShelfChosen, storeOpen, storeCall}
 use Rattle.model.specs.Shelf.{shelfCall, shelfBookSays, shelfFed, ShelfGives, ShelfClaim}
-use Rattle.model.proofs.Plan.{leastRecent-picks}
+use Rattle.model.proofs.Plan.{policyChoice-picks}
 use Rattle.model.proofs.Soundness.{limits-of}
 use Rattle.model.proofs.Opening.{open-accepted}
 use Rattle.model.proofs.Formats.{store-bears, whole-chunks}
@@ -27,17 +27,17 @@ use Rattle.store.specs.View.{Lent, storeOf}
 use Rattle.store.specs.Histories.{begun}
 use Rattle.clash_c.specs.Replies.{OpeningReply, CallReply, replied, inNumbers}
 use Rattle.clash_c.specs.Histories.{Made, read, write, part, step, flush, callOf, replyOf, lentAfter, pageAfter, Turn, lentTo}
-use Rattle.clash_c.specs.Histories.{AsContracted, leastRecentOf, saidBy, fedBy, ReadGives, Claim, Demand3}
+use Rattle.clash_c.specs.Histories.{AsContracted, byPolicy, saidBy, fedBy, ReadGives, Claim, Demand3}
 use Rattle.clash_c.proofs.Numbered.{Numbered, book-numbered, said-same, opening-numbered}
 
 -- the calls of a list, each by the least recently used block
 abbrev chosen : List Turn → List ShelfChosen
 chosen [] = []
-chosen (t ∷ ts) = leastRecentOf (t .made) ∷ chosen ts
+chosen (t ∷ ts) = byPolicy (t .made) ∷ chosen ts
 
 chosen-pick : (ts : List Turn) → AllShelfPick (chosen ts)
 chosen-pick [] = tt
-chosen-pick (t ∷ ts) = (leastRecent-picks, chosen-pick ts)
+chosen-pick (t ∷ ts) = (policyChoice-picks, chosen-pick ts)
 
 -- from what the model's result x gives to what the page buffer has
 gives : (a : List Page) (m : Made) (x : ShelfResult) → ShelfGives a (plainly (callOf m)) x → pageAfter m ≡ x .page
@@ -54,7 +54,7 @@ module _ (sz : model.Sizes) (u₀ : Lent) where
 
   -- what the reference is fed, when the book says o and the call m leaves the store s
   abbrev fedWith : ShelfReference → Made → Outcome → ShelfStore → ShelfReference
-  fedWith r m o s = shelfFed sz (sz .shelfPages) r (leastRecentOf m) o (flashCells storeFormat sz (s .store .lent))
+  fedWith r m o s = shelfFed sz (sz .shelfPages) r (byPolicy m) o (flashCells storeFormat sz (s .store .lent))
 
   abbrev Near : ShelfReference → Made → Outcome → ShelfStore → Type 0
   Near r m o s = Borne storeFormat StoreNear sz (fedWith r m o s .reference) (s .store .lent)
@@ -65,19 +65,19 @@ module _ (sz : model.Sizes) (u₀ : Lent) where
   from-model (t ∷ ts) c u r e h a = λ near.
       let m : Made = t .made in
       let v : Lent = lentTo u t in
-      let x : ShelfResult = shelfCall storeFormat (sz .shelfPages) leastRecent (storeOf c v) (plainly (callOf m)) in
+      let x : ShelfResult = shelfCall storeFormat (sz .shelfPages) policyChoice (storeOf c v) (plainly (callOf m)) in
       let k : replied (replyOf m) (lentAfter v m) (pageAfter m) ≡ inNumbers x = h .0
-      ∙ ap (λ (w : model.Sizes). inNumbers (shelfCall storeFormat (w .shelfPages) leastRecent (storeOf c v) (plainly (callOf m)))) e in
+      ∙ ap (λ (w : model.Sizes). inNumbers (shelfCall storeFormat (w .shelfPages) policyChoice (storeOf c v) (plainly (callOf m)))) e in
       let b = a (t .flash) (t .codes) near in
       let answer : replyOf m .answer ≡ numbersOf (x .answer) = ap (λ (y : CallReply). y .answer) k in
       let store : x .store ≡ storeOf (replyOf m .cache) (lentAfter v m) = sym (ap (λ (y : CallReply). y .store) k) in
-      let said : shelfBookSays sz (sz .shelfPages) r (leastRecentOf m) (x .answer) ≡ saidBy sz r m = sym
-      (ap (λ (y : replies.Answer). shelfBookSays sz (sz .shelfPages) r (leastRecentOf m) (refused (y .refusal) vacant)) answer
-      ∙ said-same sz (sz .shelfPages) r leastRecent (callOf m) (x .answer)) in
+      let said : shelfBookSays sz (sz .shelfPages) r (byPolicy m) (x .answer) ≡ saidBy sz r m = sym
+      (ap (λ (y : replies.Answer). shelfBookSays sz (sz .shelfPages) r (byPolicy m) (refused (y .refusal) vacant)) answer
+      ∙ said-same sz (sz .shelfPages) r policyChoice (callOf m) (x .answer)) in
       let numbered : Numbered (x .answer) = subst Numbered (sym (b .answers))
-      (book-numbered sz (sz .shelfPages) r leastRecent (callOf m) (x .answer)) in
+      (book-numbered sz (sz .shelfPages) r policyChoice (callOf m) (x .answer)) in
       let same : sizesOf (replyOf m .cache .sizes) ≡ sz = ap (λ (s : ShelfStore). s .store .cache .sizes) (sym store)
-      ∙ sizes-stay storeFormat leastRecent (sz .shelfPages) (storeOf c v) (plainly (callOf m)) ∙ e in
+      ∙ sizes-stay storeFormat policyChoice (sz .shelfPages) (storeOf c v) (plainly (callOf m)) ∙ e in
       record {
         answers = answer ∙ ap numbersOf (b .answers) ∙ ap (λ (o : Outcome). numbersOf (o .answer)) said;
         reads = gives (r .reference .array) m x (b .reads) (ap (λ (y : CallReply). y .page) k)

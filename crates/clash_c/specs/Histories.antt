@@ -7,7 +7,7 @@ use lib.ListN.{getD}
 use Rattle.prelude.specs.Pages.{laid}
 use Rattle.model.specs.Sizes as model
 use Rattle.model.specs.Sizes.{vacant}
-use Rattle.model.specs.Policy.{leastRecent}
+use Rattle.model.specs.Policy.{policyChoice}
 use Rattle.model.specs.Calls as calls
 use Rattle.model.specs.Calls.{Call, Page, Outcome, refused, noBytes, flashCells}
 use Rattle.model.specs.Formats.{storeFormat, StoreNear}
@@ -81,7 +81,7 @@ pageAfter (flush r flash′ codes′ marks′ wear′ bspace′) = []
 -- the contract of a call, on record c and buffers u: this is the `ensures` of `clash_read`, `clash_write`, `clash_part`, `clash_step` and
 -- `clash_flush`
 abbrev pub Contract : Cache → Lent → Made → Type 0
-Contract c u m = replied (replyOf m) (lentAfter u m) (pageAfter m) ≡ inNumbers (storeCall leastRecent (storeOf c u) (plainly (callOf m)))
+Contract c u m = replied (replyOf m) (lentAfter u m) (pageAfter m) ≡ inNumbers (storeCall policyChoice (storeOf c u) (plainly (callOf m)))
 
 -- the contract of an opening with sizes z, options among them, and buffers u: this is the `ensures` of `clash_open`
 abbrev pub OpeningContract : Sizes → Lent → Reply → Type 0
@@ -102,16 +102,17 @@ AsContracted c u [] = Unit {0}
 AsContracted c u (t ∷ ts) = Contract c (lentTo u t) (t .made)
     × AsContracted (replyOf (t .made) .cache) (lentAfter (lentTo u t) (t .made)) ts
 
-abbrev pub leastRecentOf : Made → ShelfChosen
-leastRecentOf m = record { choice = leastRecent; call = plainly (callOf m) }
+-- the call, with the choice of the record's policy
+abbrev pub byPolicy : Made → ShelfChosen
+byPolicy m = record { choice = policyChoice; call = plainly (callOf m) }
 
 -- what the book says of a call; it is told by the reply's number of refusals that requests add
 abbrev pub saidBy : model.Sizes → ShelfReference → Made → Outcome
-saidBy sz r m = shelfBookSays sz (sz .shelfPages) r (leastRecentOf m) (refused (replyOf m .answer .refusal) vacant)
+saidBy sz r m = shelfBookSays sz (sz .shelfPages) r (byPolicy m) (refused (replyOf m .answer .refusal) vacant)
 
 -- what runs beside the store, after the call on the buffers u
 abbrev pub fedBy : model.Sizes → ShelfReference → Lent → Made → ShelfReference
-fedBy sz r u m = shelfFed sz (sz .shelfPages) r (leastRecentOf m) (saidBy sz r m) (flashCells storeFormat sz (lentAfter u m .below))
+fedBy sz r u m = shelfFed sz (sz .shelfPages) r (byPolicy m) (saidBy sz r m) (flashCells storeFormat sz (lentAfter u m .below))
 
 -- an accepted read leaves the array's page n in the page buffer, an accepted part write with bytes that page with them laid in
 abbrev pub ReadGives : List Page → Made → Type 0

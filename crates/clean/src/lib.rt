@@ -78,6 +78,7 @@ pub fn clean_block(
     let v = valid[f];
     frames[f] = VACANT;
     valid[f] = 0;
+    uses[f] = 0;
     chip::rewrite(z, v, mend, flash, codes, marks, wear, bspace, b, f, ops)
 }
 

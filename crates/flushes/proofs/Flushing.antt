@@ -10,7 +10,7 @@ use Rattle.prelude.specs.Scan.{count}
 use Rattle.prelude.proofs.Scan.{count-le}
 use Rattle.model.specs.Sizes.{Sizes, vacant}
 use Rattle.model.specs.Directory.{Directory}
-use Rattle.model.specs.Policy.{inBlock, frameOf, slotCount, leastRecent, clean, due, dueOf, cached, lowestWorn}
+use Rattle.model.specs.Policy.{inBlock, frameOf, slotCount, policyChoice, clean, due, dueOf, cached, lowestWorn}
 use Rattle.model.specs.Moves.{Memory}
 use Rattle.model.specs.Formats.{storeFormat, chipFor}
 use Rattle.model.specs.Calls.{flushDone, refused, Tally, steps, flushOutcome, stepsPages, Page, Cell, Buffers, Fits, zeroPage, memoryOf}
@@ -34,20 +34,20 @@ pub record Underway (sz : Sizes) (d₀ : Directory) (u₀ : Buffers) (d : Direct
   -- a step is left for each block with a page cached
   pub few : count (sz .N) (cached sz d) + rewrites ≤ sz .N
   pub merges-le : merges ≤ rewrites * sz .K
-  pub numbers : steps leastRecent sz (sz .N - rewrites) (tally d u rewrites merges) ≡ steps leastRecent sz (sz .N) (tally d₀ u₀ 0 0)
-  pub pages : stepsPages leastRecent sz (chipFor sz) (zeroPage sz) (sz .N - rewrites) d (memoryOf storeFormat sz u)
-      ≡ stepsPages leastRecent sz (chipFor sz) (zeroPage sz) (sz .N) d₀ (memoryOf storeFormat sz u₀)
+  pub numbers : steps policyChoice sz (sz .N - rewrites) (tally d u rewrites merges) ≡ steps policyChoice sz (sz .N) (tally d₀ u₀ 0 0)
+  pub pages : stepsPages policyChoice sz (chipFor sz) (zeroPage sz) (sz .N - rewrites) d (memoryOf storeFormat sz u)
+      ≡ stepsPages policyChoice sz (chipFor sz) (zeroPage sz) (sz .N) d₀ (memoryOf storeFormat sz u₀)
 
 -- ---- steps by what is due
 
 module _ (sz : Sizes) (d : Directory) where
-  steps-stop : (u : Buffers) (r m : ℕ) → clean ≡ dueOf leastRecent sz d → (c : ℕ) → steps leastRecent sz c (tally d u r m) ≡ tally d u r m
+  steps-stop : (u : Buffers) (r m : ℕ) → clean ≡ dueOf policyChoice sz d → (c : ℕ) → steps policyChoice sz c (tally d u r m) ≡ tally d u r m
   unfolding steps
   steps-stop u r m e zero = refl
   steps-stop u r m e (suc c) = rw (← e, steps)
 
-  pages-stop : (m : Memory Cell Page) → clean ≡ dueOf leastRecent sz d → (c : ℕ)
-      → stepsPages leastRecent sz (chipFor sz) (zeroPage sz) c d m ≡ m
+  pages-stop : (m : Memory Cell Page) → clean ≡ dueOf policyChoice sz d → (c : ℕ)
+      → stepsPages policyChoice sz (chipFor sz) (zeroPage sz) c d m ≡ m
   unfolding stepsPages
   pages-stop m e zero = refl
   pages-stop m e (suc c) = rw (← e, stepsPages)
@@ -97,10 +97,10 @@ begins {sz} {d} {u} q = record {
 module _ {sz : Sizes} {d₀ : Directory} {u₀ : Buffers} {d : Directory} {u : Buffers} {rewrites merges : ℕ}
     (k : Underway sz d₀ u₀ d u rewrites merges) where
   -- nothing is cached any more
-  pub flush-done : Flushable sz d₀ u₀ → clean ≡ dueOf leastRecent sz d → FlushCarried sz d₀ u₀ (flushDone rewrites merges) d u
+  pub flush-done : Flushable sz d₀ u₀ → clean ≡ dueOf policyChoice sz d → FlushCarried sz d₀ u₀ (flushDone rewrites merges) d u
   unfolding flushOutcome
   flush-done q e =
-      let ends : tally d u rewrites merges ≡ steps leastRecent sz (sz .N) (tally d₀ u₀ 0 0) = sym (steps-stop sz d u rewrites merges e _)
+      let ends : tally d u rewrites merges ≡ steps policyChoice sz (sz .N) (tally d₀ u₀ 0 0) = sym (steps-stop sz d u rewrites merges e _)
       ∙ k .numbers in
       rw (le-ltb (lowestWorn sz d₀ (u₀ .wear)) (sz .N) (q .none-worn), flushOutcome) (record {
         answer-is = ap (λ (t : Tally). flushDone (t .rewrites) (t .merges)) ends;
@@ -109,7 +109,7 @@ module _ {sz : Sizes} {d₀ : Directory} {u₀ : Buffers} {d : Directory} {u : B
         pages-are = sym (pages-stop sz d _ e _) ∙ k .pages;
       })
 
-  module _ (b f : ℕ) (e : due b f ≡ dueOf leastRecent sz d) where
+  module _ (b f : ℕ) (e : due b f ≡ dueOf policyChoice sz d) where
     pub cleanable : Cleanable sz d u b f
     cleanable = let y = block-ready (k .ready) b f e in
         record { ready = k .ready; block = y; unworn = k .below b (y .b-lt) (cached-now sz d (k .ready .sound) b f y) }

@@ -7,11 +7,12 @@ use native.Mathlib.Omega.{arith}
 use lib.ListN.{length}
 use Rattle.model.specs.Sizes.{Sizes}
 use Rattle.model.specs.Directory.{Directory}
-use Rattle.model.specs.Policy.{inBlock, slotCount, leastRecent, clean, due, occupied, lowestInSlots, dueOf, isWorn}
+use Rattle.model.specs.Policy.{inBlock, slotCount, leastRecent, fewestUses, policyChoice, clean, due, occupied, lowestInSlots, dueOf}
+use Rattle.model.specs.Policy.{isWorn}
 use Rattle.model.specs.Moves.{steppedPages}
 use Rattle.model.specs.Calls.{stepDone, stepClean, refused, stepOutcome, Buffers}
 use Rattle.model.proofs.Lookup.{block-vacant}
-use Rattle.model.proofs.Plan.{leastRecent-picks}
+use Rattle.model.proofs.Plan.{policyChoice-picks}
 use Rattle.model.proofs.Steps as steps
 use Rattle.model.proofs.Calls.{not-worn}
 use Rattle.cache.specs.View.{numbers}
@@ -20,19 +21,19 @@ use Rattle.clean.specs.Plain.{Cleanable, BlockCleaned}
 use Rattle.flushes.specs.Flushes.{StepCarried}
 
 -- the valid pages are not looked at
-pub due-same : (sz : Sizes) (s f v r u : List ℕ) → dueOf leastRecent sz (numbers s f [] r []) ≡ dueOf leastRecent sz (numbers s f v r u)
-unfolding dueOf occupied leastRecent lowestInSlots slotCount inBlock
+pub due-same : (sz : Sizes) (s f v r u : List ℕ) → dueOf policyChoice sz (numbers s f [] r u) ≡ dueOf policyChoice sz (numbers s f v r u)
+unfolding dueOf occupied policyChoice fewestUses leastRecent lowestInSlots slotCount inBlock
 due-same sz s f v r u = refl
 
 module _ {sz : Sizes} {d : Directory} {u : Buffers} (q : Ready sz d u) where
   -- nothing is cached
-  pub step-clean : clean ≡ dueOf leastRecent sz d → StepCarried sz d u stepClean d u
+  pub step-clean : clean ≡ dueOf policyChoice sz d → StepCarried sz d u stepClean d u
   unfolding stepOutcome steppedPages
   step-clean e = rw (← e) (record { answer-is = refl; directory-is = refl; wear-is = refl; pages-are = refl })
 
-  module _ (b f : ℕ) (e : due b f ≡ dueOf leastRecent sz d) where
+  module _ (b f : ℕ) (e : due b f ≡ dueOf policyChoice sz d) where
     pub block-ready : steps.Ready sz d b f
-    block-ready = steps.due-ready sz d (q .sound) leastRecent leastRecent-picks b f (sym e)
+    block-ready = steps.due-ready sz d (q .sound) policyChoice policyChoice-picks b f (sym e)
 
     pub has-wear : b < length (u .wear)
     has-wear = let l = block-ready .b-lt in let h = q .fits .wear-length in omega arith

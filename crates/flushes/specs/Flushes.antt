@@ -2,7 +2,7 @@
 use Prim.Native.Nat.{_≤_}
 use Rattle.model.specs.Sizes.{Sizes}
 use Rattle.model.specs.Directory.{Directory}
-use Rattle.model.specs.Policy.{leastRecent, dueOf, lowestWorn}
+use Rattle.model.specs.Policy.{policyChoice, dueOf, lowestWorn}
 use Rattle.model.specs.Moves.{steppedPages}
 use Rattle.model.specs.Formats.{storeFormat, chipFor}
 use Rattle.model.specs.Calls.{Answer, State, stepOutcome, flushOutcome, stepsPages, Buffers, zeroPage, memoryOf}
@@ -14,7 +14,7 @@ stateIn d u = record { directory = d; wear = u .wear }
 -- a flush step gave this answer
 abbrev pub StepCarried : Sizes → Directory → Buffers → Answer → Directory → Buffers → Type 0
 StepCarried sz d u answer d′ u′ =
-    let q = dueOf leastRecent sz d in
+    let q = dueOf policyChoice sz d in
     let m = memoryOf storeFormat sz u in
     Carried (stepOutcome sz (stateIn d u) q) m (steppedPages (chipFor sz) (zeroPage sz) sz d m q) answer d′ (u′ .wear)
     (memoryOf storeFormat sz u′)
@@ -23,7 +23,7 @@ StepCarried sz d u answer d′ u′ =
 abbrev pub FlushCarried : Sizes → Directory → Buffers → Answer → Directory → Buffers → Type 0
 FlushCarried sz d u answer d′ u′ =
     let m = memoryOf storeFormat sz u in
-    Carried (flushOutcome leastRecent sz (stateIn d u)) m (stepsPages leastRecent sz (chipFor sz) (zeroPage sz) (sz .N) d m) answer d′
+    Carried (flushOutcome policyChoice sz (stateIn d u)) m (stepsPages policyChoice sz (chipFor sz) (zeroPage sz) (sz .N) d m) answer d′
     (u′ .wear)
     (memoryOf storeFormat sz u′)
 

@@ -37,7 +37,7 @@ pub fn step(
         (now (wear .exit)) (now (pspace .entry)) (now (bspace .exit)) in
         StepCarried (sizesOf z) d u (stepOf r) d′ u′) ⌝ }
 {
-    let due = policy::flush::due(z, slots, frames, recency);
+    let due = policy::flush::due(z, slots, frames, recency, uses);
     let Due::Block(b, f) = due else {
         return Step::Clean;
     };
@@ -142,7 +142,7 @@ fn clean_all(
     let mut rewrites: u32 = 0;
     let mut merged: u32 = 0;
     loop {
-        let due = policy::flush::due(z, slots, frames, recency);
+        let due = policy::flush::due(z, slots, frames, recency, uses);
         let Due::Block(b, f) = due else {
             return Flush::Done { rewrites, merged };
         };

@@ -9,7 +9,7 @@ use records::with;
 use store::Cache;
 
 // A sound record of S = 1, K = 4, N = 8, P = 3, B = 2, W = 9: pages 24 to 26 in its slots, all pages of blocks 0 and 1 in its
-// frames.
+// frames, each with one use.
 fn sound() -> Cache {
     let s = records::sizes(1, 4, 8, 3, 2, 9);
     Cache {
@@ -19,9 +19,22 @@ fn sound() -> Cache {
     }
 }
 
-// The calls on the sound record.
+// The calls on the sound record, and on it under the two other policies.
 pub fn none() {
     report::tally(b"as it is", 0, refuses::calls(sound()));
+    report::tally(b"under FIFO", 0, refuses::calls(under(1)));
+    report::tally(b"under LFU", 0, refuses::calls(under(2)));
+}
+
+// The sound record under a policy.
+fn under(policy: u32) -> Cache {
+    let c = sound();
+    let d = c.directory;
+    Cache {
+        sizes: records::with_options(c.sizes, policy, 0, 0, 0),
+        entries: [VACANT; 8],
+        directory: d,
+    }
 }
 
 // Each entry of the sound record spoilt alone.
@@ -64,8 +77,9 @@ fn order() {
 }
 
 fn uses() {
-    each(b"a use counted", 0, 8, Entry::Uses(1), 8);
-    each(b"4294967295 uses counted", 0, 8, Entry::Uses(4294967295), 8);
+    each(b"an occupied frame with no use", 0, 2, Entry::Uses(0), 2);
+    each(b"a use past B", 2, 8, Entry::Uses(1), 6);
+    each(b"4294967295 uses past B", 2, 8, Entry::Uses(4294967295), 6);
 }
 
 fn past() {
@@ -96,11 +110,10 @@ fn sized(name: &[u8], s: u32, k: u32, n: u32, p: u32, b: u32, w: u32) {
     vacant(name, records::sizes(s, k, n, p, b, w));
 }
 
-// Each option other than 0.
+// A number that is no policy, and each other option.
 pub fn options() {
-    opted(b"policy 1", 1, 0, 0, 0);
-    opted(b"policy 2", 2, 0, 0, 0);
     opted(b"policy 3", 3, 0, 0, 0);
+    opted(b"policy 4294967295", 4294967295, 0, 0, 0);
     opted(b"coded 1", 0, 1, 0, 0);
     opted(b"coded 2", 0, 2, 0, 0);
     opted(b"1 shelf page", 0, 0, 1, 0);

@@ -10,7 +10,7 @@ use borrow.Author.Tests.{leb-true}
 use Rattle.prelude.proofs.Tests.{by-test, each}
 use Rattle.model.specs.Sizes as model
 use Rattle.model.specs.Sizes.{sizesOk}
-use Rattle.model.specs.Policy.{leastRecent}
+use Rattle.model.specs.Policy.{policyChoice}
 use Rattle.model.specs.Calls.{Call, Page, Fits}
 use Rattle.model.specs.Formats.{storeFormat}
 use Rattle.model.specs.Shelf.{plainly, ShelfStore}
@@ -89,10 +89,10 @@ opened-keeps s sz = by-test (sizesOk sz) (λ t. ap (λ (e : Effect). e .store .s
 carried-sizes : (s : ShelfStore) (f : form.Form) (n : ℕ) → carried s f n .store .store .cache .sizes ≡ sizesAfter (s .store .cache .sizes) f
 unfolding written wasRead stepped flushed
 carried-sizes s (form.opens sz) n = opened-keeps s sz
-carried-sizes s (form.writes m b) n = sizes-stay storeFormat leastRecent _ s _
-carried-sizes s (form.reads m) n = sizes-stay storeFormat leastRecent _ s _
-carried-sizes s form.steps n = sizes-stay storeFormat leastRecent _ s _
-carried-sizes s form.flushes n = sizes-stay storeFormat leastRecent _ s _
+carried-sizes s (form.writes m b) n = sizes-stay storeFormat policyChoice _ s _
+carried-sizes s (form.reads m) n = sizes-stay storeFormat policyChoice _ s _
+carried-sizes s form.steps n = sizes-stay storeFormat policyChoice _ s _
+carried-sizes s form.flushes n = sizes-stay storeFormat policyChoice _ s _
 carried-sizes s form.wears n = refl
 carried-sizes s form.bad n = refl
 

@@ -17,9 +17,11 @@ use Rattle.model.specs.Soundness.{usesOk, sound}
 use Rattle.model.specs.Policy.{inBlock, slotOf, inSlots, frameWith, frameOf, validCount, slotCount, readWay, leastRecent, victim}
 use Rattle.model.specs.Policy.{fewestValid, evictable, anyEvictable, evictFrame, evictionPlan, plan, occupied, lowestInSlots, dueOf}
 use Rattle.model.specs.Policy.{cached, isWorn, lowestWorn}
+use Rattle.model.specs.Policy.{fewestUses, policyChoice}
 use Rattle.model.specs.Moves.{cellAt, flashPage, programmed, worn, wornBy, recencyAfter, touched, putSlot, entered, putSlotPage}
 use Rattle.model.specs.Moves.{putFramePage, joined, filled, joinedPages, unmet, spare, taken, givenSlot, exchanged, exchangedPages}
 use Rattle.model.specs.Moves.{vacated, merged, rewrittenPages, readDirectory, written, stepped, readPage, writtenPages, steppedPages}
+use Rattle.model.specs.Moves.{oneMore}
 use Rattle.model.specs.Calls.{Answer, openDone, readDone, writeDone, stepDone, stepClean, flushDone, refused, Call, read, write, part}
 use Rattle.model.specs.Calls.{step, flush, checked, readOutcome, writeOutcome, partOutcome, stepOutcome, steps, flushOutcome, decide}
 use Rattle.model.specs.Calls.{stepsPages, combined, callPages, Page, Cell, Format, Buffers, lentOk, openStore, Store, zeroPage}
@@ -79,8 +81,8 @@ runs s r [] ys zs ms bs = record {
   booked = reverse zs;
 }
 runs s r (c ∷ cs) ys zs ms bs =
-    let q = call both leastRecent s c in
-    let o = bookSays sizesA r (record { choice = leastRecent; besides = λ i. false; call = c }) (q .answer) in
+    let q = call both policyChoice s c in
+    let o = bookSays sizesA r (record { choice = policyChoice; besides = λ i. false; call = c }) (q .answer) in
     let r′ = fed sizesA r c o (flashCells both sizesA (q .store .lent)) in
     runs (q .store) r′ cs (q .answer ∷ ys) (o .answer ∷ zs) (q .mends ∷ ms) (getD (q .page) 0 0 ∷ bs)
 
@@ -207,13 +209,13 @@ table = reads ∷ step-merges ∷ part-mends ∷ flush-first ∷ worn-first ∷ 
 
 rows : map gave table ≡ map gives table
 unfolding reads step-merges part-mends flush-first worn-first table gives gave runs opened flashPages fed arrayAfter logAfter beforeAfter
-    baseAfter openStore call carriedOut memoryOf buffersOf zeroPage
-    lentOk callPages stepsPages decide flushOutcome steps stepOutcome partOutcome writeOutcome readOutcome checked combined laid
-    steppedPages writtenPages readPage stepped written readDirectory rewrittenPages merged vacated exchangedPages exchanged givenSlot taken
-    spare unmet joinedPages filled joined putFramePage putSlotPage entered putSlot touched recencyAfter wornBy worn programmed flashPage
-    lowestWorn formatOf torn flashCells callReading readsAll heeding faultOf faultMet somePage mendsOf mendsMet sum readsFlash readsPage
-    stepsMerge mergesPage cellAt isWorn cached dueOf lowestInSlots occupied plan evictionPlan evictFrame anyEvictable evictable fewestValid
-    victim leastRecent readWay slotCount validCount frameOf frameWith inSlots slotOf inBlock inFrame sound framePast usesOk slotPast
-    listedOnce cachedOnce framesDiffer slotsDiffer frameOk slotOk shapeOk sizesOk vacantDirectory blankCache every first firstFrom count
-    all allPairs tab tabFrom bit mask nth argmax least pageAt pagesOf flat
+    baseAfter openStore call carriedOut memoryOf buffersOf zeroPage lentOk callPages stepsPages decide flushOutcome steps stepOutcome
+    partOutcome writeOutcome readOutcome checked combined laid steppedPages writtenPages readPage stepped written readDirectory
+    rewrittenPages merged vacated exchangedPages exchanged givenSlot taken spare unmet joinedPages filled joined putFramePage putSlotPage
+    entered putSlot touched recencyAfter oneMore wornBy worn programmed flashPage lowestWorn formatOf torn flashCells callReading readsAll
+    heeding faultOf faultMet somePage mendsOf mendsMet sum readsFlash readsPage stepsMerge mergesPage cellAt isWorn cached dueOf
+    lowestInSlots occupied plan evictionPlan evictFrame anyEvictable evictable fewestValid victim policyChoice fewestUses leastRecent
+    readWay slotCount validCount frameOf frameWith inSlots slotOf inBlock inFrame sound framePast usesOk slotPast listedOnce cachedOnce
+    framesDiffer slotsDiffer frameOk slotOk shapeOk sizesOk vacantDirectory blankCache every first firstFrom count all allPairs tab
+    tabFrom bit mask nth argmax least pageAt pagesOf flat
 rows = refl

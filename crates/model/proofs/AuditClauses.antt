@@ -15,10 +15,12 @@ use Rattle.model.specs.Soundness.{usesOk, sound}
 use Rattle.model.specs.Policy.{inBlock, slotOf, inSlots, frameWith, frameOf, validCount, slotCount, readWay, leastRecent, victim}
 use Rattle.model.specs.Policy.{fewestValid, evictable, anyEvictable, evictFrame, evictionPlan, plan, occupied, lowestInSlots, dueOf}
 use Rattle.model.specs.Policy.{cached, isWorn, lowestWorn}
+use Rattle.model.specs.Policy.{fewestUses, policyChoice}
 use Rattle.model.specs.Moves.{cellAt, flashPage, programmed, worn, wornBy, recencyAfter, touched, putSlot, entered, putSlotPage}
 use Rattle.model.specs.Moves.{putFramePage}
 use Rattle.model.specs.Moves.{joined, filled, joinedPages, unmet, spare, taken, givenSlot, exchanged, exchangedPages, vacated, merged}
 use Rattle.model.specs.Moves.{rewrittenPages, readDirectory, written, stepped, readPage, writtenPages, steppedPages}
+use Rattle.model.specs.Moves.{oneMore}
 use Rattle.model.specs.Calls.{readDone, writeDone, flushDone, refused, Answer, Call, read, write, flush, checked, readOutcome}
 use Rattle.model.specs.Calls.{writeOutcome, stepOutcome, steps, flushOutcome, decide, stepsPages, callPages, Page, Buffers, lentOk}
 use Rattle.model.specs.Calls.{openStore, Store, zeroPage, memoryOf, buffersOf, carriedOut, call}
@@ -53,8 +55,8 @@ record Pair : Type 0 where
 both : Pair → List (Call Page) → Pair
 both p [] = p
 both p (c ∷ cs) =
-    let r = call storeFormat leastRecent (p .store) c in
-    let o = bookSays sizesA (p .reference) (record { choice = leastRecent; besides = λ i. false; call = c }) (r .answer) in
+    let r = call storeFormat policyChoice (p .store) c in
+    let o = bookSays sizesA (p .reference) (record { choice = policyChoice; besides = λ i. false; call = c }) (r .answer) in
     both (record {
       store = r .store;
       reference = fed sizesA (p .reference) c o (flashCells storeFormat sizesA (r .store .lent));
@@ -117,13 +119,13 @@ pub clauses : Clauses
 unfolding start wrote ran both writesA restA blockPages timesCached opened fed arrayAfter logAfter beforeAfter openStore call carriedOut
     memoryOf buffersOf zeroPage lentOk callPages stepsPages decide flushOutcome steps stepOutcome writeOutcome readOutcome checked
     steppedPages writtenPages readPage stepped written readDirectory rewrittenPages merged vacated exchangedPages exchanged givenSlot
-    taken spare unmet joinedPages filled joined putFramePage putSlotPage entered putSlot touched recencyAfter wornBy worn programmed
-    flashPage formatOf torn flashCells callReading readsAll heeding faultOf faultMet somePage mendsOf mendsMet sum readsFlash readsPage
-    stepsMerge mergesPage cellAt baseAfter flashPages isCoded isMarked lowestWorn isWorn cached dueOf lowestInSlots occupied plan
-    evictionPlan evictFrame anyEvictable evictable fewestValid victim
-    leastRecent readWay slotCount validCount frameOf frameWith inSlots slotOf inBlock inFrame sound usesOk framePast slotPast listedOnce
-    cachedOnce framesDiffer slotsDiffer frameOk slotOk shapeOk sizesOk vacantDirectory blankCache every first firstFrom count all allPairs
-    tab tabFrom bit mask nth argmax least pageAt pagesOf flat
+    taken spare unmet joinedPages filled joined putFramePage putSlotPage entered putSlot touched recencyAfter oneMore wornBy worn
+    programmed flashPage formatOf torn flashCells callReading readsAll heeding faultOf faultMet somePage mendsOf mendsMet sum readsFlash
+    readsPage stepsMerge mergesPage cellAt baseAfter flashPages isCoded isMarked lowestWorn isWorn cached dueOf lowestInSlots occupied
+    plan evictionPlan evictFrame anyEvictable evictable fewestValid victim policyChoice fewestUses leastRecent readWay slotCount
+    validCount frameOf frameWith inSlots slotOf inBlock inFrame sound usesOk framePast slotPast listedOnce cachedOnce framesDiffer
+    slotsDiffer frameOk slotOk shapeOk sizesOk vacantDirectory blankCache every first firstFrom count all allPairs tab tabFrom bit mask
+    nth argmax least pageAt pagesOf flat
 clauses = record {
   answers = refl;
   book-answers = refl;

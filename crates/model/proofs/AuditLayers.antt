@@ -15,10 +15,12 @@ use Rattle.model.specs.Soundness.{usesOk, sound}
 use Rattle.model.specs.Policy.{inBlock, slotOf, inSlots, frameWith, frameOf, validCount, slotCount, readWay, leastRecent, victim}
 use Rattle.model.specs.Policy.{fewestValid, evictable, anyEvictable, evictFrame, evictionPlan, plan, occupied, lowestInSlots, dueOf}
 use Rattle.model.specs.Policy.{cached, isWorn, lowestWorn}
+use Rattle.model.specs.Policy.{fewestUses, policyChoice}
 use Rattle.model.specs.Moves.{cellAt, flashPage, programmed, programmedTo, worn, wornBy, recencyAfter, touched, putSlot, entered}
 use Rattle.model.specs.Moves.{putSlotPage, putFramePage, joined, filled, joinedPages, unmet, spare, taken, givenSlot, exchanged}
 use Rattle.model.specs.Moves.{exchangedPages, vacated, merged, rewrittenPages, readDirectory, written, stepped, readPage}
 use Rattle.model.specs.Moves.{writtenPages, steppedPages}
+use Rattle.model.specs.Moves.{oneMore}
 use Rattle.model.specs.Calls.{Answer, openDone, readDone, writeDone, stepDone, stepClean, flushDone, refused, Call, read, write, part}
 use Rattle.model.specs.Calls.{step, flush, checked, readOutcome, writeOutcome, partOutcome, stepOutcome, steps, flushOutcome, decide}
 use Rattle.model.specs.Calls.{stepsPages, combined, callPages, Page, Cell, Format, Buffers, lentOk, openStore, Store, stateOf}
@@ -43,7 +45,7 @@ record Gives : Type 0 where
 
 runs : ℕ → ShelfStore → List ShelfCall → List Answer → List ℕ → Gives
 runs h s [] ys bs = record { answers = reverse ys; bytes = reverse bs; entries = take 3 (s .entries); shelf = s .shelf }
-runs h s (c ∷ cs) ys bs = let r = shelfCall plain h leastRecent s c in runs h (r .store) cs (r .answer ∷ ys) (getD (r .page) 0 0 ∷ bs)
+runs h s (c ∷ cs) ys bs = let r = shelfCall plain h policyChoice s c in runs h (r .store) cs (r .answer ∷ ys) (getD (r .page) 0 0 ∷ bs)
 
 start : ℕ → ShelfStore
 start h = let u : Buffers = record {
@@ -90,12 +92,13 @@ shelf-rows : two-pages ∷ parts ∷ no-pages ∷ [] ≡
 unfolding two-pages parts no-pages runs start shelfCall shelfOk shelved shelve entriesAfter shelfAfter shelvingReads ordinary pageSeen
     openStore call carriedOut memoryOf buffersOf zeroPage lentOk callPages stepsPages decide flushOutcome steps stepOutcome partOutcome
     writeOutcome readOutcome checked combined laid steppedPages writtenPages readPage stepped written readDirectory rewrittenPages merged
-    vacated exchangedPages exchanged givenSlot taken spare unmet joinedPages filled joined putFramePage putSlotPage entered putSlot touched
-    recencyAfter wornBy worn programmed flashPage lowestWorn formatOf torn flashCells callReading readsAll heeding faultOf faultMet
-    somePage mendsOf mendsMet sum readsFlash readsPage stepsMerge mergesPage cellAt isWorn cached dueOf lowestInSlots occupied plan
-    evictionPlan evictFrame anyEvictable evictable fewestValid victim leastRecent readWay slotCount validCount frameOf frameWith inSlots
-    slotOf inBlock inFrame sound framePast usesOk slotPast listedOnce cachedOnce framesDiffer slotsDiffer frameOk slotOk shapeOk sizesOk
-    vacantDirectory blankCache every first firstFrom count all allPairs tab tabFrom bit mask nth argmax least pageAt pagesOf flat
+    vacated exchangedPages exchanged givenSlot taken spare unmet joinedPages filled joined putFramePage putSlotPage entered putSlot
+    touched recencyAfter oneMore wornBy worn programmed flashPage lowestWorn formatOf torn flashCells callReading readsAll heeding faultOf
+    faultMet somePage mendsOf mendsMet sum readsFlash readsPage stepsMerge mergesPage cellAt isWorn cached dueOf lowestInSlots occupied
+    plan evictionPlan evictFrame anyEvictable evictable fewestValid victim policyChoice fewestUses leastRecent readWay slotCount
+    validCount frameOf frameWith inSlots slotOf inBlock inFrame sound framePast usesOk slotPast listedOnce cachedOnce framesDiffer
+    slotsDiffer frameOk slotOk shapeOk sizesOk vacantDirectory blankCache every first firstFrom count all allPairs tab tabFrom bit mask
+    nth argmax least pageAt pagesOf flat
 shelf-rows = refl
 
 -- ---- no shelf page: entries and a shelf are refused
@@ -103,7 +106,7 @@ shelf-rows = refl
 -- page 0 written into the slot, with entries es and shelf sb beside
 holding : List ℕ → List ℕ → ShelfStore
 holding es sb = record {
-  store = shelfCall plain 0 leastRecent (start 0) (plainly (write 0 (10 ∷ []))) .store .store;
+  store = shelfCall plain 0 policyChoice (start 0) (plainly (write 0 (10 ∷ []))) .store .store;
   entries = es;
   shelf = sb;
 }
@@ -134,7 +137,7 @@ each-call = read 0 (7 ∷ []) ∷ write 1 (7 ∷ []) ∷ part 1 0 (9 ∷ []) (7 
 
 -- what each leaves
 all-left : ShelfStore → List ShelfResult
-all-left s = map (λ c. storeCall leastRecent s (plainly c)) each-call
+all-left s = map (λ c. storeCall policyChoice s (plainly c)) each-call
 
 -- refused n, and all handed back
 all-refused : ℕ → ShelfStore → List ShelfResult
@@ -148,16 +151,15 @@ unshelved-rows :
     ∷ all-refused 2 (holding noEntries (0 ∷ [])) ∷ all-refused 4 (holding (set noEntries 0 0) (0 ∷ []))
     ∷ all-refused 4 (spoilt (set noEntries 0 0) []) ∷ all-refused 4 (spoilt noEntries (0 ∷ [])) ∷ []
 unfolding start holding spoilt each-call all-left all-refused shelfCall shelfOk shelved shelve entriesAfter shelfAfter shelvingReads
-    ordinary
-    pageSeen openStore call carriedOut memoryOf buffersOf zeroPage lentOk callPages stepsPages decide flushOutcome steps stepOutcome
-    partOutcome writeOutcome readOutcome checked combined laid steppedPages writtenPages readPage stepped written readDirectory
-    rewrittenPages merged vacated exchangedPages exchanged givenSlot taken spare unmet joinedPages filled joined putFramePage
-    putSlotPage entered putSlot touched recencyAfter wornBy worn programmed flashPage lowestWorn formatOf torn flashCells callReading
-    readsAll heeding faultOf faultMet somePage mendsOf mendsMet sum readsFlash readsPage stepsMerge mergesPage cellAt isWorn cached
-    dueOf lowestInSlots occupied plan evictionPlan evictFrame anyEvictable evictable fewestValid victim leastRecent readWay slotCount
-    validCount frameOf frameWith inSlots slotOf inBlock inFrame sound framePast usesOk slotPast listedOnce cachedOnce framesDiffer
-    slotsDiffer frameOk slotOk shapeOk sizesOk vacantDirectory blankCache every first firstFrom count all allPairs tab tabFrom bit mask
-    nth argmax least pageAt pagesOf flat isCoded isMarked
+    ordinary pageSeen openStore call carriedOut memoryOf buffersOf zeroPage lentOk callPages stepsPages decide flushOutcome steps
+    stepOutcome partOutcome writeOutcome readOutcome checked combined laid steppedPages writtenPages readPage stepped written
+    readDirectory rewrittenPages merged vacated exchangedPages exchanged givenSlot taken spare unmet joinedPages filled joined
+    putFramePage putSlotPage entered putSlot touched recencyAfter oneMore wornBy worn programmed flashPage lowestWorn formatOf torn
+    flashCells callReading readsAll heeding faultOf faultMet somePage mendsOf mendsMet sum readsFlash readsPage stepsMerge mergesPage
+    cellAt isWorn cached dueOf lowestInSlots occupied plan evictionPlan evictFrame anyEvictable evictable fewestValid victim policyChoice
+    fewestUses leastRecent readWay slotCount validCount frameOf frameWith inSlots slotOf inBlock inFrame sound framePast usesOk slotPast
+    listedOnce cachedOnce framesDiffer slotsDiffer frameOk slotOk shapeOk sizesOk vacantDirectory blankCache every first firstFrom count
+    all allPairs tab tabFrom bit mask nth argmax least pageAt pagesOf flat isCoded isMarked
 unshelved-rows = refl
 
 -- openings: with no shelf, with one of a byte, with one and a size beyond its limits, with a shelf page and its byte
@@ -186,16 +188,16 @@ opening-rows :
     ∷ storeOpen shelfOf1 lentA (0 ∷ []) ∷ []
     ≡ record { answer = openDone; cache = record { sizes = sizesA; directory = vacantDirectory }; entries = noEntries } ∷ unopened 2
     ∷ unopened 1 ∷ unopened 1 ∷ []
-unfolding shelfOf1 start openShelf shelfCall shelfOk shelved shelve entriesAfter shelfAfter shelvingReads ordinary pageSeen openStore
-    call carriedOut memoryOf buffersOf zeroPage lentOk callPages stepsPages decide flushOutcome steps stepOutcome partOutcome
-    writeOutcome readOutcome checked combined laid steppedPages writtenPages readPage stepped written readDirectory rewrittenPages
-    merged vacated exchangedPages exchanged givenSlot taken spare unmet joinedPages filled joined putFramePage putSlotPage entered
-    putSlot touched recencyAfter wornBy worn programmed flashPage lowestWorn formatOf torn flashCells callReading readsAll heeding
-    faultOf faultMet somePage mendsOf mendsMet sum readsFlash readsPage stepsMerge mergesPage cellAt isWorn cached dueOf lowestInSlots
-    occupied plan evictionPlan evictFrame anyEvictable evictable fewestValid victim leastRecent readWay slotCount validCount frameOf
-    frameWith inSlots slotOf inBlock inFrame sound framePast usesOk slotPast listedOnce cachedOnce framesDiffer slotsDiffer frameOk
-    slotOk shapeOk sizesOk vacantDirectory blankCache every first firstFrom count all allPairs tab tabFrom bit mask nth argmax least
-    pageAt pagesOf flat isCoded isMarked
+unfolding shelfOf1 start openShelf shelfCall shelfOk shelved shelve entriesAfter shelfAfter shelvingReads ordinary pageSeen openStore call
+    carriedOut memoryOf buffersOf zeroPage lentOk callPages stepsPages decide flushOutcome steps stepOutcome partOutcome writeOutcome
+    readOutcome checked combined laid steppedPages writtenPages readPage stepped written readDirectory rewrittenPages merged vacated
+    exchangedPages exchanged givenSlot taken spare unmet joinedPages filled joined putFramePage putSlotPage entered putSlot touched
+    recencyAfter oneMore wornBy worn programmed flashPage lowestWorn formatOf torn flashCells callReading readsAll heeding faultOf
+    faultMet somePage mendsOf mendsMet sum readsFlash readsPage stepsMerge mergesPage cellAt isWorn cached dueOf lowestInSlots occupied
+    plan evictionPlan evictFrame anyEvictable evictable fewestValid victim policyChoice fewestUses leastRecent readWay slotCount
+    validCount frameOf frameWith inSlots slotOf inBlock inFrame sound framePast usesOk slotPast listedOnce cachedOnce framesDiffer
+    slotsDiffer frameOk slotOk shapeOk sizesOk vacantDirectory blankCache every first firstFrom count all allPairs tab tabFrom bit mask
+    nth argmax least pageAt pagesOf flat isCoded isMarked
 opening-rows = refl
 
 -- ---- the cut of a flush, with marks: pages 2 and 3 in the frame, page 0 in the slot
@@ -212,9 +214,9 @@ filledStore = let u : Buffers = record {
   pspace = 0 ∷ [];
   bspace = 0 ∷ 0 ∷ [];
 } in
-    let s1 = call marked leastRecent (record { cache = openStore marked sizesA u .cache; lent = u }) (write 2 (50 ∷ [])) .store in
-    let s2 = call marked leastRecent s1 (write 3 (51 ∷ [])) .store in
-    call marked leastRecent s2 (write 0 (52 ∷ [])) .store
+    let s1 = call marked policyChoice (record { cache = openStore marked sizesA u .cache; lent = u }) (write 2 (50 ∷ [])) .store in
+    let s2 = call marked policyChoice s1 (write 3 (51 ∷ [])) .store in
+    call marked policyChoice s2 (write 0 (52 ∷ [])) .store
 
 record Cut : Type 0 where
   flash : List ℕ
@@ -222,7 +224,7 @@ record Cut : Type 0 where
   wear : List ℕ
 
 cut : ℕ → Cut
-cut ops = let l = cutCall (marked .chip sizesA) (zeroPage sizesA) leastRecent sizesA ops (stateOf filledStore)
+cut ops = let l = cutCall (marked .chip sizesA) (zeroPage sizesA) policyChoice sizesA ops (stateOf filledStore)
     (memoryOf marked sizesA (filledStore .lent)) flush in
     record { flash = flat (rawOf (l .flash)); marks = flat (marksOf (l .flash)); wear = l .wear }
 
@@ -237,11 +239,11 @@ cut-rows : cut 0 ∷ cut 1 ∷ cut 2 ∷ cut 3 ∷ cut 4 ∷ cut 5 ∷ cut 6 ∷
     ∷ record { flash = 52 ∷ 2 ∷ 50 ∷ 51 ∷ 5 ∷ 6 ∷ []; marks = 0 ∷ 0 ∷ 0 ∷ 0 ∷ 0 ∷ 0 ∷ []; wear = 1 ∷ 1 ∷ 0 ∷ [] } ∷ []
 unfolding cut marked filledStore cutCall cutSteps cutStep cutWrite cutRewrite programmedTo openStore call carriedOut memoryOf buffersOf
     zeroPage lentOk callPages stepsPages decide flushOutcome steps stepOutcome partOutcome writeOutcome readOutcome checked combined laid
-    steppedPages writtenPages readPage stepped written readDirectory rewrittenPages merged vacated exchangedPages exchanged givenSlot taken
-    spare unmet joinedPages filled joined putFramePage putSlotPage entered putSlot touched recencyAfter wornBy worn programmed flashPage
-    lowestWorn formatOf torn flashCells callReading readsAll heeding faultOf faultMet somePage mendsOf mendsMet sum readsFlash readsPage
-    stepsMerge mergesPage cellAt isWorn cached dueOf lowestInSlots occupied plan evictionPlan evictFrame anyEvictable evictable fewestValid
-    victim leastRecent readWay slotCount validCount frameOf frameWith inSlots slotOf inBlock inFrame sound framePast usesOk slotPast
-    listedOnce cachedOnce framesDiffer slotsDiffer frameOk slotOk shapeOk sizesOk vacantDirectory blankCache every first firstFrom count
-    all allPairs tab tabFrom bit mask nth argmax least pageAt pagesOf flat
+    steppedPages writtenPages readPage stepped written readDirectory rewrittenPages merged vacated exchangedPages exchanged givenSlot
+    taken spare unmet joinedPages filled joined putFramePage putSlotPage entered putSlot touched recencyAfter oneMore wornBy worn
+    programmed flashPage lowestWorn formatOf torn flashCells callReading readsAll heeding faultOf faultMet somePage mendsOf mendsMet sum
+    readsFlash readsPage stepsMerge mergesPage cellAt isWorn cached dueOf lowestInSlots occupied plan evictionPlan evictFrame anyEvictable
+    evictable fewestValid victim policyChoice fewestUses leastRecent readWay slotCount validCount frameOf frameWith inSlots slotOf inBlock
+    inFrame sound framePast usesOk slotPast listedOnce cachedOnce framesDiffer slotsDiffer frameOk slotOk shapeOk sizesOk vacantDirectory
+    blankCache every first firstFrom count all allPairs tab tabFrom bit mask nth argmax least pageAt pagesOf flat
 cut-rows = refl

@@ -4,7 +4,7 @@ use mathlib.Core.List.{List, [], _∷_}
 use Prim.Native.Nat.{ℕ}
 use lib.ListN.{replicate}
 use Rattle.model.specs.Sizes.{Sizes, plainSizes, vacant}
-use Rattle.model.specs.Policy.{leastRecent}
+use Rattle.model.specs.Policy.{policyChoice}
 use Rattle.model.specs.Calls.{openDone, readDone, refused, Call, read, write, part, step, flush, Page, Buffers, Opened, openStore}
 use Rattle.model.specs.Calls.{Store, Result, call}
 use Rattle.model.specs.Formats.{storeFormat}
@@ -25,6 +25,7 @@ blank-record = record {
     frames = [];
     valid = [];
     recency = [];
+    uses = [];
     flash = [];
     pspace = [];
     bspace = [];
@@ -47,6 +48,7 @@ short-wear = record {
     frames = [];
     valid = [];
     recency = [];
+    uses = [];
     flash = 255 ∷ 255 ∷ 255 ∷ 255 ∷ 255 ∷ 255 ∷ [];
     pspace = 0 ∷ 0 ∷ [];
     bspace = 0 ∷ 0 ∷ [];
@@ -69,6 +71,7 @@ overworn = record {
     frames = [];
     valid = [];
     recency = [];
+    uses = [];
     flash = 255 ∷ 255 ∷ 255 ∷ 255 ∷ 255 ∷ 255 ∷ [];
     pspace = 0 ∷ 0 ∷ [];
     bspace = 0 ∷ 0 ∷ [];
@@ -91,6 +94,7 @@ page-buffer = record {
     frames = vacant ∷ [];
     valid = 0 ∷ [];
     recency = 0 ∷ [];
+    uses = 0 ∷ [];
     flash = 255 ∷ 255 ∷ 255 ∷ 255 ∷ 255 ∷ 255 ∷ [];
     pspace = 0 ∷ 0 ∷ [];
     bspace = 0 ∷ 0 ∷ [];
@@ -113,6 +117,7 @@ after-size = record {
     frames = [];
     valid = [];
     recency = [];
+    uses = [];
     flash = 255 ∷ 255 ∷ 255 ∷ [];
     pspace = 0 ∷ 0 ∷ [];
     bspace = 0 ∷ [];
@@ -135,6 +140,7 @@ after-overworn = record {
     frames = [];
     valid = [];
     recency = [];
+    uses = [];
     flash = 255 ∷ 255 ∷ 255 ∷ 255 ∷ 255 ∷ 255 ∷ [];
     pspace = 0 ∷ 0 ∷ [];
     bspace = 0 ∷ 0 ∷ [];
@@ -173,19 +179,22 @@ abbrev pub refusesLent : Sizes → Buffers → ℕ → Opens
 refusesLent sz u r = record {
   sizes = sz;
   lent = u;
-  gives = record { answer = refused r vacant; cache = record { sizes = plainSizes 0 0 0 0 0 0; directory = directoryOf [] [] [] [] } };
+  gives = record { answer = refused r vacant; cache = record { sizes = plainSizes 0 0 0 0 0 0; directory = directoryOf [] [] [] [] [] } };
 }
 
 abbrev pub refuses : Sizes → ℕ → List ℕ → ℕ → ℕ → ℕ → Opens
 refuses sz flash wear pspace bspace r = refusesLent sz (lengths flash wear pspace bspace) r
 
 -- it is accepted, and the record has the sizes and is all vacant
-abbrev pub opens : Sizes → ℕ → List ℕ → ℕ → ℕ → Opens
-opens sz flash wear pspace bspace = record {
+abbrev pub opensLent : Sizes → Buffers → Opens
+opensLent sz u = record {
   sizes = sz;
-  lent = lengths flash wear pspace bspace;
-  gives = record { answer = openDone; cache = record { sizes = sz; directory = directoryOf [] [] [] [] } };
+  lent = u;
+  gives = record { answer = openDone; cache = record { sizes = sz; directory = directoryOf [] [] [] [] [] } };
 }
+
+abbrev pub opens : Sizes → ℕ → List ℕ → ℕ → ℕ → Opens
+opens sz flash wear pspace bspace = opensLent sz (lengths flash wear pspace bspace)
 
 abbrev pub opened : Opens → Opened
 opened r = openStore storeFormat (r .sizes) (r .lent)
@@ -266,14 +275,22 @@ plainly = lengths 1536 (0 ∷ 0 ∷ 0 ∷ []) 512 512
 abbrev codesAndMarks : ℕ → ℕ → Buffers
 codesAndMarks codes marks = allLengths 1536 codes marks (0 ∷ 0 ∷ 0 ∷ []) 512 512
 
--- An opening with an option is refused 1, also lent what the option would ask for, and before the buffers are looked at; a store without
--- options is lent no codes and no marks, else it is refused 2, before the wear is looked at.
+-- The three policies open, on buffers as for LRU; another number is refused 1. An opening with another option is refused 1, also lent what
+-- the option would ask for. Both come before the buffers are looked at. A store without options is lent no codes and no marks, else it is
+-- refused 2, before the wear is looked at.
 abbrev pub options : List Opens
 options =
-    -- the policies to come, and one past them
-    refusesLent (withOptions 1 0 0 0) plainly 1
-    ∷ refusesLent (withOptions 2 0 0 0) plainly 1
+    -- LRU, FIFO, LFU, and two numbers that are no policy
+    opensLent (withOptions 0 0 0 0) plainly
+    ∷ opensLent (withOptions 1 0 0 0) plainly
+    ∷ opensLent (withOptions 2 0 0 0) plainly
     ∷ refusesLent (withOptions 3 0 0 0) plainly 1
+    ∷ refusesLent (withOptions 4294967295 0 0 0) plainly 1
+    -- a policy, and buffers that fit no store
+    ∷ refusesLent (withOptions 2 0 0 0) (lengths 0 [] 0 0) 2
+    ∷ refusesLent (withOptions 3 0 0 0) (lengths 0 [] 0 0) 1
+    -- a policy, and another option
+    ∷ refusesLent (withOptions 1 1 0 0) plainly 1
     -- coded, without codes and with them, and a number that is no choice
     ∷ refusesLent (withOptions 0 1 0 0) plainly 1
     ∷ refusesLent (withOptions 0 1 0 0) (codesAndMarks 18 0) 1
@@ -285,7 +302,7 @@ options =
     ∷ refusesLent (withOptions 0 0 0 1) plainly 1
     ∷ refusesLent (withOptions 0 0 0 1) (codesAndMarks 0 6) 1
     -- an option, and buffers that fit no store
-    ∷ refusesLent (withOptions 1 0 0 0) (lengths 0 [] 0 0) 1
+    ∷ refusesLent (withOptions 0 1 0 0) (lengths 0 [] 0 0) 1
     -- no option, and codes of one page or of all, marks of one or of all
     ∷ refusesLent (withOptions 0 0 0 0) (codesAndMarks 3 0) 2
     ∷ refusesLent (withOptions 0 0 0 0) (codesAndMarks 18 0) 2
@@ -305,7 +322,7 @@ pub record Lends : Type 0 where
 -- sizes, the buffers, the call, and the page buffer afterwards
 abbrev pub lendsAll : Sizes → Buffers → Call Page → Page → Lends
 lendsAll sz u c page = record {
-  store = record { cache = record { sizes = sz; directory = directoryOf [] [] [] [] }; lent = u };
+  store = record { cache = record { sizes = sz; directory = directoryOf [] [] [] [] [] }; lent = u };
   call = c;
   page = page;
 }
@@ -315,7 +332,7 @@ abbrev pub lends : Sizes → ℕ → List ℕ → ℕ → ℕ → Call Page → 
 lends sz flash wear pspace bspace c page = lendsAll sz (lengths flash wear pspace bspace) c page
 
 abbrev pub called : Lends → Result
-called r = call storeFormat leastRecent (r .store) (r .call)
+called r = call storeFormat policyChoice (r .store) (r .call)
 
 -- each is refused 2: the record and the buffers are handed back
 abbrev pub calledListed : Lends → Result

@@ -1,11 +1,11 @@
 -- What a row of the audit's tables is, and what is compared: every answer with its mends, the whole page buffer after each call, and at the
--- end the whole cache record and the whole of every lent buffer. The store has no option: no codes, no marks, no uses counted.
+-- end the whole cache record and the whole of every lent buffer. The stores are without codes and marks.
 use mathlib.Core.List.{List, [], _∷_, _++_, map, reverse}
 use Prim.Native.Nat.{ℕ, _-_, _*_}
 use lib.ListN.{length, drop, replicate}
 use Rattle.model.specs.Sizes.{Sizes, vacant}
 use Rattle.model.specs.Directory.{Directory, Cache}
-use Rattle.model.specs.Policy.{leastRecent}
+use Rattle.model.specs.Policy.{policyChoice}
 use Rattle.model.specs.Calls.{Answer, writeDone, Call, Page, Buffers, openStore, Store, call}
 use Rattle.model.specs.Formats.{storeFormat}
 
@@ -16,7 +16,7 @@ way n = writeDone n vacant 0
 -- ---- what a row lists
 
 -- the opening's answer, each call's answer and its page buffer then, and at the end the record and the lent buffers. Entries of the record
--- that a row does not list are vacant, their bits 0, and their order entry is their own index; mends are 0, codes and marks empty.
+-- that a row does not list are vacant, their bits and uses 0, and their order entry is their own index; mends are 0, codes and marks empty.
 pub record Gives : Type 0 where
   pub opening : Answer
   pub answers : List Answer
@@ -26,6 +26,7 @@ pub record Gives : Type 0 where
   pub frames : List ℕ
   pub valid : List ℕ
   pub recency : List ℕ
+  pub uses : List ℕ
   pub flash : List ℕ
   pub pspace : List ℕ
   pub bspace : List ℕ
@@ -48,14 +49,14 @@ pub record Whole : Type 0 where
   pub cache : Cache
   pub lent : Buffers
 
--- 128 slots, 8 frames, 8 valid sets and 8 order entries, of which the first are listed, and no uses
-abbrev pub directoryOf : List ℕ → List ℕ → List ℕ → List ℕ → Directory
-directoryOf slots frames valid recency = record {
+-- 128 slots, 8 frames, 8 valid sets, 8 order entries and 8 use counts, of which the first are listed
+abbrev pub directoryOf : List ℕ → List ℕ → List ℕ → List ℕ → List ℕ → Directory
+directoryOf slots frames valid recency uses = record {
   slots = slots ++ replicate (128 - length slots) vacant;
   frames = frames ++ replicate (8 - length frames) vacant;
   valid = valid ++ replicate (8 - length valid) 0;
   recency = recency ++ drop (length recency) (0 ∷ 1 ∷ 2 ∷ 3 ∷ 4 ∷ 5 ∷ 6 ∷ 7 ∷ []);
-  uses = replicate 8 0;
+  uses = uses ++ replicate (8 - length uses) 0;
 }
 
 -- what a row lists, whole
@@ -65,7 +66,7 @@ listed r = let g = r .gives in record {
   answers = g .answers;
   mends = map (λ a. 0) (g .answers);
   pages = g .pages;
-  cache = record { sizes = g .sizes; directory = directoryOf (g .slots) (g .frames) (g .valid) (g .recency) };
+  cache = record { sizes = g .sizes; directory = directoryOf (g .slots) (g .frames) (g .valid) (g .recency) (g .uses) };
   lent = record { flash = g .flash; codes = []; marks = []; wear = g .wear; pspace = g .pspace; bspace = g .bspace };
 }
 
@@ -90,7 +91,7 @@ runs a s [] ys ms ps = record {
   lent = s .lent;
 }
 runs a s (c ∷ cs) ys ms ps =
-    let r = call storeFormat leastRecent s c in runs a (r .store) cs (r .answer ∷ ys) (r .mends ∷ ms) (r .page ∷ ps)
+    let r = call storeFormat policyChoice s c in runs a (r .store) cs (r .answer ∷ ys) (r .mends ∷ ms) (r .page ∷ ps)
 
 -- what the definitions give
 abbrev pub given : Row → Whole

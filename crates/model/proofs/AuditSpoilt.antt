@@ -4,7 +4,7 @@ use Prim.Native.Nat.{ℕ}
 use lib.ListN.{replicate}
 use Rattle.model.specs.Sizes.{Sizes, plainSizes, vacant}
 use Rattle.model.specs.Directory.{Directory}
-use Rattle.model.specs.Policy.{leastRecent}
+use Rattle.model.specs.Policy.{policyChoice}
 use Rattle.model.specs.Calls.{Answer, readDone, refused, read, Page, Store, Result, call}
 use Rattle.model.specs.Formats.{storeFormat}
 use Rattle.model.proofs.AuditRows.{directoryOf, erased}
@@ -13,13 +13,13 @@ use Rattle.model.proofs.AuditRows.{directoryOf, erased}
 abbrev pub storeOf : Sizes → Directory → Store
 storeOf sz d = record { cache = record { sizes = sz; directory = d }; lent = erased (plainSizes 1 4 3 3 2 9) (0 ∷ 0 ∷ 0 ∷ []) }
 
--- with these slots, frames, valid sets and order
-abbrev pub recordOf : Sizes → List ℕ → List ℕ → List ℕ → List ℕ → Store
-recordOf sz slots frames valid recency = storeOf sz (directoryOf slots frames valid recency)
+-- with these slots, frames, valid sets, order and uses
+abbrev pub recordOf : Sizes → List ℕ → List ℕ → List ℕ → List ℕ → List ℕ → Store
+recordOf sz slots frames valid recency uses = storeOf sz (directoryOf slots frames valid recency uses)
 
 -- a read of page 0 with byte 7 in the page buffer
 abbrev pub tried : Store → Result
-tried s = call storeFormat leastRecent s (read 0 (7 ∷ []))
+tried s = call storeFormat policyChoice s (read 0 (7 ∷ []))
 
 -- ---- sound records
 
@@ -38,7 +38,7 @@ unspoiltListed r = record { answer = r .answer; mends = 0; store = r .store; pag
 -- the record that is spoilt below
 abbrev pub held : Unspoilt
 held = record {
-  store = recordOf (plainSizes 1 4 3 3 2 9) (0 ∷ vacant ∷ 9 ∷ []) (1 ∷ 2 ∷ []) (5 ∷ 1 ∷ []) (1 ∷ 0 ∷ []);
+  store = recordOf (plainSizes 1 4 3 3 2 9) (0 ∷ vacant ∷ 9 ∷ []) (1 ∷ 2 ∷ []) (5 ∷ 1 ∷ []) (1 ∷ 0 ∷ []) (3 ∷ 1 ∷ []);
   answer = readDone 1;
   page = 0 ∷ [];
 }
@@ -46,35 +46,22 @@ held = record {
 -- no slot and no frame held
 abbrev pub vacantOnes : Unspoilt
 vacantOnes = record {
-  store = recordOf (plainSizes 1 4 3 3 2 9) (vacant ∷ vacant ∷ vacant ∷ []) (vacant ∷ vacant ∷ []) (0 ∷ 0 ∷ []) (0 ∷ 1 ∷ []);
+  store = recordOf (plainSizes 1 4 3 3 2 9) (vacant ∷ vacant ∷ vacant ∷ []) (vacant ∷ vacant ∷ []) (0 ∷ 0 ∷ []) (0 ∷ 1 ∷ []) (0 ∷ 0 ∷ []);
   answer = readDone 3;
   page = 255 ∷ [];
 }
 
--- the highest page in a slot, and a frame with all its pages valid
+-- the highest page in a slot, a frame with all its pages valid, and the highest count of uses
 abbrev pub highest : Unspoilt
 highest = record {
-  store = recordOf (plainSizes 1 4 3 3 2 9) (11 ∷ vacant ∷ 3 ∷ []) (1 ∷ 0 ∷ []) (15 ∷ 6 ∷ []) (0 ∷ 1 ∷ []);
+  store = recordOf (plainSizes 1 4 3 3 2 9) (11 ∷ vacant ∷ 3 ∷ []) (1 ∷ 0 ∷ []) (15 ∷ 6 ∷ []) (0 ∷ 1 ∷ []) (1 ∷ 4294967295 ∷ []);
   answer = readDone 3;
   page = 255 ∷ [];
 }
 
-abbrev pub unspoilt : List Unspoilt
-unspoilt = held ∷ vacantOnes ∷ highest ∷ []
-
--- ---- the first of them spoilt at one place
-
+-- the first of them with other sizes
 abbrev withSizes : Sizes → Store
-withSizes sz = recordOf sz (0 ∷ vacant ∷ 9 ∷ []) (1 ∷ 2 ∷ []) (5 ∷ 1 ∷ []) (1 ∷ 0 ∷ [])
-
-abbrev withSlots : List ℕ → Store
-withSlots slots = recordOf (plainSizes 1 4 3 3 2 9) slots (1 ∷ 2 ∷ []) (5 ∷ 1 ∷ []) (1 ∷ 0 ∷ [])
-
-abbrev withFrames : List ℕ → List ℕ → Store
-withFrames frames valid = recordOf (plainSizes 1 4 3 3 2 9) (0 ∷ vacant ∷ 9 ∷ []) frames valid (1 ∷ 0 ∷ [])
-
-abbrev withOrder : List ℕ → Store
-withOrder recency = recordOf (plainSizes 1 4 3 3 2 9) (0 ∷ vacant ∷ 9 ∷ []) (1 ∷ 2 ∷ []) (5 ∷ 1 ∷ []) recency
+withSizes sz = recordOf sz (0 ∷ vacant ∷ 9 ∷ []) (1 ∷ 2 ∷ []) (5 ∷ 1 ∷ []) (1 ∷ 0 ∷ []) (3 ∷ 1 ∷ [])
 
 -- with options: policy, coded, shelf pages, marked
 abbrev withOptions : ℕ → ℕ → ℕ → ℕ → Store
@@ -91,15 +78,38 @@ withOptions policy coded shelfPages marked = withSizes (record {
   marked = marked;
 })
 
+-- the first of them under FIFO and LFU
+abbrev pub heldBy : ℕ → Unspoilt
+heldBy policy = record { store = withOptions policy 0 0 0; answer = readDone 1; page = 0 ∷ [] }
+
+abbrev pub unspoilt : List Unspoilt
+unspoilt = held ∷ vacantOnes ∷ highest ∷ heldBy 1 ∷ heldBy 2 ∷ []
+
+-- ---- the first of them spoilt at one place
+
+abbrev withSlots : List ℕ → Store
+withSlots slots = recordOf (plainSizes 1 4 3 3 2 9) slots (1 ∷ 2 ∷ []) (5 ∷ 1 ∷ []) (1 ∷ 0 ∷ []) (3 ∷ 1 ∷ [])
+
+-- with the uses that the frames should have
+abbrev withFrames : List ℕ → List ℕ → List ℕ → Store
+withFrames frames valid uses = recordOf (plainSizes 1 4 3 3 2 9) (0 ∷ vacant ∷ 9 ∷ []) frames valid (1 ∷ 0 ∷ []) uses
+
+abbrev withOrder : List ℕ → Store
+withOrder recency = recordOf (plainSizes 1 4 3 3 2 9) (0 ∷ vacant ∷ 9 ∷ []) (1 ∷ 2 ∷ []) (5 ∷ 1 ∷ []) recency (3 ∷ 1 ∷ [])
+
 -- with these use counts
 abbrev withUses : List ℕ → Store
-withUses uses = let d = directoryOf (0 ∷ vacant ∷ 9 ∷ []) (1 ∷ 2 ∷ []) (5 ∷ 1 ∷ []) (1 ∷ 0 ∷ []) in
+withUses uses = recordOf (plainSizes 1 4 3 3 2 9) (0 ∷ vacant ∷ 9 ∷ []) (1 ∷ 2 ∷ []) (5 ∷ 1 ∷ []) (1 ∷ 0 ∷ []) uses
+
+-- with a use count too few
+abbrev withSevenUses : Store
+withSevenUses = let d = directoryOf (0 ∷ vacant ∷ 9 ∷ []) (1 ∷ 2 ∷ []) (5 ∷ 1 ∷ []) (1 ∷ 0 ∷ []) [] in
     storeOf (plainSizes 1 4 3 3 2 9) (record {
       slots = d .slots;
       frames = d .frames;
       valid = d .valid;
       recency = d .recency;
-      uses = uses;
+      uses = 3 ∷ 1 ∷ 0 ∷ 0 ∷ 0 ∷ 0 ∷ 0 ∷ [];
     })
 
 abbrev pub spoiltListed : Store → Result
@@ -131,10 +141,9 @@ spoilt =
     ∷ withSizes (plainSizes 1 4 3 3 2 0)
     -- W is 1000001
     ∷ withSizes (plainSizes 1 4 3 3 2 1000001)
-    -- the policy is 1, 2, 3
-    ∷ withOptions 1 0 0 0
-    ∷ withOptions 2 0 0 0
+    -- the policy is 3, 4294967295
     ∷ withOptions 3 0 0 0
+    ∷ withOptions 4294967295 0 0 0
     -- coded is 1, 2
     ∷ withOptions 0 1 0 0
     ∷ withOptions 0 2 0 0
@@ -148,19 +157,19 @@ spoilt =
     -- a slot holds a number below vacant that is no page
     ∷ withSlots (0 ∷ vacant ∷ 4294967294 ∷ [])
     -- a frame holds block N
-    ∷ withFrames (1 ∷ 3 ∷ []) (5 ∷ 1 ∷ [])
+    ∷ withFrames (1 ∷ 3 ∷ []) (5 ∷ 1 ∷ []) (3 ∷ 1 ∷ [])
     -- a vacant frame has a valid bit
-    ∷ withFrames (1 ∷ vacant ∷ []) (5 ∷ 1 ∷ [])
+    ∷ withFrames (1 ∷ vacant ∷ []) (5 ∷ 1 ∷ []) (3 ∷ 0 ∷ [])
     -- a frame has no valid bit
-    ∷ withFrames (1 ∷ 2 ∷ []) (5 ∷ 0 ∷ [])
+    ∷ withFrames (1 ∷ 2 ∷ []) (5 ∷ 0 ∷ []) (3 ∷ 1 ∷ [])
     -- a frame has a valid bit at K
-    ∷ withFrames (1 ∷ 2 ∷ []) (5 ∷ 17 ∷ [])
+    ∷ withFrames (1 ∷ 2 ∷ []) (5 ∷ 17 ∷ []) (3 ∷ 1 ∷ [])
     -- a frame has a valid bit at 63
-    ∷ withFrames (1 ∷ 2 ∷ []) (9223372036854775813 ∷ 1 ∷ [])
+    ∷ withFrames (1 ∷ 2 ∷ []) (9223372036854775813 ∷ 1 ∷ []) (3 ∷ 1 ∷ [])
     -- a page stands in two slots
     ∷ withSlots (0 ∷ 9 ∷ 9 ∷ [])
     -- a block stands in two frames
-    ∷ withFrames (1 ∷ 1 ∷ []) (5 ∷ 2 ∷ [])
+    ∷ withFrames (1 ∷ 1 ∷ []) (5 ∷ 2 ∷ []) (3 ∷ 1 ∷ [])
     -- a page stands in a slot and is valid in a frame
     ∷ withSlots (0 ∷ vacant ∷ 8 ∷ [])
     -- the order lists a frame twice
@@ -174,13 +183,13 @@ spoilt =
     -- the last slot holds a page
     ∷ withSlots ((0 ∷ vacant ∷ 9 ∷ []) ++ (replicate 124 vacant ++ (1 ∷ [])))
     -- a frame past B holds a block
-    ∷ withFrames (1 ∷ 2 ∷ 0 ∷ []) (5 ∷ 1 ∷ [])
+    ∷ withFrames (1 ∷ 2 ∷ 0 ∷ []) (5 ∷ 1 ∷ []) (3 ∷ 1 ∷ 1 ∷ [])
     -- the last frame holds a block
-    ∷ withFrames (1 ∷ 2 ∷ vacant ∷ vacant ∷ vacant ∷ vacant ∷ vacant ∷ 0 ∷ []) (5 ∷ 1 ∷ [])
+    ∷ withFrames (1 ∷ 2 ∷ vacant ∷ vacant ∷ vacant ∷ vacant ∷ vacant ∷ 0 ∷ []) (5 ∷ 1 ∷ []) (3 ∷ 1 ∷ 0 ∷ 0 ∷ 0 ∷ 0 ∷ 0 ∷ 1 ∷ [])
     -- a frame past B has a valid bit
-    ∷ withFrames (1 ∷ 2 ∷ []) (5 ∷ 1 ∷ 1 ∷ [])
+    ∷ withFrames (1 ∷ 2 ∷ []) (5 ∷ 1 ∷ 1 ∷ []) (3 ∷ 1 ∷ [])
     -- the last frame has a valid bit
-    ∷ withFrames (1 ∷ 2 ∷ []) (5 ∷ 1 ∷ 0 ∷ 0 ∷ 0 ∷ 0 ∷ 0 ∷ 1 ∷ [])
+    ∷ withFrames (1 ∷ 2 ∷ []) (5 ∷ 1 ∷ 0 ∷ 0 ∷ 0 ∷ 0 ∷ 0 ∷ 1 ∷ []) (3 ∷ 1 ∷ [])
     -- order entries past B change places
     ∷ withOrder (1 ∷ 0 ∷ 3 ∷ 2 ∷ [])
     -- the last order entry is not its own index
@@ -188,17 +197,23 @@ spoilt =
     -- there are 129 slots
     ∷ withSlots ((0 ∷ vacant ∷ 9 ∷ []) ++ replicate 126 vacant)
     -- there are 9 frames
-    ∷ withFrames (1 ∷ 2 ∷ vacant ∷ vacant ∷ vacant ∷ vacant ∷ vacant ∷ vacant ∷ vacant ∷ []) (5 ∷ 1 ∷ [])
+    ∷ withFrames (1 ∷ 2 ∷ vacant ∷ vacant ∷ vacant ∷ vacant ∷ vacant ∷ vacant ∷ vacant ∷ []) (5 ∷ 1 ∷ []) (3 ∷ 1 ∷ [])
     -- there are 9 valid sets
-    ∷ withFrames (1 ∷ 2 ∷ []) (5 ∷ 1 ∷ 0 ∷ 0 ∷ 0 ∷ 0 ∷ 0 ∷ 0 ∷ 0 ∷ [])
+    ∷ withFrames (1 ∷ 2 ∷ []) (5 ∷ 1 ∷ 0 ∷ 0 ∷ 0 ∷ 0 ∷ 0 ∷ 0 ∷ 0 ∷ []) (3 ∷ 1 ∷ [])
     -- there are 9 order entries
     ∷ withOrder (1 ∷ 0 ∷ 2 ∷ 3 ∷ 4 ∷ 5 ∷ 6 ∷ 7 ∷ 8 ∷ [])
-    -- uses of a frame that holds a block are counted
-    ∷ withUses (1 ∷ 0 ∷ 0 ∷ 0 ∷ 0 ∷ 0 ∷ 0 ∷ 0 ∷ [])
-    -- uses of the last frame are counted
-    ∷ withUses (0 ∷ 0 ∷ 0 ∷ 0 ∷ 0 ∷ 0 ∷ 0 ∷ 1 ∷ [])
+    -- a frame that holds a block has no use
+    ∷ withUses (0 ∷ 1 ∷ [])
+    -- the last frame below B has none
+    ∷ withUses (3 ∷ 0 ∷ [])
+    -- a vacant frame has a use
+    ∷ withFrames (1 ∷ vacant ∷ []) (5 ∷ 0 ∷ []) (3 ∷ 1 ∷ [])
+    -- a frame past B has a use
+    ∷ withUses (3 ∷ 1 ∷ 1 ∷ [])
+    -- the last frame has a use
+    ∷ withUses (3 ∷ 1 ∷ 0 ∷ 0 ∷ 0 ∷ 0 ∷ 0 ∷ 1 ∷ [])
     -- there are 7 use counts
-    ∷ withUses (0 ∷ 0 ∷ 0 ∷ 0 ∷ 0 ∷ 0 ∷ 0 ∷ [])
+    ∷ withSevenUses
     -- there are 9 use counts
-    ∷ withUses (0 ∷ 0 ∷ 0 ∷ 0 ∷ 0 ∷ 0 ∷ 0 ∷ 0 ∷ 0 ∷ [])
+    ∷ withUses (3 ∷ 1 ∷ 0 ∷ 0 ∷ 0 ∷ 0 ∷ 0 ∷ 0 ∷ 0 ∷ [])
     ∷ []

@@ -12,10 +12,12 @@ use Rattle.model.specs.Soundness.{usesOk, sound}
 use Rattle.model.specs.Policy.{inBlock, slotOf, inSlots, frameWith, frameOf, validCount, slotCount, readWay, leastRecent, victim}
 use Rattle.model.specs.Policy.{fewestValid, evictable, anyEvictable, evictFrame, evictionPlan, plan, occupied, lowestInSlots, dueOf}
 use Rattle.model.specs.Policy.{cached, isWorn, lowestWorn}
+use Rattle.model.specs.Policy.{fewestUses, policyChoice}
 use Rattle.model.specs.Moves.{cellAt, flashPage, programmed, worn, wornBy, recencyAfter, touched, putSlot, entered, putSlotPage}
 use Rattle.model.specs.Moves.{putFramePage}
 use Rattle.model.specs.Moves.{joined, filled, joinedPages, unmet, spare, taken, givenSlot, exchanged, exchangedPages, vacated, merged}
 use Rattle.model.specs.Moves.{rewrittenPages, readDirectory, written, stepped, readPage, writtenPages, steppedPages}
+use Rattle.model.specs.Moves.{oneMore}
 use Rattle.model.specs.Calls.{checked, readOutcome, writeOutcome, partOutcome, stepOutcome, steps, flushOutcome, decide, stepsPages}
 use Rattle.model.specs.Calls.{combined, callPages, lentOk, openStore, zeroPage, memoryOf, buffersOf, carriedOut, call}
 use Rattle.model.specs.Calls.{flashCells, callReading, readsAll, heeding, faultOf, faultMet, somePage, mendsOf, mendsMet, sum}
@@ -28,10 +30,11 @@ use Rattle.model.proofs.AuditWays.{ways}
 use Rattle.model.proofs.AuditFrames.{manyFrames}
 use Rattle.model.proofs.AuditWorn.{wornBlocks}
 use Rattle.model.proofs.AuditParts.{parts}
+use Rattle.model.proofs.AuditPolicy.{policies, begun, begunListed, counts}
 use Rattle.model.proofs.AuditOpenings.{openings, opened, openedListed, limits, causes, options, called, calledListed, lendings}
 use Rattle.model.proofs.AuditSpoilt.{tried, triedUnspoilt, unspoiltListed, unspoilt, spoiltListed, spoilt}
 
--- every row of every table holds, by the definitions
+-- every row of every table of the base holds, by the definitions
 pub rows : (map given paper ≡ map listed paper) × (map given ways ≡ map listed ways) × (map given manyFrames ≡ map listed manyFrames)
     × (map given wornBlocks ≡ map listed wornBlocks) × (map given parts ≡ map listed parts) × (map given openings ≡ map listed openings)
     × (map opened causes ≡ map openedListed causes) × (map opened limits ≡ map openedListed limits)
@@ -41,10 +44,23 @@ pub rows : (map given paper ≡ map listed paper) × (map given ways ≡ map lis
 unfolding openStore call carriedOut memoryOf buffersOf zeroPage lentOk callPages stepsPages decide flushOutcome steps stepOutcome
     partOutcome writeOutcome readOutcome checked combined laid steppedPages writtenPages readPage stepped written readDirectory
     rewrittenPages merged vacated exchangedPages exchanged givenSlot taken spare unmet joinedPages filled joined putFramePage putSlotPage
-    entered putSlot touched recencyAfter wornBy worn programmed flashPage formatOf torn flashCells callReading readsAll heeding faultOf
-    faultMet somePage mendsOf mendsMet sum readsFlash readsPage stepsMerge mergesPage cellAt isCoded isMarked lowestWorn isWorn cached
-    dueOf lowestInSlots occupied plan
-    evictionPlan evictFrame anyEvictable evictable fewestValid victim leastRecent readWay slotCount validCount frameOf frameWith inSlots
-    slotOf inBlock inFrame sound usesOk framePast slotPast listedOnce cachedOnce framesDiffer slotsDiffer frameOk slotOk shapeOk sizesOk
-    vacantDirectory blankCache every first firstFrom count all allPairs tab tabFrom bit mask nth argmax least pageAt pagesOf flat
+    entered putSlot touched recencyAfter oneMore wornBy worn programmed flashPage formatOf torn flashCells callReading readsAll heeding
+    faultOf faultMet somePage mendsOf mendsMet sum readsFlash readsPage stepsMerge mergesPage cellAt isCoded isMarked lowestWorn isWorn
+    cached dueOf lowestInSlots occupied plan evictionPlan evictFrame anyEvictable evictable fewestValid victim policyChoice fewestUses
+    leastRecent readWay slotCount validCount frameOf frameWith inSlots slotOf inBlock inFrame sound usesOk framePast slotPast listedOnce
+    cachedOnce framesDiffer slotsDiffer frameOk slotOk shapeOk sizesOk vacantDirectory blankCache every first firstFrom count all allPairs
+    tab tabFrom bit mask nth argmax least pageAt pagesOf flat
 rows = (refl, refl, refl, refl, refl, refl, refl, refl, refl, refl, refl, refl)
+
+-- and so does every row of request A5's
+pub policy-rows : (map given policies ≡ map listed policies) × (map begun counts ≡ map begunListed counts)
+unfolding openStore call carriedOut memoryOf buffersOf zeroPage lentOk callPages stepsPages decide flushOutcome steps stepOutcome
+    partOutcome writeOutcome readOutcome checked combined laid steppedPages writtenPages readPage stepped written readDirectory
+    rewrittenPages merged vacated exchangedPages exchanged givenSlot taken spare unmet joinedPages filled joined putFramePage putSlotPage
+    entered putSlot touched recencyAfter oneMore wornBy worn programmed flashPage formatOf torn flashCells callReading readsAll heeding
+    faultOf faultMet somePage mendsOf mendsMet sum readsFlash readsPage stepsMerge mergesPage cellAt isCoded isMarked lowestWorn isWorn
+    cached dueOf lowestInSlots occupied plan evictionPlan evictFrame anyEvictable evictable fewestValid victim policyChoice fewestUses
+    leastRecent readWay slotCount validCount frameOf frameWith inSlots slotOf inBlock inFrame sound usesOk framePast slotPast listedOnce
+    cachedOnce framesDiffer slotsDiffer frameOk slotOk shapeOk sizesOk vacantDirectory blankCache every first firstFrom count all allPairs
+    tab tabFrom bit mask nth argmax least pageAt pagesOf flat
+policy-rows = (refl, refl)

@@ -24,7 +24,7 @@ use Rattle.model.specs.Lists.{Picks}
 use Rattle.model.specs.RulesCalls.{StepsUntilClean}
 use Rattle.model.proofs.Soundness.{sound-facts, facts-sound}
 use Rattle.model.proofs.Lookup.{block-vacant}
-use Rattle.model.proofs.Kept.{touched-sound}
+use Rattle.model.proofs.Kept.{with-held, touched-sound}
 use Rattle.model.proofs.Plan.{occupied-all, evict-pick, eviction-elim, plan-elim}
 use Rattle.model.proofs.Consistent.{Consistent, write-good}
 use Rattle.model.proofs.Steps.{Empty, due-elim, stepped-sound, cached-less, cached-now, none-empty, wornBy-length, Within}
@@ -60,7 +60,8 @@ module _ (sz : Sizes) (d : Directory) (s : Sound sz d) where
   read-sound n = by-test (inSlots sz d n)
       (λ e. rw (e, readDirectory, readWay) s)
       (λ e. rw (e, readDirectory, readWay) (by-test (ltb (frameWith sz d n) (sz .B))
-      (λ e′. rw e′ (touched-sound sz d s (frameWith sz d n) (ltb-true (frameWith sz d n) (sz .B) e′)))
+      (λ e′. rw e′ (let l = ltb-true (frameWith sz d n) (sz .B) e′ in
+      touched-sound sz d s false (frameWith sz d n) l (with-held sz d s n l)))
       (λ e′. rw e′ s)))
 
 -- no wear that a test passes is W

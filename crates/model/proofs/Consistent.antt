@@ -1,7 +1,7 @@
 -- A sound record whose readers see the page array, and how each move and the write keep it so.
 use mathlib.Core.Path.{_≡_, refl, sym, ap, _∙_}
 use mathlib.Core.Logic.{_⊎_, inl, inr}
-use mathlib.Core.Bool.{true, false, _||_}
+use mathlib.Core.Bool.{Bool, true, false, _||_}
 use mathlib.Core.List.{List}
 use Prim.Native.Nat.{ℕ, _+_, _-_, _*_, _%_, _<_}
 use native.Mathlib.Omega.{arith}
@@ -23,10 +23,10 @@ use Rattle.model.specs.Lists.{Picks}
 use Rattle.model.proofs.Soundness.{pages-small}
 use Rattle.model.proofs.Lookup.{NoSlot, NoFrame, block-vacant, block-lt, found-slot, not-in-slots, frame-has, frame-is, no-frame}
 use Rattle.model.proofs.Lookup.{no-frame-with}
-use Rattle.model.proofs.Reflects.{Own, OwnAll, Reflects, joined-frame, joined-reflects, exchanged-reflects, rewritten-reflects}
-use Rattle.model.proofs.Reflects.{put-slot-reflects, put-frame-reflects}
-use Rattle.model.proofs.Kept.{exchanged-vacant, enough, touched-sound, joined-sound, exchanged-sound, vacated-sound, put-sound}
-use Rattle.model.proofs.Kept.{joined-absent, exchanged-absent}
+use Rattle.model.proofs.Reflects.{Own, OwnAll, Reflects, joined-frame, joined-reflects, exchanged-frame, exchanged-reflects}
+use Rattle.model.proofs.Reflects.{rewritten-reflects, put-slot-reflects, put-frame-reflects}
+use Rattle.model.proofs.Kept.{exchanged-vacant, enough, held, with-held, touched-sound, joined-sound, exchanged-sound, vacated-sound}
+use Rattle.model.proofs.Kept.{put-sound, joined-absent, exchanged-absent}
 use Rattle.model.proofs.Plan.{victim-lt, victim-pos, some-bit, joined-vacant, sole-own, occupied-all, vacant-bits, fewest-pick}
 use Rattle.model.proofs.Plan.{evict-pick, eviction-elim, plan-elim}
 use Rattle.model.proofs.Steps.{Ready, ready-frame, stepped-frame′, stepped-bits, stepped-count, stepped-absent}
@@ -50,10 +50,10 @@ module _ {C A : Type 0} (chip : Chip C A) (filler : A) where
     pub array-length : length v ≡ sz .N * sz .K
 
   module _ (sz : Sizes) (d : Directory) (m : Memory C A) (v : List A) (g : Consistent sz d m v) where
-    pub touched-good : (f : ℕ) → f < sz .B → Consistent sz (touched sz d f) m v
+    pub touched-good : (t : Bool) (f : ℕ) → f < sz .B → (frameAt d f ≡ vacant → ⊥) → Consistent sz (touched sz t d f) m v
     unfolding touched inFrame
-    touched-good f l = record {
-      numbers = touched-sound sz d (g .numbers) f l;
+    touched-good t f l o = record {
+      numbers = touched-sound sz d (g .numbers) t f l o;
       reflects = record { in-slot = g .reflects .in-slot; in-frame = g .reflects .in-frame; in-flash = g .reflects .in-flash };
       flash-length = g .flash-length;
       pspace-length = g .pspace-length;
@@ -161,27 +161,30 @@ module _ {C A : Type 0} (chip : Chip C A) (filler : A) where
       f (own b f) (y .f-lt)
       (joined-frame sz (g .numbers .limits) d (g .numbers .shape) b f (y .f-lt))
 
-  -- n goes into the first vacant slot, after frame f became recent
+  -- n goes into the first vacant slot, after frame f was used
   module _ (sz : Sizes) (d : Directory) (m : Memory C A) (v : List A) (g : Consistent sz d m v) (n : ℕ) (n-lt : n < sz .N * sz .K)
       (np : NoSlot sz d n) (nf : NoFrame sz d n) where
-    entered-good : (x : A) (f : ℕ) → f < sz .B → inSlots sz d vacant ≡ true
-        → Consistent sz (entered sz (touched sz d f) n) (putSlotPage m (slotOf sz d vacant) x) (set v n x)
+    entered-good : (t : Bool) (x : A) (f : ℕ) → f < sz .B → (frameAt d f ≡ vacant → ⊥) → inSlots sz d vacant ≡ true
+        → Consistent sz (entered sz (touched sz t d f) n) (putSlotPage m (slotOf sz d vacant) x) (set v n x)
     unfolding entered slotOf touched inFrame
-    entered-good x f fl h = let k = found-slot sz d vacant h in put-good sz (touched sz d f) m v (touched-good sz d m v g f fl)
-        (slotOf sz d vacant) n x (k .0) n-lt np nf (k .1)
+    entered-good t x f fl o h = let k = found-slot sz d vacant h in put-good sz (touched sz t d f) m v
+        (touched-good sz d m v g t f fl o) (slotOf sz d vacant) n x (k .0) n-lt np nf (k .1)
 
   -- block b's pages join frame f, and n enters
   module _ (sz : Sizes) (d : Directory) (m : Memory C A) (v : List A) (g : Consistent sz d m v) (n : ℕ) (n-lt : n < sz .N * sz .K)
       (np : NoSlot sz d n) (nf : NoFrame sz d n) where
-    joined-entered : (x : A) (b f : ℕ) → f < sz .B → b < sz .N → 0 < slotCount sz d b → ((frameAt d f ≡ b) ⊎ (validAt d f ≡ 0))
+    joined-entered : (t : Bool) (x : A) (b f : ℕ) → f < sz .B → b < sz .N → 0 < slotCount sz d b
+        → ((frameAt d f ≡ b) ⊎ (validAt d f ≡ 0))
         → ((h : ℕ) → h < sz .B → (h ≡ f → ⊥) → frameAt d h ≡ b → ⊥)
-        → Consistent sz (entered sz (touched sz (joined sz d b f) f) n)
+        → Consistent sz (entered sz (touched sz t (joined sz d b f) f) n)
         (putSlotPage (joinedPages filler sz d m b f) (slotOf sz (joined sz d b f) vacant) x) (set v n x)
-    joined-entered x b f fl bl pos own sole =
+    joined-entered t x b f fl bl pos own sole =
+        let fr = joined-frame sz (g .numbers .limits) d (g .numbers .shape) b f fl in
         let ab = joined-absent sz d (g .numbers) n n-lt np nf b f fl bl own in
         entered-good sz (joined sz d b f) (joinedPages filler sz d m b f) v
         (joined-good sz d m v g b f fl bl own sole (some-bit sz d (g .numbers) b f pos))
-        n n-lt (ab .0) (ab .1) x f fl (joined-vacant sz d (g .numbers) b f fl pos)
+        n n-lt (ab .0) (ab .1) t x f fl (held sz (g .numbers .limits) (joined sz d b f) b f bl fr)
+        (joined-vacant sz d (g .numbers) b f fl pos)
 
 -- ---- the write
 
@@ -199,7 +202,7 @@ module _ {C A : Type 0} (chip : Chip C A) (filler : A) (pick : Choice) (picks : 
       let y = ready-frame sz d u f fl (block-vacant sz (u .limits) a al) in
       let ab = stepped-absent sz d u a f y n n-lt np nf in
       joined-entered chip filler sz (stepped sz d (due a f)) (steppedPages chip filler sz d m (due a f)) v
-      (step-good chip filler sz d m own v g a f y) n n-lt (ab .0) (ab .1) x b f fl bl
+      (step-good chip filler sz d m own v g a f y) n n-lt (ab .0) (ab .1) true x b f fl bl
       (rw (stepped-count sz d u a f y b (λ e. sole f fl (sym e))) pos)
       (inr (stepped-bits sz d u a f y)) (λ h hl ne e. sole h hl (sym (stepped-frame′ sz d u a f y h ne) ∙ e))
 
@@ -209,14 +212,16 @@ module _ {C A : Type 0} (chip : Chip C A) (filler : A) (pick : Choice) (picks : 
   exchange-wrote b f fl bl more al sole np nf =
       let u = g .numbers in
       let ab = exchanged-absent sz d u n n-lt np nf b f fl bl more in
+      let fr = exchanged-frame sz (u .limits) d (u .shape) b f fl in
       entered-good chip filler sz (exchanged sz d b f) (exchangedPages filler sz d m b f) v
       (exchanged-good chip filler sz d m v g b f fl bl more al sole)
-      n n-lt (ab .0) (ab .1) x f fl (lt-ltb _ (sz .P) (exchanged-vacant sz (u .limits) d (u .shape) (u .entries) b f fl bl more al sole))
+      n n-lt (ab .0) (ab .1) true x f fl (held sz (u .limits) (exchanged sz d b f) b f bl fr)
+      (lt-ltb _ (sz .P) (exchanged-vacant sz (u .limits) d (u .shape) (u .entries) b f fl bl more al sole))
 
   frame-hit-wrote : inSlots sz d n ≡ false → frameWith sz d n < sz .B → Wrote (frameHit (frameWith sz d n))
   unfolding written writtenPages frameWith
   frame-hit-wrote h l = touched-good chip filler sz d _ _ (frame-hit-good chip filler sz d m v g (frameWith sz d n) n x l n-lt
-      (not-in-slots sz d n h) (first-hit (sz .B) (inFrame sz d n) l)) (frameWith sz d n) l
+      (not-in-slots sz d n h) (first-hit (sz .B) (inFrame sz d n) l)) false (frameWith sz d n) l (with-held sz d (g .numbers) n l)
 
   -- no slot is vacant: ways 4 to 7
   eviction-wrote : NoSlot sz d n → NoFrame sz d n → inSlots sz d vacant ≡ false → Wrote (evictionPlan pick sz d w (victim sz d))
@@ -224,9 +229,9 @@ module _ {C A : Type 0} (chip : Chip C A) (filler : A) (pick : Choice) (picks : 
   eviction-wrote np nf full =
       let u = g .numbers in let b : ℕ = victim sz d in let bl = victim-lt sz d u in let pos = victim-pos sz d u full in
       eviction-elim pick sz d w Wrote b
-      (λ q. let e = frame-is sz d b q in joined-entered chip filler sz d m v g n n-lt np nf x b (frameOf sz d b) q bl pos (inl e)
+      (λ q. let e = frame-is sz d b q in joined-entered chip filler sz d m v g n n-lt np nf false x b (frameOf sz d b) q bl pos (inl e)
       (sole-own sz d u b (frameOf sz d b) bl q e))
-      (λ s q. joined-entered chip filler sz d m v g n n-lt np nf x b (frameOf sz d vacant) q bl pos
+      (λ s q. joined-entered chip filler sz d m v g n n-lt np nf true x b (frameOf sz d vacant) q bl pos
       (inr (vacant-bits sz d u _ q (frame-is sz d vacant q))) (λ h hl ne e. no-frame sz d b s h hl e))
       (λ s o q. let p = fewest-pick sz d u pick picks _ refl in exchange-wrote b _ (p .0) bl (rw (p .1) q) (occupied-all sz d u o _ (p .0))
       (no-frame sz d b s) np nf)

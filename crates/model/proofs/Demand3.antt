@@ -19,7 +19,8 @@ use Rattle.prelude.proofs.Pages.{length-laid}
 use Rattle.model.specs.Sizes.{Sizes, vacant}
 use Rattle.model.specs.Directory.{Directory}
 use Rattle.model.specs.Soundness.{sound}
-use Rattle.model.specs.Policy.{leastRecent, Choice, Plan, plan, wayOf, erasedBy, mergeReads, Due, clean, due, dueOf, isWorn}
+use Rattle.model.specs.Policy.{leastRecent, policyChoice, Choice, Plan, plan, wayOf, erasedBy, mergeReads, Due, clean, due, dueOf}
+use Rattle.model.specs.Policy.{isWorn}
 use Rattle.model.specs.Policy.{lowestWorn}
 use Rattle.model.specs.Moves.{Chip, Memory, cellAt, flashPage, wornBy, joined, written, mergedBy, stepped, readPage, steppedPages}
 use Rattle.model.specs.Calls.{Answer, openDone, readDone, writeDone, stepDone, stepClean, flushDone, refused, isRefused, Call, read}
@@ -33,7 +34,7 @@ use Rattle.model.specs.Lists.{isFlush, addedCause, bookSays, fed, flashP
 use Rattle.model.specs.Lists.{Step, Claim, Quiet, Bears, Demand3}
 use Rattle.model.proofs.Soundness.{limits-of, facts-sound}
 use Rattle.model.proofs.Lookup.{block-lt, page-div}
-use Rattle.model.proofs.Plan.{leastRecent-picks}
+use Rattle.model.proofs.Plan.{leastRecent-picks, policyChoice-picks}
 use Rattle.model.proofs.Reflects.{OwnAll}
 use Rattle.model.proofs.Consistent.{Consistent, write-good, step-good}
 use Rattle.model.proofs.Steps.{Ready, due-elim, wornBy-length, steps-clean}
@@ -862,15 +863,15 @@ pub demand-3 : (fmt : Format) (Matched : Sizes → Cell → Type 0) (Near : Size
     → Bears fmt Matched Near sz → Demand3 fmt Matched Near sz
 demand-3 fmt Matched Near sz laws u h ok cs p = opened-claim fmt Matched Near sz laws u (open-accepted fmt sz u h) ok cs p
 
--- ---- with document 01's choice, the least recent frame
+-- ---- with the choice of the record's policy
 
-abbrev pub lru : List (Call Page) → List Chosen
-lru [] = []
-lru (c ∷ cs) = record { choice = leastRecent; besides = λ i. false; call = c } ∷ lru cs
+abbrev pub byPolicy : List (Call Page) → List Chosen
+byPolicy [] = []
+byPolicy (c ∷ cs) = record { choice = policyChoice; besides = λ i. false; call = c } ∷ byPolicy cs
 
-pub lru-picks : (cs : List (Call Page)) → AllPick (lru cs)
-lru-picks [] = tt
-lru-picks (c ∷ cs) = (leastRecent-picks, lru-picks cs)
+pub policy-picks : (cs : List (Call Page)) → AllPick (byPolicy cs)
+policy-picks [] = tt
+policy-picks (c ∷ cs) = (policyChoice-picks, policy-picks cs)
 
 -- ---- where no bit flips
 

@@ -1,7 +1,7 @@
 -- Reads, flush steps and flushes of a consistent store, and what rewrites do to flash and wear.
 use mathlib.Core.Path.{_≡_, refl, sym, ap, _∙_}
 use mathlib.Core.Logic.{_⊎_, inl, inr}
-use mathlib.Core.Bool.{cond}
+use mathlib.Core.Bool.{false, cond}
 use mathlib.Core.List.{List}
 use Prim.Native.Nat.{ℕ, zero, suc, _+_, _-_, _*_, _/_, _%_, _<_}
 use native.Mathlib.Omega.{arith}
@@ -23,6 +23,7 @@ use Rattle.model.proofs.Lookup.{block-vacant, block-lt, offset-lt, page
 use Rattle.model.proofs.Lookup.{no-frame-with, some-pages}
 use Rattle.model.proofs.Plan.{occupied-all, evict-pick, eviction-elim, plan-elim}
 use Rattle.model.proofs.Reflects.{OwnAll}
+use Rattle.model.proofs.Kept.{with-held}
 use Rattle.model.proofs.Consistent.{Consistent, touched-good, step-good}
 use Rattle.model.proofs.Steps.{Ready, Empty, ready-frame, due-elim, stepped-gone, worn-at, worn-other, wornBy-length, wornBy-is}
 
@@ -47,7 +48,8 @@ module _ {C A : Type 0} (chip : Chip C A) (filler : A) (sz : Sizes) (d : Directo
   read-good n = by-test (inSlots sz d n)
       (λ e. rw (e, readDirectory, readWay) g)
       (λ e. rw (e, readDirectory, readWay) (by-test (ltb (frameWith sz d n) (sz .B))
-      (λ e′. rw e′ (touched-good chip filler sz d m v g (frameWith sz d n) (ltb-true (frameWith sz d n) (sz .B) e′)))
+      (λ e′. rw e′ (let l = ltb-true (frameWith sz d n) (sz .B) e′ in
+      touched-good chip filler sz d m v g false (frameWith sz d n) l (with-held sz d (g .numbers) n l)))
       (λ e′. rw e′ g)))
 
   -- with nothing cached, flash is the array

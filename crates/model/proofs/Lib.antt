@@ -19,6 +19,7 @@ pub mod AuditWays
 pub mod AuditFrames
 pub mod AuditWorn
 pub mod AuditParts
+pub mod AuditPolicy
 pub mod AuditOpenings
 pub mod AuditSpoilt
 pub mod AuditTable

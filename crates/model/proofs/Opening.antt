@@ -76,7 +76,7 @@ module _ (sz : Sizes) (limits : InLimits sz) where
           slot-past = λ i l k. vacant-slot i k;
           frame-past = λ f l k. (vacant-frame f k, vacant-bits f k, vacant-recency f k);
         };
-        counted = vacant-uses;
+        counted = record { none = λ f l e. vacant-uses f l; some = λ f l e. absurd (e (vacant-frame f l)) };
       }
 
   module _ {C A : Type 0} (chip : Chip C A) (filler : A) (m : Memory C A) (v : List A) (vl : length v ≡ sz .N * sz .K)

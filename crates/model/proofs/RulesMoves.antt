@@ -18,11 +18,11 @@ use Rattle.prelude.proofs.Scan.{nth-none}
 use Rattle.prelude.proofs.Tab.{length-tab, getD-tab}
 use Rattle.prelude.proofs.Bits.{bit-mask, mask-lt, bit-high}
 use Rattle.model.specs.Sizes.{Sizes, vacant, sizesOk, InLimits}
-use Rattle.model.specs.Directory.{Directory, slotAt, frameAt, validAt, recencyAt}
+use Rattle.model.specs.Directory.{Directory, slotAt, frameAt, validAt, recencyAt, usesAt}
 use Rattle.model.specs.Soundness.{sound, Sound}
 use Rattle.model.specs.Policy.{inBlock, slotOf, inSlots, validCount}
-use Rattle.model.specs.Moves.{Chip, Memory, cellAt, flashPage, programmed, worn, wornBy, recencyAfter, touched, joined, filled}
-use Rattle.model.specs.Moves.{joinedPages, unmet}
+use Rattle.model.specs.Moves.{Chip, Memory, cellAt, flashPage, programmed, worn, wornBy, recencyAfter, oneMore, touched, joined}
+use Rattle.model.specs.Moves.{filled, joinedPages, unmet}
 use Rattle.model.specs.Moves.{spare, taken, givenSlot, exchanged, exchangedPages, vacated, merged, rewrittenPages, stepped}
 use Rattle.model.specs.Moves.{steppedPages}
 use Rattle.model.proofs.Soundness.{limits-of, limits-test, sound-facts}
@@ -32,8 +32,10 @@ use Rattle.model.proofs.Reflects.{taker}
 use Rattle.model.proofs.Kept.{enough}
 use Rattle.model.proofs.Plan.{valid-ones}
 use Rattle.model.specs.RulesWords.{InSlot, OfBlock, pagesInSlots, validPages, without}
-use Rattle.model.specs.RulesMoves.{WearRule, NoWearRule, MostRecent, OrderRule, Joined, JoinedRule, JoinedPages, JoinedPagesRule}
-use Rattle.model.specs.RulesMoves.{Freed, Other, Exchanged, ExchangedRule, ExchangedPages, ExchangedPagesRule, Rewritten}
+use Rattle.model.specs.RulesMoves.{WearRule, NoWearRule, MostRecent, Used, Filled, UsedRule, FilledRule, Joined, JoinedRule}
+use Rattle.model.specs.RulesMoves.{JoinedPages}
+use Rattle.model.specs.RulesMoves.{JoinedPagesRule, Freed, Other, Exchanged, ExchangedRule, ExchangedPages, ExchangedPagesRule}
+use Rattle.model.specs.RulesMoves.{Rewritten}
 use Rattle.model.specs.RulesMoves.{RewrittenRule, MergesRule, SteppedRule, SteppedPagesRule}
 use Rattle.model.proofs.RulesWords.{of-block, block-range, counted}
 
@@ -76,7 +78,8 @@ once-out f (x ∷ l) (suc a) al e h = let ih = once-out f l a (omega arith) e (�
         (λ t. let k = ltb-false i a t in rw (t, le-ltb (suc i) (suc a) (omega arith)))
 
 module _ (sz : Sizes) (d : Directory) (B-low : 1 ≤ sz .B) (B-high : sz .B ≤ 8) (long : length (d .recency) ≡ 8)
-    (has : (f : ℕ) → f < sz .B → (i : ℕ) × (i < sz .B) × (recencyAt d i ≡ f)) (f : ℕ) (f-lt : f < sz .B) where
+    (has : (f : ℕ) → f < sz .B → (i : ℕ) × (i < sz .B) × (recencyAt d i ≡ f)) (f : ℕ) (f-lt : f < sz .B)
+    (e : Directory) (e-is : e .recency ≡ recencyAfter sz d f) where
   at : ℕ
   at = first (sz .B) (λ i. eqb (recencyAt d i) f)
 
@@ -90,14 +93,14 @@ module _ (sz : Sizes) (d : Directory) (B-low : 1 ≤ sz .B) (B-high : sz .B ≤ 
   at-is = eqb-true _ f (first-hit (sz .B) (λ i. eqb (recencyAt d i) f) at-lt)
 
   order-at : (i : ℕ) → i < 8
-      → recencyAt (touched sz d f) i ≡ cond (ltb i at) (recencyAt d i)
+      → recencyAt e i ≡ cond (ltb i at) (recencyAt d i)
       (cond (ltb (suc i) (sz .B)) (recencyAt d (suc i)) (cond (ltb i (sz .B)) f (recencyAt d i)))
-  unfolding touched recencyAfter at
-  order-at i l = getD-tab 8 _ 0 i l
+  unfolding recencyAfter at
+  order-at i l = ap (λ (q : List ℕ). getD q i 0) e-is ∙ getD-tab 8 _ 0 i l
 
-  order-long : length (touched sz d f .recency) ≡ 8
-  unfolding touched recencyAfter
-  order-long = length-tab 8 _
+  order-long : length (e .recency) ≡ 8
+  unfolding recencyAfter
+  order-long = ap length e-is ∙ length-tab 8 _
 
   abbrev B-first : List ℕ
   B-first = take (sz .B) (d .recency)
@@ -108,41 +111,63 @@ module _ (sz : Sizes) (d : Directory) (B-low : 1 ≤ sz .B) (B-high : sz .B ≤ 
   out : (length B-first ≡ suc (length (without f B-first)))
       × ((i : ℕ) → getD (without f B-first) i 0 ≡ cond (ltb i at) (getD B-first i 0) (getD B-first (suc i) 0))
   out = let al = at-lt in let bl = B-long in once-out f B-first at (omega arith) (getD-take (sz .B) (d .recency) at 0 al ∙ at-is)
-      (λ i il e. let il2 : i < sz .B = omega arith in listed-once (sz .B) (recencyAt d) has i at il2 al
-      (sym (getD-take (sz .B) (d .recency) i 0 il2) ∙ e ∙ sym at-is))
+      (λ i il q. let il2 : i < sz .B = omega arith in listed-once (sz .B) (recencyAt d) has i at il2 al
+      (sym (getD-take (sz .B) (d .recency) i 0 il2) ∙ q ∙ sym at-is))
 
-  front-at : (i : ℕ) → i < sz .B → recencyAt (touched sz d f) i ≡ getD (without f B-first ++ (f ∷ [])) i 0
+  front-at : (i : ℕ) → i < sz .B → recencyAt e i ≡ getD (without f B-first ++ (f ∷ [])) i 0
   front-at i il = let al = at-lt in let bl = B-long in let o = out .0 in by-test (ltb (suc i) (sz .B))
       (λ t. let k = ltb-true (suc i) (sz .B) t in order-at i (omega arith)
       ∙ rw t (sym (List·getD-append (without f B-first) (f ∷ []) 0 i (omega arith) ∙ out .1 i
       ∙ rw (getD-take (sz .B) (d .recency) i 0 il, getD-take (sz .B) (d .recency) (suc i) 0 k))))
-      (λ t. let k = ltb-false (suc i) (sz .B) t in let e : i ≡ length (without f B-first) = omega arith in
+      (λ t. let k = ltb-false (suc i) (sz .B) t in let last : i ≡ length (without f B-first) = omega arith in
       order-at i (omega arith) ∙ rw (le-ltb i at (omega arith), t, lt-ltb i (sz .B) il)
-      (sym (ap (λ (j : ℕ). getD (without f B-first ++ (f ∷ [])) j 0) e ∙ getD-append-seam (without f B-first) f [] 0)))
+      (sym (ap (λ (j : ℕ). getD (without f B-first ++ (f ∷ [])) j 0) last ∙ getD-append-seam (without f B-first) f [] 0)))
 
-  past-at : (i : ℕ) → sz .B + i < 8 → recencyAt (touched sz d f) (sz .B + i) ≡ recencyAt d (sz .B + i)
+  past-at : (i : ℕ) → sz .B + i < 8 → recencyAt e (sz .B + i) ≡ recencyAt d (sz .B + i)
   past-at i l = let al = at-lt in order-at (sz .B + i) l
       ∙ rw (le-ltb (sz .B + i) at (omega arith), le-ltb (suc (sz .B + i)) (sz .B) (omega arith), le-ltb (sz .B + i) (sz .B) (omega arith))
 
-  pub most-recent : MostRecent sz d (touched sz d f) f
+  pub most-recent : MostRecent sz d e f
   most-recent = let h = order-long in let bl = B-long in let o = out .0 in
-      let tl = length-take-le (sz .B) (touched sz d f .recency) (omega arith) in
+      let tl = length-take-le (sz .B) (e .recency) (omega arith) in
       let al = length-append (without f B-first) (f ∷ []) in
-      let dl = length-drop (sz .B) (touched sz d f .recency) in let rl = length-drop (sz .B) (d .recency) in record {
+      let dl = length-drop (sz .B) (e .recency) in let rl = length-drop (sz .B) (d .recency) in record {
         front = ext-getD 0 _ _ (omega arith) (λ i il. let il2 : i < sz .B = omega arith in
-            getD-take (sz .B) (touched sz d f .recency) i 0 il2 ∙ front-at i il2);
-        past = ext-getD 0 _ _ (omega arith) (λ i il. getD-drop (sz .B) (touched sz d f .recency) i 0 ∙ past-at i (omega arith)
+            getD-take (sz .B) (e .recency) i 0 il2 ∙ front-at i il2);
+        past = ext-getD 0 _ _ (omega arith) (λ i il. getD-drop (sz .B) (e .recency) i 0 ∙ past-at i (omega arith)
             ∙ sym (getD-drop (sz .B) (d .recency) i 0));
       }
 
-pub order-rule : OrderRule
+-- what a use, and a filling, do to an order that is a sound record's, and to its uses
+module _ (sz : Sizes) (d : Directory) (B-low : 1 ≤ sz .B) (B-high : sz .B ≤ 8) (long : length (d .recency) ≡ 8)
+    (has : (f : ℕ) → f < sz .B → (i : ℕ) × (i < sz .B) × (recencyAt d i ≡ f)) (many : length (d .uses) ≡ 8) (f : ℕ) (f-lt : f < sz .B) where
+  pub is-used : Used sz d (touched sz false d f) f
+  unfolding touched oneMore
+  is-used = let at = getD-set-same (d .uses) f (oneMore (usesAt d f)) 0 (omega arith) in record {
+    recent = λ h. most-recent sz d B-low B-high long has f f-lt (touched sz false d f) (rw (ne-eqb (sz .policy) 1 h) refl);
+    fifo = λ h. rw (eq-eqb (sz .policy) 1 h) refl;
+    more = λ h. at ∙ rw (lt-ltb (usesAt d f) 4294967295 h) (omega arith);
+    held = λ h. at ∙ rw (le-ltb (usesAt d f) 4294967295 h) refl;
+    others = λ g ne. getD-set-other (d .uses) f g (oneMore (usesAt d f)) 0 ne;
+  }
+
+  pub is-filled : Filled sz d (touched sz true d f) f
+  unfolding touched
+  is-filled = record { recent = most-recent sz d B-low B-high long has f f-lt (touched sz true d f) refl; uses-stay = refl }
+
+pub used-rule : UsedRule
 unfolding touched
-order-rule sz d ok f l = let s = sound-facts sz d ok in record {
-  recent = most-recent sz d (s .limits .B-low) (s .limits .B-high) (s .shape .recency-length) (s .listed .recency-has) f l;
-  slots-stay = refl;
-  frames-stay = (refl, refl);
-  uses-stay = refl;
-}
+used-rule sz d ok f l = let s = sound-facts sz d ok in (
+  is-used sz d (s .limits .B-low) (s .limits .B-high) (s .shape .recency-length) (s .listed .recency-has) (s .shape .uses-length) f l,
+  record { slots-stay = refl; frames-stay = (refl, refl) },
+)
+
+pub filled-rule : FilledRule
+unfolding touched
+filled-rule sz d ok f l = let s = sound-facts sz d ok in (
+  is-filled sz d (s .limits .B-low) (s .limits .B-high) (s .shape .recency-length) (s .listed .recency-has) (s .shape .uses-length) f l,
+  record { slots-stay = refl; frames-stay = (refl, refl) },
+)
 
 -- ---- pages of block b in slots join frame f, which is b's or vacant
 
@@ -168,11 +193,18 @@ module _ (sz : Sizes) (d : Directory) (ok : sound sz d ≡ true) (b f : ℕ) (b-
   frames-long : f < length (d .frames)
   frames-long = let h = s .limits .B-high in let k = s .shape .frames-length in omega arith
 
+  uses-long : f < length (d .uses)
+  uses-long = let h = s .limits .B-high in let k = s .shape .uses-length in omega arith
+
+  below-8 : f < 8
+  below-8 = let h = s .limits .B-high in omega arith
+
   join-leaves : Joined sz d (joined sz d b f) b f
   unfolding joined
   join-leaves =
       let p : ℕ → Bool = λ o. bit (validAt d f) o || inSlots sz d (b * sz .K + o) in
       let at : validAt (joined sz d b f) f ≡ mask (sz .K) p = getD-set-same (d .valid) f (mask (sz .K) p) 0 valid-long in
+      let used = getD-set-same (d .uses) f (cond (ltb 0 (usesAt d f)) (usesAt d f) 1) 0 uses-long in
       record {
         left = λ i l h. getD-tab 128 _ 0 i l ∙ rw (of-block sz d ok b i b-lt h);
         stays = λ i l h. getD-tab 128 _ 0 i l ∙ rw (not-block i h);
@@ -185,7 +217,9 @@ module _ (sz : Sizes) (d : Directory) (ok : sound sz d ≡ true) (b f : ℕ) (b-
         valid-above = λ o l. ap (λ (x : ℕ). bit x o) at ∙ bit-high (sz .K) (mask (sz .K) p) o (mask-lt (sz .K) p) l;
         frames-stay = λ g ne. (getD-set-other (d .frames) f g b 0 ne, getD-set-other (d .valid) f g _ 0 ne);
         order-stays = refl;
-        uses-stay = refl;
+        first-use = λ h. used ∙ rw (le-ltb 0 (usesAt d f) (let z = s .counted .none f below-8 h in omega arith));
+        uses-stay = λ h. used ∙ rw (lt-ltb 0 (usesAt d f) (s .counted .some f below-8 h));
+        others-stay = λ g ne. getD-set-other (d .uses) f g _ 0 ne;
       }
 
   module _ {C A : Type 0} (filler : A) (m : Memory C A) where
@@ -386,7 +420,8 @@ module _ (sz : Sizes) (d : Directory) (ok : sound sz d ≡ true) (b f : ℕ) (b-
         valid-above = λ o l. ap (λ (x : ℕ). bit x o) at ∙ bit-high (sz .K) (mask (sz .K) p) o (mask-lt (sz .K) p) l;
         frames-stay = λ g ne. (getD-set-other (d .frames) f g b 0 ne, getD-set-other (d .valid) f g _ 0 ne);
         order-stays = refl;
-        uses-stay = refl;
+        first-use = getD-set-same (d .uses) f 1 0 (uses-long sz d ok b f b-lt f-lt);
+        others-stay = λ g ne. getD-set-other (d .uses) f g 1 0 ne;
       }
 
   module _ {C A : Type 0} (filler : A) (m : Memory C A) where
@@ -498,7 +533,8 @@ stepped-rule sz d ok b f b-lt f-lt = let j = joined-rule sz d ok b f b-lt f-lt i
   frames-stay = λ g ne. let k = j .frames-stay g ne in
       (getD-set-other (joined sz d b f .frames) f g vacant 0 ne ∙ k .0, getD-set-other (joined sz d b f .valid) f g 0 0 ne ∙ k .1);
   order-stays = refl;
-  uses-stay = refl;
+  no-use = getD-set-same (joined sz d b f .uses) f 0 0 (simp length-set (uses-long sz d ok b f b-lt f-lt));
+  others-stay = λ g ne. getD-set-other (joined sz d b f .uses) f g 0 0 ne ∙ j .others-stay g ne;
 }
 
 -- the pages join, and then the frame is rewritten

@@ -2,30 +2,33 @@
 -- and the plan follows from the tests of the ways in their order.
 use mathlib.Core.Path.{_≡_, refl, sym, ap, _∙_}
 use mathlib.Core.Logic.{inl, inr}
-use mathlib.Core.Bool.{true, false, _&&_}
+use mathlib.Core.Bool.{Bool, true, false, _&&_}
 use mathlib.Core.List.{List}
 use Prim.Native.Nat.{ℕ, _-_, _≤_, _<_}
 use native.Mathlib.Omega.{arith}
 use lib.Dec.{leb, ltb, eqb}
 use lib.ListN.{getD}
-use borrow.Author.Tests.{leb-true, le-leb, ltb-true, ltb-false, lt-ltb, le-ltb, eq-eqb, ne-eqb}
+use borrow.Author.Tests.{leb-true, le-leb, ltb-true, ltb-false, eqb-true, eqb-false, lt-ltb, le-ltb, eq-eqb, ne-eqb}
 use Rattle.prelude.specs.Scan.{first}
-use Rattle.prelude.proofs.Tests.{by-test, fails, and-l, and-r, and-i}
-use Rattle.prelude.proofs.Scan.{first-hit, first-at, first-is, argmax-ge, argmax-first, leads-is}
+use Rattle.prelude.proofs.Tests.{by-test, clash, fails, and-l, and-r, and-i}
+use Rattle.prelude.proofs.Scan.{first-hit, first-at, first-is, first-miss, argmax-ge, argmax-first, leads-is}
 use Rattle.model.specs.Sizes.{Sizes, vacant}
 use Rattle.model.specs.Directory.{Directory, slotAt, frameAt, recencyAt}
 use Rattle.model.specs.Soundness.{sound, Sound}
-use Rattle.model.specs.Policy.{Choice, slotOf, frameOf, validCount, slotCount, leastRecent, victim, fewestValid, evictable}
+use Rattle.model.specs.Policy.{Choice, slotOf, frameOf, validCount, slotCount, leastRecent, policyChoice, victim, fewestValid}
+use Rattle.model.specs.Policy.{evictable}
 use Rattle.model.specs.Policy.{anyEvictable, evictFrame, evictionPlan, plan, slotHit, frameHit, freeSlot, join, fill, exchange, evict}
 use Rattle.model.specs.Policy.{due, dueOf, occupied, lowestInSlots, cached, lowestWorn}
-use Rattle.model.specs.RulesWords.{pagesInSlots, validPages, Evicts, Crowded}
-use Rattle.model.specs.RulesPolicy.{Way1Rule, Way2Rule, Way3Rule, VictimRule, Way4Rule, Way5Rule, Way6Rule, Way7Rule, Way7WornRule}
+use Rattle.model.specs.RulesWords.{pagesInSlots, validPages, Evicts, Crowded, Unworn}
+use Rattle.model.specs.RulesPolicy.{Way1Rule, Way2Rule, Way3Rule, VictimRule, Way4Rule, Way5Rule, Takes, ChoiceRule, ChoiceSomeRule}
+use Rattle.model.specs.RulesPolicy.{FewestPages, Way6Rule, Way7Rule, Way7WornRule}
 use Rattle.model.specs.RulesPolicy.{Way6AnyRule, Way7AnyRule, Way7AnyWornRule, StepFrameRule, StepAnyRule, StepSlotsRule}
 use Rattle.model.specs.RulesPolicy.{StepCleanRule, CachedRule, FlushNamesRule, FlushFreeRule}
 use Rattle.model.proofs.Soundness.{sound-facts, pages-small}
 use Rattle.model.proofs.Lookup.{block-vacant, page-of, some-pages, block-of, own-slot}
 use Rattle.model.proofs.Plan.{victim-lt, valid-ones, fewest-pick, evict-pick, evict-below, plan-1, plan-2, plan-3}
-use Rattle.model.proofs.Plan.{plan-full, plan-4, plan-5, plan-6, plan-7}
+use Rattle.model.proofs.Plan.{plan-full, plan-4, plan-5, plan-6, plan-7, policy-oldest, policy-fewest, some-fewest-place}
+use Rattle.model.proofs.Plan.{least-used}
 use Rattle.model.proofs.RulesWords.{absent, frame-found, unfound, own-frame, no-own, of-block, block-range, counted, found-cached}
 use Rattle.model.proofs.RulesWords.{fewest-le, fewest-at}
 
@@ -104,18 +107,67 @@ module _ (pick : Choice) (sz : Sizes) (d : Directory) (w : List ℕ) (n v : ℕ)
       evicts-it pick sz d w n v ok (h .evicts) ∙ plan-7 pick sz d w v (no-own sz d ok v (h .no-frame)) (no-own sz d ok vacant (h .all-held))
       (omega arith)
 
-pub way-6-rule : Way6Rule
+-- the store's choice
+pub choice-rule : ChoiceRule
 unfolding leastRecent
-way-6-rule sz d w n v ok h i l fewer fewest among =
-    let s = sound-facts sz d ok in let r = recencyAt d i in let rl = s .listed .recency-lt i l in let F = fewestValid sz d in
-    let vr = valid-ones sz d s r rl in let low = fewest-le sz d ok r rl in let at = fewest-at sz d ok in
-    let g = at .0 in let gl = at .1 in let ge = at .2 in let vg = valid-ones sz d s g gl in let m = fewest g gl in
-    let e : validCount sz d r ≡ F = omega arith in
-    let q = first-is (sz .B) (λ k. eqb (validCount sz d (recencyAt d k)) F) i (omega arith)
-    (λ j jl. ne-eqb _ F (λ k. let a = among j jl in let vj = valid-ones sz d s (recencyAt d j) (s .listed .recency-lt j (omega arith)) in
-    omega arith))
-    (λ k. eq-eqb _ F e) in
-    sixth leastRecent sz d w n v ok h r rl fewer ∙ ap (λ (k : ℕ). exchange v (recencyAt d k)) (sym q)
+choice-rule sz d ok test i t = let s = sound-facts sz d ok in let l = t .place-in in by-test (eqb (sz .policy) 2)
+    (λ e. let two = eqb-true (sz .policy) 2 e in policy-fewest sz d test e ∙ sym (least-used sz d test i (s .listed) (record {
+      best-lt = l;
+      passes = t .is-open;
+      fewest = λ j jl h. t .fewest two (recencyAt d j) (s .listed .recency-lt j jl) h;
+      earlier = t .fewer two;
+    })))
+    (λ e. let other = eqb-false (sz .policy) 2 e in policy-oldest sz d test e ∙ ap (recencyAt d) (sym (first-is (sz .B)
+    (λ k. test (recencyAt d k)) i (omega arith) (λ j jl. fails (test (recencyAt d j)) (t .first other j jl)) (λ k. t .is-open))))
+
+-- a test that holds of just the open frames takes the same
+module _ (sz : Sizes) (d : Directory) (ok : sound sz d ≡ true) (Open : ℕ → Type 0) (test : ℕ → Bool)
+    (passes : (f : ℕ) → f < sz .B → Open f → test f ≡ true) (opens : (f : ℕ) → f < sz .B → test f ≡ true → Open f) where
+  chosen : (i : ℕ) → Takes sz d Open i → policyChoice sz d test ≡ recencyAt d i
+  chosen i t = let lt = sound-facts sz d ok .listed .recency-lt in let l = t .place-in in choice-rule sz d ok test i (record {
+    place-in = l;
+    is-open = passes _ (lt i l) (t .is-open);
+    first = λ e j jl h. t .first e j jl (opens _ (lt j (omega arith)) h);
+    fewest = λ e g gl h. t .fewest e g gl (opens g gl h);
+    fewer = λ e j jl h. t .fewer e j jl (opens _ (lt j (omega arith)) h);
+  })
+
+-- the place where the definition's scan stops
+pub choice-some-rule : ChoiceSomeRule
+choice-some-rule sz d ok test f l e = by-test (eqb (sz .policy) 2)
+    (λ t. let two = eqb-true (sz .policy) 2 t in let h = some-fewest-place sz d test f (sound-facts sz d ok .listed) l e in (
+      h .0,
+      record {
+        place-in = h .1 .best-lt;
+        is-open = h .1 .passes;
+        first = λ n. absurd (n two);
+        fewest = λ q g gl o. let k = sound-facts sz d ok .listed .recency-has g gl in
+            rw (k .2) at (h .1 .fewest (k .0) (k .1) (rw (k .2) o));
+        fewer = λ q. h .1 .earlier;
+      },
+    ))
+    (λ t. let other = eqb-false (sz .policy) 2 t in let has = sound-facts sz d ok .listed .recency-has f l in
+    let at = first-at (sz .B) (λ k. test (recencyAt d k)) (has .0) (has .1) (rw (has .2) e) in
+    let il = has .1 in let i = first (sz .B) (λ k. test (recencyAt d k)) in (
+      i,
+      record {
+        place-in = omega arith;
+        is-open = first-hit (sz .B) (λ k. test (recencyAt d k)) (omega arith);
+        first = λ n j jl h. clash h (first-miss (sz .B) (λ k. test (recencyAt d k)) j jl);
+        fewest = λ q. absurd (other q);
+        fewer = λ q. absurd (other q);
+      },
+    ))
+
+pub way-6-rule : Way6Rule
+way-6-rule sz d w n v ok h i t fewer =
+    let s = sound-facts sz d ok in let r = recencyAt d i in let rl = s .listed .recency-lt i (t .place-in) in let F = fewestValid sz d in
+    let at = fewest-at sz d ok in let g = at .0 in let gl = at .1 in let ge = at .2 in let vg = valid-ones sz d s g gl in
+    let q = chosen sz d ok (FewestPages sz d) (λ f. eqb (validCount sz d f) F)
+    (λ f fl o. let m = o g gl in let vf = valid-ones sz d s f fl in let low = fewest-le sz d ok f fl in eq-eqb _ F (omega arith))
+    (λ f fl e k kl. let x = eqb-true (validCount sz d f) F e in let vf = valid-ones sz d s f fl in let vk = valid-ones sz d s k kl in
+    let low = fewest-le sz d ok k kl in omega arith) i t in
+    sixth policyChoice sz d w n v ok h r rl fewer ∙ ap (exchange v) q
 
 pub way-6-any-rule : Way6AnyRule
 way-6-any-rule pick picks sz d w n v ok h g gl fewer = let s = sound-facts sz d ok in let F = fewestValid sz d in
@@ -128,23 +180,21 @@ way-6-any-rule pick picks sz d w n v ok h g gl fewer = let s = sound-facts sz d 
     )
 
 pub way-7-rule : Way7Rule
-unfolding evictFrame anyEvictable evictable leastRecent
-way-7-rule sz d w n v ok h many i l below worn = let s = sound-facts sz d ok in let r = recencyAt d i in
-    let rl = s .listed .recency-lt i l in
-    let any = first-at (sz .B) (evictable sz d w) r rl (lt-ltb _ (sz .W) below) in
-    let q = first-is (sz .B) (λ k. ltb (getD w (frameAt d (recencyAt d k)) 0) (sz .W)) i (omega arith)
-    (λ j jl. fails _ (λ t. worn j jl (ltb-true _ (sz .W) t))) (λ k. lt-ltb _ (sz .W) below) in
-    seventh leastRecent sz d w n v ok h many
-    ∙ rw (lt-ltb (first (sz .B) (evictable sz d w)) (sz .B) (omega arith)) (ap (λ (k : ℕ). evict v (recencyAt d k)) (sym q))
+unfolding evictFrame anyEvictable evictable
+way-7-rule sz d w n v ok h many i t = let s = sound-facts sz d ok in let r = recencyAt d i in
+    let rl = s .listed .recency-lt i (t .place-in) in
+    let any = first-at (sz .B) (evictable sz d w) r rl (lt-ltb _ (sz .W) (t .is-open)) in
+    let q = chosen sz d ok (Unworn sz d w) (evictable sz d w) (λ f fl o. lt-ltb _ (sz .W) o) (λ f fl e. ltb-true _ (sz .W) e) i t in
+    seventh policyChoice sz d w n v ok h many
+    ∙ rw (lt-ltb (first (sz .B) (evictable sz d w)) (sz .B) (omega arith)) (ap (evict v) q)
 
 pub way-7-worn-rule : Way7WornRule
-unfolding evictFrame anyEvictable evictable leastRecent
-way-7-worn-rule sz d w n v ok h many worn =
+unfolding evictFrame anyEvictable evictable
+way-7-worn-rule sz d w n v ok h many worn i t =
     let any = fails (ltb (first (sz .B) (evictable sz d w)) (sz .B))
-    (λ t. let l = ltb-true _ (sz .B) t in worn _ l (ltb-true _ (sz .W) (first-hit (sz .B) (evictable sz d w) l))) in
-    let low = sound-facts sz d ok .limits .B-low in
-    let q = first-is (sz .B) (λ k. true) 0 (omega arith) (λ j jl. absurd (omega arith)) (λ k. refl) in
-    seventh leastRecent sz d w n v ok h many ∙ rw any (ap (λ (k : ℕ). evict v (recencyAt d k)) (sym q))
+    (λ a. let l = ltb-true _ (sz .B) a in worn _ l (ltb-true _ (sz .W) (first-hit (sz .B) (evictable sz d w) l))) in
+    let q = chosen sz d ok (λ f. f < sz .B) (λ f. true) (λ f fl o. refl) (λ f fl e. fl) i t in
+    seventh policyChoice sz d w n v ok h many ∙ rw any (ap (evict v) q)
 
 pub way-7-any-rule : Way7AnyRule
 way-7-any-rule pick picks sz d w n v ok h many g gl below = let s = sound-facts sz d ok in
@@ -173,13 +223,12 @@ module _ (sz : Sizes) (d : Directory) (ok : sound sz d ≡ true) where
       let k = ltb-true (frameAt d f) vacant (first-hit (sz .B) (occupied d) l) in let e = h f l in omega arith)
 
 pub step-frame-rule : StepFrameRule
-unfolding dueOf occupied leastRecent
-step-frame-rule sz d ok i l h before = let s = sound-facts sz d ok in let r = recencyAt d i in let rl = s .listed .recency-lt i l in
-    let v = is-occupied sz d ok r rl h in let any = first-at (sz .B) (occupied d) r rl (lt-ltb _ vacant v) in
-    let q = first-is (sz .B) (λ k. ltb (frameAt d (recencyAt d k)) vacant) i (omega arith)
-    (λ j jl. le-ltb (frameAt d (recencyAt d j)) vacant (let e = before j jl in omega arith)) (λ k. lt-ltb _ vacant v) in
-    rw (lt-ltb (first (sz .B) (occupied d)) (sz .B) (omega arith), dueOf) (ap
-    (λ (k : ℕ). due (frameAt d (recencyAt d k)) (recencyAt d k)) (sym q))
+unfolding dueOf occupied
+step-frame-rule sz d ok i t = let s = sound-facts sz d ok in let r = recencyAt d i in let rl = s .listed .recency-lt i (t .place-in) in
+    let any = first-at (sz .B) (occupied d) r rl (lt-ltb _ vacant (is-occupied sz d ok r rl (t .is-open))) in
+    let q = chosen sz d ok (λ f. frameAt d f ≡ vacant → ⊥) (occupied d) (λ f fl o. lt-ltb _ vacant (is-occupied sz d ok f fl o))
+    (λ f fl e x. let v = ltb-true (frameAt d f) vacant e in absurd (omega arith)) i t in
+    rw (lt-ltb (first (sz .B) (occupied d)) (sz .B) (omega arith), dueOf) (ap (λ (f : ℕ). due (frameAt d f) f) q)
 
 pub step-any-rule : StepAnyRule
 unfolding dueOf occupied

@@ -142,5 +142,5 @@ reads-flush-rule pick sz k ok i i-lt picks b o bl ol q = let d = k .directory in
 pub no-option-rule : NoOptionRule
 unfolding formatOf torn
 no-option-rule sz l = let o = l .options-are in
-    let c = coded-off sz (λ e. let z = o .1 in omega arith) in let m = marked-off sz (λ e. let z = o .3 in omega arith) in
+    let c = coded-off sz (λ e. let z = o .0 in omega arith) in let m = marked-off sz (λ e. let z = o .2 in omega arith) in
     rw (c, m) ((λ x. (refl, refl, refl)), (λ x. refl))

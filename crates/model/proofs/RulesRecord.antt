@@ -1,6 +1,6 @@
 -- The laws of the record and of opening hold: each test is turned into facts and back, and the refusals follow the tests' order.
 use mathlib.Core.Path.{_≡_, refl, sym, ap, _∙_}
-use mathlib.Core.Logic.{inl, inr}
+use mathlib.Core.Logic.{_⊎_, inl, inr}
 use mathlib.Core.Bool.{false}
 use Prim.Native.Nat.{ℕ, zero, suc, _+_, _-_, _*_, _/_, _%_, _^_, _≤_, _<_}
 use native.Mathlib.Nat.{pow-suc, mod-lt, div-add-mod'}
@@ -30,6 +30,13 @@ use Rattle.model.proofs.Lookup.{page-div, page-mod, page-vacant, page-s
 pub vacant-rule : VacantRule
 vacant-rule = refl
 
+one-of-three : (p : ℕ) → p ≤ 2 → (p ≡ 0) ⊎ ((p ≡ 1) ⊎ (p ≡ 2))
+one-of-three p l = by-test (eqb p 0)
+    (λ e. inl (eqb-true p 0 e))
+    (λ e. inr (by-test (eqb p 1)
+    (λ q. inl (eqb-true p 1 q))
+    (λ q. let a = eqb-false p 0 e in let b = eqb-false p 1 q in inr (omega arith))))
+
 pub sizes-rule : SizesRule
 sizes-rule sz = (
   (λ h. let l = limits-of sz h in record {
@@ -39,7 +46,8 @@ sizes-rule sz = (
     P-is = (l .P-low, l .P-high);
     B-is = (l .B-low, l .B-high);
     W-is = (l .W-low, l .W-high);
-    options-are = (l .policy-is, l .coded-is, l .shelf-is, l .marked-is);
+    policy-is = one-of-three (sz .policy) (l .policy-high);
+    options-are = (l .coded-is, l .shelf-is, l .marked-is);
   }),
   (λ l. limits-test sz (record {
     S-low = l .S-is .0;
@@ -54,10 +62,10 @@ sizes-rule sz = (
     B-high = l .B-is .1;
     W-low = l .W-is .0;
     W-high = l .W-is .1;
-    policy-is = l .options-are .0;
-    coded-is = l .options-are .1;
-    shelf-is = l .options-are .2;
-    marked-is = l .options-are .3;
+    policy-high = elim (l .policy-is) [ inl e ↦ omega arith | inr h ↦ elim h [ inl e ↦ omega arith | inr e ↦ omega arith ] ];
+    coded-is = l .options-are .0;
+    shelf-is = l .options-are .1;
+    marked-is = l .options-are .2;
   })),
 )
 
@@ -86,7 +94,7 @@ lengths-rule fmt sz u = (
 
 pub no-codes-rule : NoCodesRule
 no-codes-rule sz u l h = let o = l .options-are in
-    let c = coded-off sz (λ e. let z = o .1 in omega arith) in let m = marked-off sz (λ e. let z = o .3 in omega arith) in
+    let c = coded-off sz (λ e. let z = o .0 in omega arith) in let m = marked-off sz (λ e. let z = o .2 in omega arith) in
     let codes : length (u .codes) ≡ sz .N * sz .K * 0 = (rw c at (h .codes-are)) in
     let marks : length (u .marks) ≡ sz .N * sz .K * 0 = (rw m at (h .marks-are)) in
     (omega arith, omega arith)
@@ -151,7 +159,8 @@ module _ (sz : Sizes) (d : Directory) where
     order-once = listed-once (sz .B) (recencyAt d) (s .listed .recency-has);
     slots-past = s .past .slot-past;
     frames-past = s .past .frame-past;
-    uses-none = s .counted;
+    uses-some = s .counted .some;
+    uses-none = s .counted .none;
   }
 
   meant : SoundBy sz d → Sound sz d
@@ -183,7 +192,7 @@ module _ (sz : Sizes) (d : Directory) where
         };
         listed = record { recency-lt = λ i l. listed-at (sz .B) (recencyAt d) (s .order-has) i l .0; recency-has = s .order-has };
         past = record { slot-past = s .slots-past; frame-past = s .frames-past };
-        counted = s .uses-none;
+        counted = record { none = s .uses-none; some = s .uses-some };
       }
     where
       two : (n : ℕ) (g : ℕ → ℕ) → ((i j : ℕ) → i < j → j < n → g i ≡ g j → g i ≡ vacant) → (i j : ℕ) → i < n → j < n → g i < vacant

@@ -15,9 +15,9 @@ use Rattle.prelude.specs.Scan.{all, allPairs}
 use Rattle.prelude.proofs.Tests.{each, every-of, by-test, clash, and-l, and-r, or-l, or-r, or-cases, not-t, not-i}
 use Rattle.prelude.proofs.Scan.{all-at, all-of, pairs-at, pairs-of, listed-at, once-has, has-once}
 use Rattle.model.specs.Sizes.{Sizes, vacant, sizesOk, isCoded, isMarked, InLimits}
-use Rattle.model.specs.Directory.{Directory, slotAt, frameAt, validAt, recencyAt, inFrame}
+use Rattle.model.specs.Directory.{Directory, slotAt, frameAt, validAt, recencyAt, usesAt, inFrame}
 use Rattle.model.specs.Soundness.{shapeOk, slotOk, frameOk, slotsDiffer, framesDiffer, cachedOnce, listedOnce, slotPast, framePast}
-use Rattle.model.specs.Soundness.{usesOk, sound, Shape, Entries, Listed, Sound}
+use Rattle.model.specs.Soundness.{usesOk, sound, Shape, Entries, Listed, Counted, Sound}
 
 -- ---- sizes
 
@@ -36,7 +36,7 @@ limits-of sz h = let e = each _ h in let e2 = e .1 .1 .1 .1 in let e3 = e2 .1 .1
   B-high = leb-true _ _ (e3 .1 .0);
   W-low = leb-true _ _ (e3 .1 .1 .0);
   W-high = leb-true _ _ (e3 .1 .1 .1 .0);
-  policy-is = eqb-true _ _ (e4 .0);
+  policy-high = leb-true _ _ (e4 .0);
   coded-is = eqb-true _ _ (e4 .1 .0);
   shelf-is = eqb-true _ _ (e4 .1 .1 .0);
   marked-is = eqb-true _ _ (e4 .1 .1 .1 .0);
@@ -87,7 +87,7 @@ limits-test sz h = every-of _ (
                       (
                         le-leb _ _ (h .W-high),
                         (
-                          eq-eqb _ _ (h .policy-is),
+                          le-leb _ _ (h .policy-high),
                           (eq-eqb _ _ (h .coded-is), (eq-eqb _ _ (h .shelf-is), (eq-eqb _ _ (h .marked-is), tt))),
                         ),
                       ),
@@ -209,8 +209,15 @@ module _ (sz : Sizes) (d : Directory) where
   listed-facts h = let has = once-has (sz .B) (recencyAt d) h in
       record { recency-lt = λ i l. listed-at (sz .B) (recencyAt d) has i l .0; recency-has = has }
 
+  counted-facts : all 8 (usesOk sz d) ≡ true → Counted d
+  unfolding usesOk
+  counted-facts h = record {
+    none = λ f l e. eqb-true _ _ (rw (eq-eqb (frameAt d f) vacant e) at (all-at 8 (usesOk sz d) h f l));
+    some = λ f l e. ltb-true 0 _ (rw (ne-eqb (frameAt d f) vacant e) at (all-at 8 (usesOk sz d) h f l));
+  }
+
   pub sound-facts : sound sz d ≡ true → Sound sz d
-  unfolding sound slotPast usesOk
+  unfolding sound slotPast
   sound-facts h =
       let e0 = each _ h in let e1 = e0 .1 in let e2 = e1 .1 in let e3 = e2 .1 in let e4 = e3 .1 in
       let e5 = e4 .1 in let e6 = e5 .1 in let e7 = e6 .1 in let e8 = e7 .1 in let e9 = e8 .1 in let e10 = e9 .1 in
@@ -224,7 +231,7 @@ module _ (sz : Sizes) (d : Directory) where
               (all-at 128 (slotPast sz d) (e8 .0) i k)) [ inl e ↦ absurd (let w = ltb-true i (sz .P) e in omega arith) | inr e ↦ e ]);
           frame-past = λ f l k. past-facts f l (all-at 8 (framePast sz d) (e9 .0) f k);
         };
-        counted = λ f l. eqb-true _ _ (all-at 8 (usesOk sz d) (e10 .0) f l);
+        counted = counted-facts (e10 .0);
       }
 
   -- ---- and back
@@ -302,7 +309,9 @@ module _ (sz : Sizes) (d : Directory) where
 
     uses-test : (f : ℕ) → f < 8 → usesOk sz d f ≡ true
     unfolding usesOk
-    uses-test f l = eq-eqb _ _ (s .counted f l)
+    uses-test f l = by-test (eqb (frameAt d f) vacant)
+        (λ e. rw e (eq-eqb _ 0 (s .counted .none f l (eqb-true _ vacant e))))
+        (λ e. rw e (lt-ltb 0 _ (s .counted .some f l (eqb-false _ vacant e))))
 
     pub facts-sound : sound sz d ≡ true
     unfolding sound

@@ -7,7 +7,7 @@ use lib.ListN.{getD, set}
 use Rattle.prelude.specs.Scan.{first, count, nth, tab}
 use Rattle.prelude.specs.Bits.{bit, mask}
 use Rattle.model.specs.Sizes.{Sizes, vacant}
-use Rattle.model.specs.Directory.{Directory, slotAt, frameAt, validAt, recencyAt}
+use Rattle.model.specs.Directory.{Directory, slotAt, frameAt, validAt, recencyAt, usesAt}
 use Rattle.model.specs.Policy.{inBlock, slotOf, inSlots, frameWith, readWay, Plan, slotHit, frameHit, freeSlot, join, fill, exchange}
 use Rattle.model.specs.Policy.{evict, mergeReads, Due, clean, due}
 
@@ -60,8 +60,22 @@ recencyAfter sz d f =
     let at = first (sz .B) (λ i. eqb (recencyAt d i) f) in
     tab 8 (λ i. cond (ltb i at) (recencyAt d i) (cond (ltb (suc i) (sz .B)) (recencyAt d (suc i)) (cond (ltb i (sz .B)) f (recencyAt d i))))
 
-unfoldable pub touched : Sizes → Directory → ℕ → Directory
-touched sz d f = record { slots = d .slots; frames = d .frames; valid = d .valid; recency = recencyAfter sz d f; uses = d .uses }
+-- ---- a frame is used (request A5)
+
+-- one more use, held at the greatest 32-bit number
+unfoldable pub oneMore : ℕ → ℕ
+oneMore c = cond (ltb c 4294967295) (suc c) c
+
+-- Frame f is filled, by way 5, 6 or 7, or it is hit or joined. It becomes most recent, but under FIFO (policy 1) only by being filled.
+-- A hit and a join count one use more; the first use, of a filling, is counted by the move that fills the frame.
+unfoldable pub touched : Sizes → Bool → Directory → ℕ → Directory
+touched sz filling d f = record {
+  slots = d .slots;
+  frames = d .frames;
+  valid = d .valid;
+  recency = cond (filling || not (eqb (sz .policy) 1)) (recencyAfter sz d f) (d .recency);
+  uses = cond filling (d .uses) (set (d .uses) f (oneMore (usesAt d f)));
+}
 
 -- ---- a page is put into a slot, or into a frame
 
@@ -81,13 +95,14 @@ module _ {C A : Type 0} where
 
 -- ---- the pages of block b in slots join frame f, which is b's or vacant (ways 4, 5, twice in way 7, and a flush step)
 
+-- a frame that was vacant has its first use then, any other keeps its uses
 unfoldable pub joined : Sizes → Directory → ℕ → ℕ → Directory
 joined sz d b f = record {
   slots = tab 128 (λ i. cond (inBlock sz d b i) vacant (slotAt d i));
   frames = set (d .frames) f b;
   valid = set (d .valid) f (mask (sz .K) (λ o. bit (validAt d f) o || inSlots sz d (b * sz .K + o)));
   recency = d .recency;
-  uses = d .uses;
+  uses = set (d .uses) f (cond (ltb 0 (usesAt d f)) (usesAt d f) 1);
 }
 
 module _ {C A : Type 0} (filler : A) where
@@ -120,14 +135,14 @@ taken sz d b f i = cond (spare sz d b f i) (nth (sz .K) (unmet sz d b f) (count 
 unfoldable pub givenSlot : Sizes → Directory → ℕ → ℕ → ℕ → ℕ
 givenSlot sz d b f i = cond (ltb (taken sz d b f i) (sz .K)) (frameAt d f * sz .K + taken sz d b f i) vacant
 
--- the frame is then the victim's, with only the victim pages valid
+-- the frame is then the victim's, with only the victim pages valid, and has its first use
 unfoldable pub exchanged : Sizes → Directory → ℕ → ℕ → Directory
 exchanged sz d b f = record {
   slots = tab 128 (λ i. cond (inBlock sz d b i) (givenSlot sz d b f i) (slotAt d i));
   frames = set (d .frames) f b;
   valid = set (d .valid) f (mask (sz .K) (λ o. inSlots sz d (b * sz .K + o)));
   recency = d .recency;
-  uses = d .uses;
+  uses = set (d .uses) f 1;
 }
 
 module _ {C A : Type 0} (filler : A) where
@@ -148,7 +163,7 @@ vacated d f = record {
   frames = set (d .frames) f vacant;
   valid = set (d .valid) f 0;
   recency = d .recency;
-  uses = d .uses;
+  uses = set (d .uses) f 0;
 }
 
 module _ {C A : Type 0} (chip : Chip C A) (filler : A) where
@@ -166,9 +181,9 @@ module _ {C A : Type 0} (chip : Chip C A) (filler : A) where
 
 -- ---- the read, the flush step, the write
 
--- a read by way 2 makes the frame most recent
+-- a read by way 2 is a hit of the frame
 unfoldable pub readDirectory : Sizes → Directory → ℕ → Directory
-readDirectory sz d n = elim (eqb (readWay sz d n) 2) [ true ↦ touched sz d (frameWith sz d n) | false ↦ d ]
+readDirectory sz d n = elim (eqb (readWay sz d n) 2) [ true ↦ touched sz false d (frameWith sz d n) | false ↦ d ]
 
 -- the block's pages in slots join its frame, and the frame is rewritten and vacated; the order of use does not change
 unfoldable pub stepped : Sizes → Directory → Due → Directory
@@ -178,12 +193,12 @@ stepped sz d (due b f) = vacated (joined sz d b f) f
 -- request A2: way 7 begins as a flush step of the frame's block does
 unfoldable pub written : Sizes → Directory → ℕ → Plan → Directory
 written sz d n (slotHit i) = d
-written sz d n (frameHit f) = touched sz d f
+written sz d n (frameHit f) = touched sz false d f
 written sz d n (freeSlot i) = putSlot d i n
-written sz d n (join v f) = entered sz (touched sz (joined sz d v f) f) n
-written sz d n (fill v f) = entered sz (touched sz (joined sz d v f) f) n
-written sz d n (exchange v f) = entered sz (touched sz (exchanged sz d v f) f) n
-written sz d n (evict v f) = entered sz (touched sz (joined sz (stepped sz d (due (frameAt d f) f)) v f) f) n
+written sz d n (join v f) = entered sz (touched sz false (joined sz d v f) f) n
+written sz d n (fill v f) = entered sz (touched sz true (joined sz d v f) f) n
+written sz d n (exchange v f) = entered sz (touched sz true (exchanged sz d v f) f) n
+written sz d n (evict v f) = entered sz (touched sz true (joined sz (stepped sz d (due (frameAt d f) f)) v f) f) n
 
 -- the merge reads of a write: way 7 counts them after the block's pages in slots have joined the frame
 abbrev pub mergedBy : Sizes → Directory → Plan → ℕ

@@ -9,7 +9,7 @@ use Prim.Native.Nat.{ℕ, _+_, _*_, _≤_, _<_}
 use lib.ListN.{length, getD, take, drop}
 use Rattle.prelude.specs.Bits.{bit}
 use Rattle.model.specs.Sizes.{Sizes, sizesOk}
-use Rattle.model.specs.Directory.{Directory, slotAt, frameAt, validAt}
+use Rattle.model.specs.Directory.{Directory, slotAt, frameAt, validAt, usesAt}
 use Rattle.model.specs.Soundness.{sound}
 use Rattle.model.specs.Policy.{mergeReads, due}
 use Rattle.model.specs.Moves.{Chip, Memory, cellAt, flashPage, wornBy, touched, joined, joinedPages, exchanged, exchangedPages}
@@ -29,28 +29,46 @@ WearRule = (w : List ℕ) (b : ℕ) → b < length w → b < 4294967295
 abbrev pub NoWearRule : Type 0
 NoWearRule = (w : List ℕ) → wornBy w 4294967295 ≡ w
 
--- ---- the order of use
+-- ---- the order of use, and the uses
 
 -- Frame f becomes most recent: the first B entries are what they were without f, and then f; the entries past B stay.
 pub record MostRecent (sz : Sizes) (d e : Directory) (f : ℕ) : Type 0 where
   pub front : take (sz .B) (e .recency) ≡ without f (take (sz .B) (d .recency)) ++ (f ∷ [])
   pub past : drop (sz .B) (e .recency) ≡ drop (sz .B) (d .recency)
 
--- Nothing but the order changes, in which f becomes most recent.
-pub record OrderAlone (sz : Sizes) (d e : Directory) (f : ℕ) : Type 0 where
+-- Frame f is hit or joined (request A5): under LRU and LFU it becomes most recent, under FIFO, policy 1, the order stays. It has one use
+-- more, held at 4,294,967,295; the other frames' uses stay.
+pub record Used (sz : Sizes) (d e : Directory) (f : ℕ) : Type 0 where
+  pub recent : (sz .policy ≡ 1 → ⊥) → MostRecent sz d e f
+  pub fifo : sz .policy ≡ 1 → e .recency ≡ d .recency
+  pub more : usesAt d f < 4294967295 → usesAt e f ≡ usesAt d f + 1
+  pub held : 4294967295 ≤ usesAt d f → usesAt e f ≡ usesAt d f
+  pub others : (g : ℕ) → (g ≡ f → ⊥) → usesAt e g ≡ usesAt d g
+
+-- Frame f has been filled, by way 5, 6 or 7: it becomes most recent under every policy. Its first use is counted where its pages move in.
+pub record Filled (sz : Sizes) (d e : Directory) (f : ℕ) : Type 0 where
   pub recent : MostRecent sz d e f
-  pub slots-stay : e .slots ≡ d .slots
-  pub frames-stay : (e .frames ≡ d .frames) × (e .valid ≡ d .valid)
   pub uses-stay : e .uses ≡ d .uses
 
--- A use of frame f makes it most recent, and changes nothing else of the record.
-abbrev pub OrderRule : Type 0
-OrderRule = (sz : Sizes) (d : Directory) → sound sz d ≡ true → (f : ℕ) → f < sz .B → OrderAlone sz d (touched sz d f) f
+-- Slots and frames stay.
+pub record HeldStays (d e : Directory) : Type 0 where
+  pub slots-stay : e .slots ≡ d .slots
+  pub frames-stay : (e .frames ≡ d .frames) × (e .valid ≡ d .valid)
+
+-- A hit or join changes order and uses so, and nothing else of the record.
+abbrev pub UsedRule : Type 0
+UsedRule = (sz : Sizes) (d : Directory) → sound sz d ≡ true → (f : ℕ) → f < sz .B
+    → Used sz d (touched sz false d f) f × HeldStays d (touched sz false d f)
+
+-- A filling changes the order so, and nothing else.
+abbrev pub FilledRule : Type 0
+FilledRule = (sz : Sizes) (d : Directory) → sound sz d ≡ true → (f : ℕ) → f < sz .B
+    → Filled sz d (touched sz true d f) f × HeldStays d (touched sz true d f)
 
 -- ---- pages of block b in slots join frame f, which is b's or vacant
 
 -- The pages' slots are vacated and all other slots stay. The frame is b's; valid in it are the offsets that were, and those whose pages
--- stood in slots. Other frames and the order stay.
+-- stood in slots. A frame that was vacant has its first use then, one that was occupied keeps its uses. Other frames and the order stay.
 pub record Joined (sz : Sizes) (d e : Directory) (b f : ℕ) : Type 0 where
   pub left : (i : ℕ) → i < 128 → OfBlock sz d b i → slotAt e i ≡ 4294967295
   pub stays : (i : ℕ) → i < 128 → (OfBlock sz d b i → ⊥) → slotAt e i ≡ slotAt d i
@@ -59,7 +77,9 @@ pub record Joined (sz : Sizes) (d e : Directory) (b f : ℕ) : Type 0 where
   pub valid-above : (o : ℕ) → sz .K ≤ o → bit (validAt e f) o ≡ false
   pub frames-stay : (g : ℕ) → (g ≡ f → ⊥) → (frameAt e g ≡ frameAt d g) × (validAt e g ≡ validAt d g)
   pub order-stays : e .recency ≡ d .recency
-  pub uses-stay : e .uses ≡ d .uses
+  pub first-use : frameAt d f ≡ 4294967295 → usesAt e f ≡ 1
+  pub uses-stay : (frameAt d f ≡ 4294967295 → ⊥) → usesAt e f ≡ usesAt d f
+  pub others-stay : (g : ℕ) → (g ≡ f → ⊥) → usesAt e g ≡ usesAt d g
 
 -- So a join leaves the record.
 abbrev pub JoinedRule : Type 0
@@ -109,7 +129,8 @@ pub record ExchangedSlots (sz : Sizes) (d e : Directory) (b f : ℕ) : Type 0 wh
   -- and no slot is passed over
   pub no-gap : (i j : ℕ) → Freed sz d b f i → Freed sz d b f j → i < j → slotAt e i ≡ 4294967295 → slotAt e j ≡ 4294967295
 
--- And in the record: the frame is now the victim's, with only the victim pages valid; other frames and the order stay.
+-- And in the record: the frame is now the victim's, with only the victim pages valid, and has its first use; other frames and the order
+-- stay.
 pub record Exchanged (sz : Sizes) (d e : Directory) (b f : ℕ) : Type 0 where
   pub slots-go : ExchangedSlots sz d e b f
   pub frame-is : frameAt e f ≡ b
@@ -117,7 +138,8 @@ pub record Exchanged (sz : Sizes) (d e : Directory) (b f : ℕ) : Type 0 where
   pub valid-above : (o : ℕ) → sz .K ≤ o → bit (validAt e f) o ≡ false
   pub frames-stay : (g : ℕ) → (g ≡ f → ⊥) → (frameAt e g ≡ frameAt d g) × (validAt e g ≡ validAt d g)
   pub order-stays : e .recency ≡ d .recency
-  pub uses-stay : e .uses ≡ d .uses
+  pub first-use : usesAt e f ≡ 1
+  pub others-stay : (g : ℕ) → (g ≡ f → ⊥) → usesAt e g ≡ usesAt d g
 
 -- So way 6 leaves the record, where the frame holds a block and has fewer pages than b has in slots.
 abbrev pub ExchangedRule : Type 0
@@ -187,14 +209,15 @@ MergesRule = (sz : Sizes) (d : Directory) → sound sz d ≡ true → (b f : ℕ
 
 -- ---- a flush step for block b through frame f
 
--- The block's pages leave their slots, and the frame is vacant then. The order of use does not change.
+-- The block's pages leave their slots, and the frame is vacant then, with no use. The order of use does not change.
 pub record Stepped (sz : Sizes) (d e : Directory) (b f : ℕ) : Type 0 where
   pub left : (i : ℕ) → i < 128 → OfBlock sz d b i → slotAt e i ≡ 4294967295
   pub stays : (i : ℕ) → i < 128 → (OfBlock sz d b i → ⊥) → slotAt e i ≡ slotAt d i
   pub vacated-frame : (frameAt e f ≡ 4294967295) × (validAt e f ≡ 0)
   pub frames-stay : (g : ℕ) → (g ≡ f → ⊥) → (frameAt e g ≡ frameAt d g) × (validAt e g ≡ validAt d g)
   pub order-stays : e .recency ≡ d .recency
-  pub uses-stay : e .uses ≡ d .uses
+  pub no-use : usesAt e f ≡ 0
+  pub others-stay : (g : ℕ) → (g ≡ f → ⊥) → usesAt e g ≡ usesAt d g
 
 -- So a flush step leaves the record.
 abbrev pub SteppedRule : Type 0

@@ -1,15 +1,16 @@
 -- The rules of document 01 said a second time. Part 3: reading, writing, flushing: which rule applies, which slot, block and frame. A law
 -- says which plan follows where the paper's condition holds of this slot or frame. `pick` is any choice among the frames that a rule leaves
--- open; `leastRecent` is document 01's.
+-- open; `policyChoice` is the store's, by request A5.
 use mathlib.Core.Path.{_≡_}
-use mathlib.Core.Bool.{true}
+use mathlib.Core.Bool.{Bool, true}
 use mathlib.Core.List.{List}
 use Prim.Native.Nat.{ℕ, _*_, _≤_, _<_}
 use lib.ListN.{getD}
 use Rattle.model.specs.Sizes.{Sizes}
-use Rattle.model.specs.Directory.{Directory, slotAt, frameAt, recencyAt}
+use Rattle.model.specs.Directory.{Directory, slotAt, frameAt, recencyAt, usesAt}
 use Rattle.model.specs.Soundness.{sound}
-use Rattle.model.specs.Policy.{Choice, leastRecent, plan, wayOf, slotHit, frameHit, freeSlot, join, fill, exchange, evict, clean, due}
+use Rattle.model.specs.Policy.{Choice, policyChoice, plan, wayOf, slotHit, frameHit, freeSlot, join, fill, exchange, evict, clean}
+use Rattle.model.specs.Policy.{due}
 use Rattle.model.specs.Policy.{dueOf, cached, lowestWorn}
 use Rattle.model.specs.Lists.{Picks}
 use Rattle.model.specs.RulesWords.{_⇔_, InSlot, ValidIn, Uncached, FirstVacant, FirstVacantFrame, OfBlock, pagesInSlots, validPages}
@@ -48,27 +49,50 @@ Way5Rule = (pick : Choice) (sz : Sizes) (d : Directory) (w : List ℕ) (n v : �
     → Evicts sz d n v → ((f : ℕ) → f < sz .B → frameAt d f ≡ v → ⊥)
     → (f : ℕ) → FirstVacantFrame sz d f → plan pick sz d w n ≡ fill v f
 
--- Way 6: some frame has fewer than v's pages valid. Take the fewest, among equals the least recent: the first in the order of use.
+-- ---- which of several frames (request A5)
+
+-- Of the frames that a rule leaves open the one at place i in the order of use is taken. Under LRU and FIFO none before it is open. Under
+-- LFU, policy 2, no open one has fewer uses, and each open one before it has more.
+pub record Takes (sz : Sizes) (d : Directory) (Open : ℕ → Type 0) (i : ℕ) : Type 0 where
+  pub place-in : i < sz .B
+  pub is-open : Open (recencyAt d i)
+  pub first : (sz .policy ≡ 2 → ⊥) → (j : ℕ) → j < i → Open (recencyAt d j) → ⊥
+  pub fewest : sz .policy ≡ 2 → (g : ℕ) → g < sz .B → Open g → usesAt d (recencyAt d i) ≤ usesAt d g
+  pub fewer : sz .policy ≡ 2 → (j : ℕ) → j < i → Open (recencyAt d j) → usesAt d (recencyAt d i) < usesAt d (recencyAt d j)
+
+-- The store's choice is that frame,
+abbrev pub ChoiceRule : Type 0
+ChoiceRule = (sz : Sizes) (d : Directory) → sound sz d ≡ true → (test : ℕ → Bool) (i : ℕ)
+    → Takes sz d (λ f. test f ≡ true) i → policyChoice sz d test ≡ recencyAt d i
+
+-- and where a frame is open there is one to take.
+abbrev pub ChoiceSomeRule : Type 0
+ChoiceSomeRule = (sz : Sizes) (d : Directory) → sound sz d ≡ true → (test : ℕ → Bool) (f : ℕ) → f < sz .B → test f ≡ true
+    → (i : ℕ) × Takes sz d (λ g. test g ≡ true) i
+
+-- ---- ways 6 and 7
+
+-- frame f has the fewest pages valid
+abbrev pub FewestPages : Sizes → Directory → ℕ → Type 0
+FewestPages sz d f = (g : ℕ) → g < sz .B → validPages d f ≤ validPages d g
+
+-- Way 6: some frame has fewer than v's pages valid. Take the fewest, and among equals by the policy.
 abbrev pub Way6Rule : Type 0
 Way6Rule = (sz : Sizes) (d : Directory) (w : List ℕ) (n v : ℕ) → sound sz d ≡ true → Crowded sz d n v
-    → (i : ℕ) → i < sz .B → validPages d (recencyAt d i) < pagesInSlots sz d v
-    → ((g : ℕ) → g < sz .B → validPages d (recencyAt d i) ≤ validPages d g)
-    → ((j : ℕ) → j < i → validPages d (recencyAt d i) < validPages d (recencyAt d j))
-    → plan leastRecent sz d w n ≡ exchange v (recencyAt d i)
+    → (i : ℕ) → Takes sz d (FewestPages sz d) i → validPages d (recencyAt d i) < pagesInSlots sz d v
+    → plan policyChoice sz d w n ≡ exchange v (recencyAt d i)
 
--- Way 7: no frame has fewer. By request A4 it takes the least recent frame whose block has wear below W: all before it in the order of use
--- hold worn blocks.
+-- Way 7: no frame has fewer. By request A4 it takes, by the policy, a frame whose block has wear below W.
 abbrev pub Way7Rule : Type 0
 Way7Rule = (sz : Sizes) (d : Directory) (w : List ℕ) (n v : ℕ) → sound sz d ≡ true → Crowded sz d n v
     → ((f : ℕ) → f < sz .B → pagesInSlots sz d v ≤ validPages d f)
-    → (i : ℕ) → i < sz .B → Unworn sz d w (recencyAt d i) → ((j : ℕ) → j < i → Unworn sz d w (recencyAt d j) → ⊥)
-    → plan leastRecent sz d w n ≡ evict v (recencyAt d i)
+    → (i : ℕ) → Takes sz d (Unworn sz d w) i → plan policyChoice sz d w n ≡ evict v (recencyAt d i)
 
--- Where all frames hold worn blocks it is the least recent, whose block refusal 6 names.
+-- Where all frames hold worn blocks it is the one that the policy would take of all, whose block refusal 6 names.
 abbrev pub Way7WornRule : Type 0
 Way7WornRule = (sz : Sizes) (d : Directory) (w : List ℕ) (n v : ℕ) → sound sz d ≡ true → Crowded sz d n v
-    → ((f : ℕ) → f < sz .B → pagesInSlots sz d v ≤ validPages d f)
-    → ((f : ℕ) → f < sz .B → Unworn sz d w f → ⊥) → plan leastRecent sz d w n ≡ evict v (recencyAt d 0)
+    → ((f : ℕ) → f < sz .B → pagesInSlots sz d v ≤ validPages d f) → ((f : ℕ) → f < sz .B → Unworn sz d w f → ⊥)
+    → (i : ℕ) → Takes sz d (λ f. f < sz .B) i → plan policyChoice sz d w n ≡ evict v (recencyAt d i)
 
 -- ---- the same for an arbitrary choice among the frames that a rule leaves open
 
@@ -112,11 +136,10 @@ WaysRule = (pick : Choice) (sz : Sizes) (d : Directory) (w : List ℕ) (n : ℕ)
 
 -- ---- a flush step
 
--- A flush step takes the least recent occupied frame,
+-- A flush step takes an occupied frame by the policy, whatever the wear,
 abbrev pub StepFrameRule : Type 0
-StepFrameRule = (sz : Sizes) (d : Directory) → sound sz d ≡ true → (i : ℕ) → i < sz .B → (frameAt d (recencyAt d i) ≡ 4294967295 → ⊥)
-    → ((j : ℕ) → j < i → frameAt d (recencyAt d j) ≡ 4294967295)
-    → dueOf leastRecent sz d ≡ due (frameAt d (recencyAt d i)) (recencyAt d i)
+StepFrameRule = (sz : Sizes) (d : Directory) → sound sz d ≡ true → (i : ℕ) → Takes sz d (λ f. frameAt d f ≡ 4294967295 → ⊥) i
+    → dueOf policyChoice sz d ≡ due (frameAt d (recencyAt d i)) (recencyAt d i)
 
 -- an arbitrary choice one of the occupied ones;
 abbrev pub StepAnyRule : Type 0

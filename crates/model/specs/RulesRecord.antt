@@ -20,7 +20,7 @@ abbrev pub VacantRule : Type 0
 VacantRule = vacant ≡ 4294967295
 
 -- Page bytes S 1 to 2,048; pages per block K 2 to 64; flash blocks N 1 to 4,096; page places P 1 to 128; block frames B 1 to 8; wear limit
--- W 1 to 1,000,000. No option is taken yet: policy, coded, shelf pages and marked are 0.
+-- W 1 to 1,000,000. The policy is 0 LRU, 1 FIFO or 2 LFU (request A5). No other option is taken yet: coded, shelf pages and marked are 0.
 pub record WithinLimits (sz : Sizes) : Type 0 where
   pub S-is : (1 ≤ sz .S) × (sz .S ≤ 2048)
   pub K-is : (2 ≤ sz .K) × (sz .K ≤ 64)
@@ -28,7 +28,8 @@ pub record WithinLimits (sz : Sizes) : Type 0 where
   pub P-is : (1 ≤ sz .P) × (sz .P ≤ 128)
   pub B-is : (1 ≤ sz .B) × (sz .B ≤ 8)
   pub W-is : (1 ≤ sz .W) × (sz .W ≤ 1000000)
-  pub options-are : (sz .policy ≡ 0) × (sz .coded ≡ 0) × (sz .shelfPages ≡ 0) × (sz .marked ≡ 0)
+  pub policy-is : (sz .policy ≡ 0) ⊎ ((sz .policy ≡ 1) ⊎ (sz .policy ≡ 2))
+  pub options-are : (sz .coded ≡ 0) × (sz .shelfPages ≡ 0) × (sz .marked ≡ 0)
 
 -- The test of the sizes passes exactly within these limits.
 abbrev pub SizesRule : Type 0
@@ -47,7 +48,7 @@ pub record RightLengths (fmt : Format) (sz : Sizes) (u : Buffers) : Type 0 where
 abbrev pub LengthsRule : Type 0
 LengthsRule = (fmt : Format) (sz : Sizes) (u : Buffers) → (lentOk fmt sz u ≡ true) ⇔ RightLengths fmt sz u
 
--- With no option, the store is lent codes and marks of length 0.
+-- With no option but a policy, the store is lent codes and marks of length 0.
 abbrev pub NoCodesRule : Type 0
 NoCodesRule = (sz : Sizes) (u : Buffers) → WithinLimits sz → RightLengths storeFormat sz u
     → (length (u .codes) ≡ 0) × (length (u .marks) ≡ 0)
@@ -90,8 +91,9 @@ pub record SoundBy (sz : Sizes) (d : Directory) : Type 0 where
   -- Entries past P and B are vacant, their bits 0, and their order entry is their own index.
   pub slots-past : (i : ℕ) → sz .P ≤ i → i < 128 → slotAt d i ≡ 4294967295
   pub frames-past : (f : ℕ) → sz .B ≤ f → f < 8 → (frameAt d f ≡ 4294967295) × (validAt d f ≡ 0) × (recencyAt d f ≡ f)
-  -- No uses are counted yet.
-  pub uses-none : (f : ℕ) → f < 8 → usesAt d f ≡ 0
+  -- Occupied frames have at least 1 use, all others 0 (request A5).
+  pub uses-some : (f : ℕ) → f < 8 → (frameAt d f ≡ 4294967295 → ⊥) → 1 ≤ usesAt d f
+  pub uses-none : (f : ℕ) → f < 8 → frameAt d f ≡ 4294967295 → usesAt d f ≡ 0
 
 -- The test of a record passes exactly where all of this holds.
 abbrev pub SoundRule : Type 0
@@ -112,7 +114,7 @@ pub record AllVacant (d : Directory) : Type 0 where
 abbrev pub StartRule : Type 0
 StartRule = AllVacant vacantDirectory
 
--- The blank record has sizes and W 0 and no option, and all of it is vacant.
+-- The blank record has sizes and W 0, LRU and no other option, and all of it is vacant.
 abbrev pub BlankRule : Type 0
 BlankRule = (blankCache .sizes ≡ record { S = 0; K = 0; N = 0; P = 0; B = 0; W = 0; policy = 0; coded = 0; shelfPages = 0; marked = 0 })
     × AllVacant (blankCache .directory)
@@ -127,7 +129,7 @@ BlankUnsoundRule = sound (blankCache .sizes) (blankCache .directory) ≡ false
 abbrev pub OpeningRefused : Format → Sizes → Buffers → ℕ → Type 0
 OpeningRefused fmt sz u r = (openStore fmt sz u .answer ≡ refused r 4294967295) × (openStore fmt sz u .cache ≡ blankCache)
 
--- Opening refuses 1 when a size or W is beyond its limits, or an option is set.
+-- Opening refuses 1 when a size or W is beyond its limits, the policy is none of the three, or another option is set.
 abbrev pub OpeningSizeRule : Type 0
 OpeningSizeRule = (fmt : Format) (sz : Sizes) (u : Buffers) → (WithinLimits sz → ⊥) → OpeningRefused fmt sz u 1
 

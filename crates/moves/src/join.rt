@@ -49,7 +49,8 @@ pub fn join(
     );
 }
 
-// Each slot of block b in turn: its page goes to its offset in frame f's stretch, and the slot is vacant then.
+// Each slot of block b in turn: its page goes to its offset in frame f's stretch, and the slot is vacant then. A frame that was vacant has
+// its first use.
 fn take(
     z: Sizes,
     slots: &mut [u32; 128],
@@ -86,6 +87,7 @@ fn take(
     }
     frames[f] = b.0;
     valid[f] = v;
+    uses[f] = numbers::at_least_one(uses[f]);
 }
 
 // The offsets of block b's pages in slots, with those of old.

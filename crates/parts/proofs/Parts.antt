@@ -11,7 +11,7 @@ use Rattle.model.specs.Formats.{chipFor}
 use Rattle.model.specs.Calls.{Answer, isRefused, combined, Page, Buffers, zeroPage, flashCells, memoryOf}
 use Rattle.model.specs.Sizes.{Sizes}
 use Rattle.model.specs.Directory.{Directory, inFrame}
-use Rattle.model.specs.Policy.{slotOf, inSlots, frameWith, leastRecent, plan}
+use Rattle.model.specs.Policy.{slotOf, inSlots, frameWith, policyChoice, plan}
 use Rattle.model.specs.Moves.{readPage}
 use Rattle.cache.specs.View.{numbers}
 use Rattle.reads.specs.Reads.{Readable, pages}
@@ -66,7 +66,7 @@ module _ (sz : Sizes) (s f v r us : List ℕ) (u : Buffers) (n first : ℕ) (x p
   pub part-wrote : whole ≡ combined (chipFor sz) (zeroPage sz) sz (numbers s f v [] [])
       (pages sz (u .flash) (u .codes) (u .marks) (u .pspace) (u .bspace))
       n first x
-      → Wrote sz d u n whole (plan leastRecent sz d (u .wear) n) answer d′ u′
+      → Wrote sz d u n whole (plan policyChoice sz d (u .wear) n) answer d′ u′
       → page′ ≡ cond (isRefused answer) page whole → PartWrote sz d u n first x page answer d′ u′ page′
   unfolding memoryOf flashCells combined readPage inSlots slotOf frameWith inFrame
   part-wrote e h p = record { wrote = rw e at h; page-is = rw e at p }

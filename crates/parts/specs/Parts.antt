@@ -5,7 +5,7 @@ use Prim.Native.Nat.{ℕ, _+_, _*_, _≤_, _<_}
 use lib.ListN.{length}
 use Rattle.model.specs.Sizes.{Sizes}
 use Rattle.model.specs.Directory.{Directory}
-use Rattle.model.specs.Policy.{leastRecent, plan}
+use Rattle.model.specs.Policy.{policyChoice, plan}
 use Rattle.model.specs.Formats.{storeFormat, chipFor}
 use Rattle.model.specs.Calls.{Answer, isRefused, combined, Page, Buffers, zeroPage, memoryOf}
 use Rattle.answer.specs.Carried.{Ready}
@@ -25,5 +25,5 @@ combinedOf sz d u n first x = combined (chipFor sz) (zeroPage sz) sz d (memoryOf
 -- the combined page was written, and the page buffer has it where the write is accepted
 pub record PartWrote (sz : Sizes) (d : Directory) (u : Buffers) (n first : ℕ) (x page : Page) (answer : Answer) (d′ : Directory)
     (u′ : Buffers) (page′ : Page) : Type 0 where
-  pub wrote : Wrote sz d u n (combinedOf sz d u n first x) (plan leastRecent sz d (u .wear) n) answer d′ u′
+  pub wrote : Wrote sz d u n (combinedOf sz d u n first x) (plan policyChoice sz d (u .wear) n) answer d′ u′
   pub page-is : page′ ≡ cond (isRefused answer) page (combinedOf sz d u n first x)

@@ -4,7 +4,7 @@ use mathlib.Core.List.{List}
 use Prim.Native.Nat.{ℕ, _≤_}
 use native.Mathlib.Omega.{arith}
 use lib.ListN.{length, take, getD, replicate}
-use Rattle.model.specs.Policy.{leastRecent}
+use Rattle.model.specs.Policy.{policyChoice}
 use Rattle.model.specs.Calls.{Page, read, write, step, flush}
 use Rattle.model.specs.Shelf.{plainly, ShelfStore, ShelfResult, storeCall}
 use Rattle.model.proofs.Unshelved.{empty-is}
@@ -39,14 +39,14 @@ module _ (s : ShelfStore) (u v : Lent) (left : u ≡ v) (old out : List ℕ) (k 
   left-as : (c : Cache) (t : ShelfStore) → storeOf c u ≡ t → storeOf c v ≡ t
   left-as c t e = ap (storeOf c) (sym left) ∙ e
 
-  pub step-carries : (r : StepOut) → stepResult r u ≡ storeCall leastRecent s (plainly step) → Printed lineRoom (stepLine (stepOf
+  pub step-carries : (r : StepOut) → stepResult r u ≡ storeCall policyChoice s (plainly step) → Printed lineRoom (stepLine (stepOf
       (r .answer))) old 0 out k
       → Carries (stepped s) (record { cache = r .cache; printed = k }) v out
   unfolding stepped
   step-carries r e p = carries {room = lineRoom} (omega arith) (left-as (r .cache) _ (ap (λ (x : ShelfResult). x .store) e))
       (printed-as {q = lineRoom} {r = lineRoom} (omega arith) (ap (λ (x : ShelfResult). stepLine (x .answer)) e) p)
 
-  pub flush-carries : (r : FlushOut) → flushResult r u ≡ storeCall leastRecent s (plainly flush)
+  pub flush-carries : (r : FlushOut) → flushResult r u ≡ storeCall policyChoice s (plainly flush)
       → Printed lineRoom (flushLine (flushOf (r .answer))) old 0 out k
       → Carries (flushed s) (record { cache = r .cache; printed = k }) v out
   unfolding flushed
@@ -54,24 +54,24 @@ module _ (s : ShelfStore) (u v : Lent) (left : u ≡ v) (old out : List ℕ) (k 
       (printed-as {q = lineRoom} {r = lineRoom} (omega arith) (ap (λ (x : ShelfResult). flushLine (x .answer)) e) p)
 
   pub write-carries : (n b : ℕ) (page : Page) → page ≡ replicate (s .store .cache .sizes .S) b
-      → (r : WriteOut) → writeResult r u page ≡ storeCall leastRecent s (plainly (write n page))
+      → (r : WriteOut) → writeResult r u page ≡ storeCall policyChoice s (plainly (write n page))
       → Printed lineRoom (writeLine n (writeOf (r .answer))) old 0 out k
       → Carries (written s n b) (record { cache = r .cache; printed = k }) v out
   unfolding written
   write-carries n b page f r e p =
-      let e′ : writeResult r u page ≡ storeCall leastRecent s (plainly (write n (replicate (s .store .cache .sizes .S) b))) = e
-      ∙ ap (λ (x : Page). storeCall leastRecent s (plainly (write n x))) f in
+      let e′ : writeResult r u page ≡ storeCall policyChoice s (plainly (write n (replicate (s .store .cache .sizes .S) b))) = e
+      ∙ ap (λ (x : Page). storeCall policyChoice s (plainly (write n x))) f in
       carries {room = lineRoom} (omega arith) (left-as (r .cache) _ (ap (λ (x : ShelfResult). x .store) e′))
       (printed-as {q = lineRoom} {r = lineRoom} (omega arith) (ap (λ (x : ShelfResult). writeLine n (x .answer)) e′) p)
 
   pub read-carries : (n byte : ℕ) (page page′ : Page) → page ≡ replicate (s .store .cache .sizes .S) 0
-      → (r : ReadOut) → readResult r u page′ ≡ storeCall leastRecent s (plainly (read n page)) → byte ≡ getD page′ 0 0
+      → (r : ReadOut) → readResult r u page′ ≡ storeCall policyChoice s (plainly (read n page)) → byte ≡ getD page′ 0 0
       → Printed lineRoom (readLine n (readOf (r .answer)) byte) old 0 out k
       → Carries (wasRead s n) (record { cache = r .cache; printed = k }) v out
   unfolding wasRead
   read-carries n byte page page′ f r e g p =
-      let e′ : readResult r u page′ ≡ storeCall leastRecent s (plainly (read n (replicate (s .store .cache .sizes .S) 0))) = e
-      ∙ ap (λ (x : Page). storeCall leastRecent s (plainly (read n x))) f in
+      let e′ : readResult r u page′ ≡ storeCall policyChoice s (plainly (read n (replicate (s .store .cache .sizes .S) 0))) = e
+      ∙ ap (λ (x : Page). storeCall policyChoice s (plainly (read n x))) f in
       carries {room = lineRoom} (omega arith) (left-as (r .cache) _ (ap (λ (x : ShelfResult). x .store) e′))
       (printed-as {q = lineRoom} {r = lineRoom} (omega arith) (ap (readLine n (readOf (r .answer))) g
       ∙ ap (λ (x : ShelfResult). readLine n (x .answer) (getD (x .page) 0 0)) e′) p)

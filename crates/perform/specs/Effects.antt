@@ -4,7 +4,7 @@ use mathlib.Core.List.{List}
 use Prim.Native.Nat.{ℕ, _*_}
 use lib.ListN.{getD, replicate}
 use Rattle.model.specs.Sizes.{Sizes}
-use Rattle.model.specs.Policy.{leastRecent}
+use Rattle.model.specs.Policy.{policyChoice}
 use Rattle.model.specs.Calls.{isRefused, read, write, step, flush}
 use Rattle.model.specs.Shelf.{plainly, ShelfStore, storeOpen, storeCall}
 use Rattle.store.specs.View.{Lent, plainLent}
@@ -33,19 +33,19 @@ module _ (s : ShelfStore) where
 
   -- page n is filled with byte b
   unfoldable pub written : ℕ → ℕ → Effect
-  written n b = let r = storeCall leastRecent s (plainly (write n (replicate (s .store .cache .sizes .S) b))) in
+  written n b = let r = storeCall policyChoice s (plainly (write n (replicate (s .store .cache .sizes .S) b))) in
       record { store = r .store; printed = writeLine n (r .answer) }
 
   -- a read is lent a page of zeros, and prints the first byte of what it gives
   unfoldable pub wasRead : ℕ → Effect
-  wasRead n = let r = storeCall leastRecent s (plainly (read n (replicate (s .store .cache .sizes .S) 0))) in
+  wasRead n = let r = storeCall policyChoice s (plainly (read n (replicate (s .store .cache .sizes .S) 0))) in
       record { store = r .store; printed = readLine n (r .answer) (getD (r .page) 0 0) }
 
   unfoldable pub stepped : Effect
-  stepped = let r = storeCall leastRecent s (plainly step) in record { store = r .store; printed = stepLine (r .answer) }
+  stepped = let r = storeCall policyChoice s (plainly step) in record { store = r .store; printed = stepLine (r .answer) }
 
   unfoldable pub flushed : Effect
-  flushed = let r = storeCall leastRecent s (plainly flush) in record { store = r .store; printed = flushLine (r .answer) }
+  flushed = let r = storeCall policyChoice s (plainly flush) in record { store = r .store; printed = flushLine (r .answer) }
 
   -- nothing is done
   abbrev pub only : List ℕ → Effect

@@ -1,10 +1,10 @@
--- The oldest occupied frame by the order of use, the oldest that way 7 may take, and what is due.
+-- The oldest occupied frame by the order of use, the oldest that way 7 may take; the frames that the policy takes, and what is due.
 use mathlib.Core.Path.{_≡_, refl, ap}
 use mathlib.Core.Bool.{true, false}
 use mathlib.Core.List.{List}
 use Prim.Native.Nat.{ℕ, _≤_, _<_}
 use native.Mathlib.Omega.{arith}
-use lib.Dec.{ltb}
+use lib.Dec.{ltb, eqb}
 use borrow.Author.Tests.{ltb-true, lt-ltb, le-ltb}
 use Rattle.prelude.specs.Scan.{first}
 use Rattle.prelude.proofs.Tests.{by-test, clash}
@@ -12,9 +12,9 @@ use Rattle.prelude.proofs.Scan.{Missed, first-is, first-at, first-hit}
 use Rattle.model.specs.Sizes.{Sizes}
 use Rattle.model.specs.Directory.{Directory, frameAt, recencyAt}
 use Rattle.model.specs.Soundness.{Sound}
-use Rattle.model.specs.Policy.{leastRecent, evictable, anyEvictable, evictFrame, occupied, lowestInSlots, dueOf, due, clean}
-use Rattle.model.proofs.Plan.{leastRecent-picks}
-use Rattle.policy.specs.Views.{oldestOccupied}
+use Rattle.model.specs.Policy.{leastRecent, policyChoice, evictable, anyEvictable, evictFrame, occupied, lowestInSlots, dueOf, due, clean}
+use Rattle.model.proofs.Plan.{policyChoice-picks, policy-oldest}
+use Rattle.policy.specs.Views.{stepFrame, oldestOccupied}
 
 module _ (sz : Sizes) (d : Directory) (s : Sound sz d) where
   -- the frame at position i of the order is occupied, and none before it
@@ -56,22 +56,51 @@ module _ (sz : Sizes) (d : Directory) (s : Sound sz d) where
 
   -- ---- what is due
 
-  pub due-frame : oldestOccupied sz d < sz .B → dueOf leastRecent sz d ≡ due (frameAt d (oldestOccupied sz d)) (oldestOccupied sz d)
-  unfolding dueOf oldestOccupied
+  pub due-frame : stepFrame sz d < sz .B → dueOf policyChoice sz d ≡ due (frameAt d (stepFrame sz d)) (stepFrame sz d)
+  unfolding dueOf stepFrame
   due-frame = by-test (ltb (first (sz .B) (occupied d)) (sz .B)) (λ t. rw (t, dueOf) (λ l. refl)) (λ t. rw t (λ l. absurd (omega arith)))
 
-  none-occupied : sz .B ≤ oldestOccupied sz d → ltb (first (sz .B) (occupied d)) (sz .B) ≡ false
-  unfolding oldestOccupied
+  none-occupied : sz .B ≤ stepFrame sz d → ltb (first (sz .B) (occupied d)) (sz .B) ≡ false
+  unfolding stepFrame
   none-occupied = by-test (ltb (first (sz .B) (occupied d)) (sz .B))
       (λ t. let l = ltb-true (first (sz .B) (occupied d)) (sz .B) t in
-      let p = leastRecent-picks sz d (occupied d) (first (sz .B) (occupied d)) (s .listed) l (first-hit (sz .B) (occupied d) l) .0 in
+      let p = policyChoice-picks sz d (occupied d) (first (sz .B) (occupied d)) (s .listed) l (first-hit (sz .B) (occupied d) l) .0 in
       rw t (λ k. absurd (omega arith)))
       (λ t k. t)
 
-  pub due-slots : sz .B ≤ oldestOccupied sz d → lowestInSlots sz d < sz .N → dueOf leastRecent sz d ≡ due (lowestInSlots sz d) 0
+  pub due-slots : sz .B ≤ stepFrame sz d → lowestInSlots sz d < sz .N → dueOf policyChoice sz d ≡ due (lowestInSlots sz d) 0
   unfolding dueOf
   due-slots h l = rw (none-occupied h, lt-ltb (lowestInSlots sz d) (sz .N) l, dueOf)
 
-  pub due-clean : sz .B ≤ oldestOccupied sz d → sz .N ≤ lowestInSlots sz d → dueOf leastRecent sz d ≡ clean
+  pub due-clean : sz .B ≤ stepFrame sz d → sz .N ≤ lowestInSlots sz d → dueOf policyChoice sz d ≡ clean
   unfolding dueOf
   due-clean h l = rw (none-occupied h, le-ltb (lowestInSlots sz d) (sz .N) l, dueOf)
+
+-- ---- the policy's frames: the oldest under LRU and FIFO; under LFU of those that are open, or of all
+
+module _ (sz : Sizes) (d : Directory) where
+  pub step-oldest : eqb (sz .policy) 2 ≡ false → oldestOccupied sz d ≡ stepFrame sz d
+  unfolding oldestOccupied stepFrame
+  step-oldest e = rw (policy-oldest sz d (occupied d) e) refl
+
+  pub step-held : ltb (first (sz .B) (occupied d)) (sz .B) ≡ true → policyChoice sz d (occupied d) ≡ stepFrame sz d
+  unfolding stepFrame
+  step-held e = rw e refl
+
+  pub step-none : ltb (first (sz .B) (occupied d)) (sz .B) ≡ false → sz .B ≡ stepFrame sz d
+  unfolding stepFrame
+  step-none e = rw e refl
+
+  module _ (w : List ℕ) where
+    pub evict-by-age : eqb (sz .policy) 2 ≡ false → evictFrame leastRecent sz d w ≡ evictFrame policyChoice sz d w
+    unfolding evictFrame
+    evict-by-age e = rw (policy-oldest sz d (evictable sz d w) e, policy-oldest sz d (λ f. true) e) refl
+
+    pub evict-open : ltb (first (sz .B) (evictable sz d w)) (sz .B) ≡ true
+        → policyChoice sz d (evictable sz d w) ≡ evictFrame policyChoice sz d w
+    unfolding evictFrame anyEvictable
+    evict-open e = rw e refl
+
+    pub evict-any : ltb (first (sz .B) (evictable sz d w)) (sz .B) ≡ false → policyChoice sz d (λ f. true) ≡ evictFrame policyChoice sz d w
+    unfolding evictFrame anyEvictable
+    evict-any e = rw e refl

@@ -1,17 +1,18 @@
 -- The code's decisions as the model has them, and what a search asks.
 use mathlib.Core.Path.{_≡_}
-use mathlib.Core.Bool.{cond, _&&_}
+use mathlib.Core.Bool.{true, cond, _&&_}
 use mathlib.Core.List.{List}
 use Prim.Native.Nat.{ℕ, _-_, _*_, _≤_, _<_}
 use lib.Dec.{leb, ltb}
 use lib.ListN.{length, getD}
 use Rattle.prelude.specs.Scan.{first}
+use Rattle.prelude.specs.Bits.{bit}
 use Rattle.model.specs.Sizes.{Sizes}
 use Rattle.model.specs.Directory.{Directory}
 use Rattle.model.specs.Soundness.{Sound}
 use Rattle.model.specs.Policy as model
-use Rattle.model.specs.Policy.{frameOf, validCount, slotCount, leastRecent, victim, slotHit, frameHit, freeSlot, join, fill, exchange}
-use Rattle.model.specs.Policy.{evict, clean, due, occupied}
+use Rattle.model.specs.Policy.{frameOf, validCount, slotCount, leastRecent, policyChoice, victim, slotHit, frameHit, freeSlot, join, fill}
+use Rattle.model.specs.Policy.{exchange, evict, clean, due, occupied}
 use Rattle.cache.specs.View.{blockNo, numbers}
 use Rattle.policy.specs.declared.decision.Victim.{Victim}
 use Rattle.policy.specs.declared.decision.Plan.{Plan}
@@ -53,6 +54,10 @@ abbrev pub dueView : Due → model.Due
 dueView Clean = clean
 dueView (Block b f) = due (b .0) f
 
+-- the occupied frame that a step takes by the policy, B where there is none
+unfoldable pub stepFrame : Sizes → Directory → ℕ
+stepFrame sz d = cond (ltb (first (sz .B) (occupied d)) (sz .B)) (policyChoice sz d (occupied d)) (sz .B)
+
 -- the least recent occupied frame, B where there is none
 unfoldable pub oldestOccupied : Sizes → Directory → ℕ
 oldestOccupied sz d = cond (ltb (first (sz .B) (occupied d)) (sz .B)) (leastRecent sz d (occupied d)) (sz .B)
@@ -89,11 +94,34 @@ pub record OrderOf (sz : Sizes) (f r : List ℕ) : Type 0 where
   pub uses : List ℕ
   pub sound : Sound sz (numbers slots f valid r uses)
 
--- the slots, the frames and the order of use
-pub record DueOf (sz : Sizes) (s f r : List ℕ) : Type 0 where
+-- the frames, the order of use and the uses
+pub record UsesOf (sz : Sizes) (f r u : List ℕ) : Type 0 where
+  pub slots : List ℕ
+  pub valid : List ℕ
+  pub sound : Sound sz (numbers slots f valid r u)
+
+-- and the slots
+pub record DueOf (sz : Sizes) (s f r u : List ℕ) : Type 0 where
+  pub valid : List ℕ
+  pub sound : Sound sz (numbers s f valid r u)
+
+-- the order of use alone
+pub record OrderList (sz : Sizes) (r : List ℕ) : Type 0 where
+  pub slots : List ℕ
+  pub frames : List ℕ
   pub valid : List ℕ
   pub uses : List ℕ
-  pub sound : Sound sz (numbers s f valid r uses)
+  pub sound : Sound sz (numbers slots frames valid r uses)
+
+-- the order of use and the uses, and a set with one of the frames
+pub record OpenOf (sz : Sizes) (r u : List ℕ) (set : ℕ) : Type 0 where
+  pub slots : List ℕ
+  pub frames : List ℕ
+  pub valid : List ℕ
+  pub sound : Sound sz (numbers slots frames valid r u)
+  pub frame : ℕ
+  pub frame-lt : frame < sz .B
+  pub frame-open : bit set frame ≡ true
 
 -- some frame has n valid pages
 pub record SomeValid (sz : Sizes) (v r : List ℕ) (n : ℕ) : Type 0 where
@@ -104,6 +132,15 @@ pub record SomeValid (sz : Sizes) (v r : List ℕ) (n : ℕ) : Type 0 where
   pub frame : ℕ
   pub frame-lt : frame < sz .B
   pub frame-has : validCount sz (numbers slots frames v r uses) frame ≡ n
+
+-- the same with the uses
+pub record UsesValid (sz : Sizes) (v r u : List ℕ) (n : ℕ) : Type 0 where
+  pub slots : List ℕ
+  pub frames : List ℕ
+  pub sound : Sound sz (numbers slots frames v r u)
+  pub frame : ℕ
+  pub frame-lt : frame < sz .B
+  pub frame-has : validCount sz (numbers slots frames v r u) frame ≡ n
 
 -- there is a wear for each block
 pub record WithWear (sz : Sizes) (d : Directory) (w : List ℕ) : Type 0 where
@@ -137,5 +174,23 @@ pub record AllOccupied (sz : Sizes) (f r w : List ℕ) : Type 0 where
   pub valid : List ℕ
   pub uses : List ℕ
   pub sound : Sound sz (numbers slots f valid r uses)
+  pub wear-length : length w ≡ sz .N
+  pub block-lt : (g : ℕ) → g < sz .B → getD f g 0 < sz .N
+
+-- the same with the uses
+pub record UsesOccupied (sz : Sizes) (f r u w : List ℕ) : Type 0 where
+  pub slots : List ℕ
+  pub valid : List ℕ
+  pub sound : Sound sz (numbers slots f valid r u)
+  pub wear-length : length w ≡ sz .N
+  pub block-lt : (g : ℕ) → g < sz .B → getD f g 0 < sz .N
+
+-- the frames alone
+pub record WornOf (sz : Sizes) (f w : List ℕ) : Type 0 where
+  pub slots : List ℕ
+  pub valid : List ℕ
+  pub recency : List ℕ
+  pub uses : List ℕ
+  pub sound : Sound sz (numbers slots f valid recency uses)
   pub wear-length : length w ≡ sz .N
   pub block-lt : (g : ℕ) → g < sz .B → getD f g 0 < sz .N

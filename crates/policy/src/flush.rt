@@ -1,5 +1,6 @@
 // What a flush step rewrites, and which block stops a flush.
 use crate::decision::Due;
+use crate::lfu;
 use address::BlockNo;
 use cache::Sizes;
 use cache::VACANT;
@@ -8,19 +9,25 @@ ghost use mathlib.Core.Path.{_≡_};
 ghost use mathlib.Core.List.{[]};
 ghost use Prim.Native.Nat.{_<_};
 ghost use lib.ListN.{length};
-ghost use Rattle.model.specs.Policy.{leastRecent, lowestInSlots, dueOf, isWorn, lowestWorn};
+ghost use Rattle.model.specs.Policy.{policyChoice, lowestInSlots, dueOf, isWorn, lowestWorn};
 ghost use Rattle.cache.specs.View.{blockNo, sizesOf, numbers};
-ghost use Rattle.policy.specs.Views.{dueView, oldestOccupied, wornInSlots, wornInFrames, DueOf, SlotsOf, OrderOf, SlotsWorn};
-ghost use Rattle.policy.specs.Views.{FramesWorn, CachedWorn};
+ghost use Rattle.policy.specs.Views.{dueView, stepFrame, oldestOccupied, wornInSlots, wornInFrames, DueOf, SlotsOf, UsesOf};
+ghost use Rattle.policy.specs.Views.{OrderOf, SlotsWorn, FramesWorn, CachedWorn};
 
 // What a flush step is due to do.
-pub fn due(z: Sizes, slots: &[u32; 128], frames: &[u32; 8], recency: &[u8; 8]) -> Due
-    requires { ⌜ DueOf (sizesOf z) (now slots) (now frames) (now recency) ⌝ }
+pub fn due(
+    z: Sizes,
+    slots: &[u32; 128],
+    frames: &[u32; 8],
+    recency: &[u8; 8],
+    uses: &[u32; 8],
+) -> Due
+    requires { ⌜ DueOf (sizesOf z) (now slots) (now frames) (now recency) (now uses) ⌝ }
     ensures { λ r. ⌜ (
-        let d = numbers (now (slots .entry)) (now (frames .entry)) [] (now (recency .entry)) [] in
-        dueView r ≡ dueOf leastRecent (sizesOf z) d) ⌝ }
+        let d = numbers (now (slots .entry)) (now (frames .entry)) [] (now (recency .entry)) (now (uses .entry)) in
+        dueView r ≡ dueOf policyChoice (sizesOf z) d) ⌝ }
 {
-    let f = oldest_occupied(z, frames, recency);
+    let f = step_frame(z, frames, recency, uses);
     if f < z.frames as usize {
         return Due::Block(entry::block(frames[f]), f);
     }
@@ -29,6 +36,21 @@ pub fn due(z: Sizes, slots: &[u32; 128], frames: &[u32; 8], recency: &[u8; 8]) -
         return Due::Block(b, 0);
     }
     Due::Clean
+}
+
+// The occupied frame that a step takes, by the record's policy, or the number of frames where none is occupied. It is lent no wear.
+fn step_frame(z: Sizes, frames: &[u32; 8], recency: &[u8; 8], uses: &[u32; 8]) -> usize
+    requires { ⌜ UsesOf (sizesOf z) (now frames) (now recency) (now uses) ⌝ }
+    ensures { λ r. ⌜ r ≡ stepFrame (sizesOf z) (numbers [] (now (frames .entry)) [] (now (recency .entry)) (now (uses .entry))) ⌝ }
+{
+    if z.policy != 2 {
+        return oldest_occupied(z, frames, recency);
+    }
+    let among = lfu::held(z, frames);
+    if 0 < among {
+        return lfu::least_used(z, recency, uses, among);
+    }
+    z.frames as usize
 }
 
 // The least recent occupied frame, or the number of frames where none is occupied.

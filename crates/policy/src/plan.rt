@@ -6,7 +6,7 @@ use crate::victim;
 use address::PageNo;
 use cache::Sizes;
 ghost use mathlib.Core.Path.{_≡_};
-ghost use Rattle.model.specs.Policy.{leastRecent, victim, evictionPlan, plan};
+ghost use Rattle.model.specs.Policy.{policyChoice, victim, evictionPlan, plan};
 ghost use Rattle.cache.specs.View.{sizesOf, numbers};
 ghost use Rattle.policy.specs.Views.{planOf, roomOf, WithWear};
 
@@ -24,7 +24,7 @@ pub fn plan(
     requires { ⌜ WithWear (sizesOf z) (numbers (now slots) (now frames) (now valid) (now recency) (now uses)) (now wear) ⌝ }
     ensures { λ r. ⌜ (
         let d = numbers (now (slots .entry)) (now (frames .entry)) (now (valid .entry)) (now (recency .entry)) (now (uses .entry)) in
-        planOf r ≡ plan leastRecent (sizesOf z) d (now (wear .entry)) (n .0)) ⌝ }
+        planOf r ≡ plan policyChoice (sizesOf z) d (now (wear .entry)) (n .0)) ⌝ }
 {
     let at = lookup::slot_of(z, slots, n);
     if at < z.slots as usize {
@@ -54,7 +54,7 @@ pub fn eviction_plan(
     requires { ⌜ WithWear (sizesOf z) (numbers (now slots) (now frames) (now valid) (now recency) (now uses)) (now wear) ⌝ }
     ensures { λ r. ⌜ (
         let d = numbers (now (slots .entry)) (now (frames .entry)) (now (valid .entry)) (now (recency .entry)) (now (uses .entry)) in
-        roomOf r ≡ evictionPlan leastRecent (sizesOf z) d (now (wear .entry)) (victim (sizesOf z) d)) ⌝ }
+        roomOf r ≡ evictionPlan policyChoice (sizesOf z) d (now (wear .entry)) (victim (sizesOf z) d)) ⌝ }
 {
     let v = victim::victim(z, slots);
     let b = v.block;
@@ -68,9 +68,9 @@ pub fn eviction_plan(
     }
     let fewest = victim::fewest_valid(z, valid);
     if fewest < v.pages {
-        let f = victim::least_recent_with(z, valid, recency, fewest);
+        let f = victim::exchange_frame(z, valid, recency, uses, fewest);
         return Room::Exchange(b, f);
     }
-    let f = victim::evict_frame(z, frames, recency, wear);
+    let f = victim::evict_frame(z, frames, recency, uses, wear);
     Room::Evict(b, f)
 }

@@ -1,15 +1,17 @@
 // What leaves to make room: a block leaves the slots, a frame's pages leave the frame.
 use crate::decision::Victim;
+use crate::lfu;
 use address::BlockNo;
 use cache::Sizes;
 use cache::VACANT;
 use cache::entry;
 ghost use mathlib.Core.Path.{_≡_};
 ghost use mathlib.Core.List.{[]};
+ghost use Prim.Native.Nat.{_<_};
 ghost use lib.Dec.{eqb};
-ghost use Rattle.model.specs.Policy.{validCount, leastRecent, fewestValid, evictFrame};
+ghost use Rattle.model.specs.Policy.{validCount, leastRecent, policyChoice, fewestValid, evictFrame};
 ghost use Rattle.cache.specs.View.{sizesOf, numbers};
-ghost use Rattle.policy.specs.Views.{victimOf, rankOf, SlotsOf, Cleared, ValidOf, SomeValid, AllOccupied};
+ghost use Rattle.policy.specs.Views.{victimOf, rankOf, SlotsOf, Cleared, ValidOf, SomeValid, UsesValid, AllOccupied, UsesOccupied};
 
 // The block with the most pages in slots, the lowest among equals; no pages where all slots are vacant.
 pub fn victim(z: Sizes, slots: &[u32; 128]) -> Victim
@@ -81,8 +83,27 @@ pub fn fewest_valid(z: Sizes, valid: &[u64; 8]) -> u32
     fewest
 }
 
+// The frame that way 6 takes of those with v valid pages, of which there is one, by the record's policy.
+pub fn exchange_frame(
+    z: Sizes,
+    valid: &[u64; 8],
+    recency: &[u8; 8],
+    uses: &[u32; 8],
+    v: u32,
+) -> usize
+    requires { ⌜ UsesValid (sizesOf z) (now valid) (now recency) (now uses) v ⌝ }
+    ensures { λ r. ⌜ (
+        let d = numbers [] [] (now (valid .entry)) (now (recency .entry)) (now (uses .entry)) in
+        r ≡ policyChoice (sizesOf z) d (λ f. eqb (validCount (sizesOf z) d f) v)) ⌝ }
+{
+    if z.policy == 2 {
+        return lfu::least_used(z, recency, uses, lfu::with_pages(z, valid, v));
+    }
+    least_recent_with(z, valid, recency, v)
+}
+
 // The least recent of the frames with v valid pages, of which there is one.
-pub fn least_recent_with(z: Sizes, valid: &[u64; 8], recency: &[u8; 8], v: u32) -> usize
+fn least_recent_with(z: Sizes, valid: &[u64; 8], recency: &[u8; 8], v: u32) -> usize
     requires { ⌜ SomeValid (sizesOf z) (now valid) (now recency) v ⌝ }
     ensures { λ r. ⌜ (
         let d = numbers [] [] [] (now (recency .entry)) [] in
@@ -100,8 +121,31 @@ pub fn least_recent_with(z: Sizes, valid: &[u64; 8], recency: &[u8; 8], v: u32) 
     0
 }
 
-// The frame that way 7 takes: the least recent whose block has wear below W; where every frame holds a worn block, the least recent.
-pub fn evict_frame(z: Sizes, frames: &[u32; 8], recency: &[u8; 8], wear: &[u32]) -> usize
+// The frame that way 7 takes, by the record's policy: one whose block has wear below W; where every frame holds a worn block, one of all.
+pub fn evict_frame(
+    z: Sizes,
+    frames: &[u32; 8],
+    recency: &[u8; 8],
+    uses: &[u32; 8],
+    wear: &[u32],
+) -> usize
+    requires { ⌜ UsesOccupied (sizesOf z) (now frames) (now recency) (now uses) (now wear) ⌝ }
+    ensures { λ r. ⌜ (
+        let d = numbers [] (now (frames .entry)) [] (now (recency .entry)) (now (uses .entry)) in
+        r ≡ evictFrame policyChoice (sizesOf z) d (now (wear .entry))) ⌝ }
+{
+    if z.policy != 2 {
+        return evict_oldest(z, frames, recency, wear);
+    }
+    let among = lfu::unworn(z, frames, wear);
+    if 0 < among {
+        return lfu::least_used(z, recency, uses, among);
+    }
+    lfu::least_used(z, recency, uses, bitmap::first(z.frames))
+}
+
+// The least recent frame whose block has wear below W; where every frame holds a worn block, the least recent.
+fn evict_oldest(z: Sizes, frames: &[u32; 8], recency: &[u8; 8], wear: &[u32]) -> usize
     requires { ⌜ AllOccupied (sizesOf z) (now frames) (now recency) (now wear) ⌝ }
     ensures { λ r. ⌜ (
         let d = numbers [] (now (frames .entry)) [] (now (recency .entry)) [] in

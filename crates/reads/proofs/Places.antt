@@ -138,7 +138,7 @@ wayOf Flash = 3
 
 abbrev pub after : Sizes → Directory → Found → Directory
 after sz d Slot = d
-after sz d (Frame f) = touched sz d f
+after sz d (Frame f) = touched sz false d f
 after sz d Flash = d
 
 abbrev Below : Sizes → Found → Type 0

@@ -29,7 +29,7 @@ pub struct Answered {
     pub mends: u32,
 }
 
-// Reads page n into the page buffer, and answers its way: 1 from a slot, 2 from a frame, which becomes most recent, 3 from flash. Where
+// Reads page n into the page buffer, and answers its way: 1 from a slot, 2 from a frame, which is used, 3 from flash. Where
 // flash refuses, the page buffer stays as it was.
 pub fn read(
     z: Sizes,
@@ -76,7 +76,7 @@ pub fn read(
             mends: given.mends,
         },
         Found::Frame(f) => {
-            numbers::touch(z, recency, f);
+            numbers::used(z, recency, uses, f, false);
             Answered {
                 way: 2,
                 fault: given.fault,

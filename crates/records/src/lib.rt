@@ -3,7 +3,7 @@ use cache::Directory;
 use cache::Sizes;
 use cache::entry;
 
-// The sizes S, K, N, P, B, W, with no option.
+// The sizes S, K, N, P, B, W, with LRU and no other option.
 pub fn sizes(s: u32, k: u32, n: u32, p: u32, b: u32, w: u32) -> Sizes {
     Sizes {
         page_size: s,
@@ -29,7 +29,7 @@ pub fn middling() -> Sizes {
     sizes(512, 16, 256, 100, 5, 1000)
 }
 
-// Slot i holds page start + i * step, and frame f all pages of block f.
+// Slot i holds page start + i * step, and frame f all pages of block f, with one use.
 pub fn filled(s: Sizes, start: u32, step: u32) -> Directory {
     let frames = with_blocks(Directory::vacant(), s);
     with_pages(frames, 0, s.slots as usize, start, step)
@@ -56,16 +56,22 @@ fn with_pages(d: Directory, a: usize, e: usize, start: u32, step: u32) -> Direct
     r
 }
 
-// Frame f holds block f with all its pages valid.
+// Frame f holds block f, for each frame.
 fn with_blocks(d: Directory, s: Sizes) -> Directory {
     let mut r = d;
     let mut f = 0;
     while f < s.frames {
-        let held = with_frame(r, f as usize, f);
-        r = with_valid(held, f as usize, all_pages(s.pages_per_block));
+        r = with_block(r, f, s.pages_per_block);
         f += 1;
     }
     r
+}
+
+// Frame f holds block f with all its k pages valid, and has one use.
+fn with_block(d: Directory, f: u32, k: u32) -> Directory {
+    let held = with_frame(d, f as usize, f);
+    let full = with_valid(held, f as usize, all_pages(k));
+    with_uses(full, f as usize, 1)
 }
 
 // All bits below k.

@@ -6,13 +6,13 @@ use cache::Sizes;
 use cache::VACANT;
 use cache::entry;
 ghost use mathlib.Core.Path.{_≡_};
-ghost use mathlib.Core.Bool.{not, _||_};
+ghost use mathlib.Core.Bool.{not, cond, _||_};
 ghost use mathlib.Core.List.{[]};
 ghost use Prim.Native.Nat.{_<_};
-ghost use lib.Dec.{eqb};
+ghost use lib.Dec.{ltb, eqb};
 ghost use lib.ListN.{length, getD};
 ghost use Rattle.prelude.specs.Scan.{all, allPairs};
-ghost use Rattle.model.specs.Sizes.{InLimits};
+ghost use Rattle.model.specs.Sizes.{vacant, InLimits};
 ghost use Rattle.model.specs.Directory.{inFrame};
 ghost use Rattle.model.specs.Soundness.{sound, framesDiffer, listedOnce, framePast, slotPast, usesOk, Shape};
 ghost use Rattle.cache.specs.View.{sizesOf, directoryOf, numbers};
@@ -53,7 +53,7 @@ pub fn lists_sound(
         & order_ok(sizes, recency)
         & frames_past(sizes, frames, valid, recency)
         & slots_past(sizes, slots)
-        & uses_ok(sizes, uses);
+        & uses_ok(sizes, frames, uses);
     if !others {
         return false;
     }
@@ -236,15 +236,22 @@ fn slots_past(sizes: Sizes, slots: &[u32; 128]) -> bool
     ok
 }
 
-// No uses are counted yet.
-fn uses_ok(sizes: Sizes, uses: &[u32; 8]) -> bool
-    ensures { λ r. ⌜ r ≡ all 8 (usesOk (sizesOf sizes) (numbers [] [] [] [] (now (uses .entry)))) ⌝ }
+// Each occupied frame has at least one use, and each other none.
+fn uses_ok(sizes: Sizes, frames: &[u32; 8], uses: &[u32; 8]) -> bool
+    ensures { λ r. ⌜ r ≡ all 8 (usesOk (sizesOf sizes) (numbers [] (now (frames .entry)) [] [] (now (uses .entry)))) ⌝ }
 {
     let mut ok = true;
     let mut f = 0;
     while f < 8 {
-        ok = ok & (uses[f] == 0);
+        ok = ok & counted(frames[f], uses[f]);
         f += 1;
     }
     ok
+}
+
+// Whether a frame with entry x may have u uses.
+fn counted(x: u32, u: u32) -> bool
+    ensures { λ r. ⌜ r ≡ cond (eqb x vacant) (eqb u 0) (ltb 0 u) ⌝ }
+{
+    if x == VACANT { u == 0 } else { 0 < u }
 }

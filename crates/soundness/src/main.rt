@@ -73,12 +73,17 @@ fn sizes_long() {
     );
 }
 
-// Each option other than 0, at the largest sizes.
+// The policies, and each other option, at the largest sizes.
 fn options() {
     let s = largest();
-    vacant(b"policy 1", with_options(s, 1, 0, 0, 0), false);
-    vacant(b"policy 2", with_options(s, 2, 0, 0, 0), false);
+    vacant(b"policy 1", with_options(s, 1, 0, 0, 0), true);
+    vacant(b"policy 2", with_options(s, 2, 0, 0, 0), true);
     vacant(b"policy 3", with_options(s, 3, 0, 0, 0), false);
+    vacant(
+        b"policy 4294967295",
+        with_options(s, 4294967295, 0, 0, 0),
+        false,
+    );
     vacant(b"coded 1", with_options(s, 0, 1, 0, 0), false);
     vacant(b"coded 2", with_options(s, 0, 2, 0, 0), false);
     vacant(b"1 shelf page", with_options(s, 0, 0, 1, 0), false);
@@ -96,7 +101,7 @@ fn largest_records() {
     slots_in_turn(s, d, 128, 262016, 262144);
     frames_in_turn(s, d, 8, 4096);
     order_in_turn(s, d, 8);
-    uses_in_turn(s, d);
+    uses_in_turn(s, d, 8);
 }
 
 // Slots whose pages share remainders by 4096 with each other, or with pages in frames.
@@ -119,7 +124,7 @@ fn middling_records() {
     slots_in_turn(s, d, 100, 3900, 4096);
     frames_in_turn(s, d, 5, 256);
     order_in_turn(s, d, 5);
-    uses_in_turn(s, d);
+    uses_in_turn(s, d, 5);
     bits_at_k(s, d);
     entries_past(s, d);
 }
@@ -163,11 +168,18 @@ fn order_in_turn(s: Sizes, d: Directory, b: u8)
     order.each(b"order with frame 255", Entry::Order(255), all);
 }
 
-// Each of the 8 use counts in turn.
-fn uses_in_turn(s: Sizes, d: Directory) {
-    let uses = entries(s, d, 0, 8);
-    uses.each(b"a use counted", Entry::Uses(1), 8);
-    uses.each(b"4294967295 uses counted", Entry::Uses(4294967295), 8);
+// The use counts of the B occupied frames in turn, then of all 8 frames in a vacant directory.
+fn uses_in_turn(s: Sizes, d: Directory, b: usize) {
+    let uses = entries(s, d, 0, b);
+    uses.each(b"occupied frame with no use", Entry::Uses(0), b as u64);
+    uses.each(b"occupied frame with 1 use", Entry::Uses(1), 0);
+    uses.each(
+        b"occupied frame with 4294967295 uses",
+        Entry::Uses(4294967295),
+        0,
+    );
+    let free = entries(s, Directory::vacant(), 0, 8);
+    free.each(b"vacant frame with a use", Entry::Uses(1), 8);
 }
 
 // With 16 pages in a block: valid bits at 15, 16 and 63.
@@ -186,6 +198,7 @@ fn entries_past(s: Sizes, d: Directory) {
     frames.each(b"frame past B with a block", Entry::Frame(9), 3);
     frames.each(b"frame past B with a valid page", Entry::Valid(1), 3);
     frames.each(b"order past B with frame 0", Entry::Order(0), 3);
+    frames.each(b"a use past B", Entry::Uses(1), 3);
 }
 
 // These sizes with nothing cached.

@@ -6,13 +6,13 @@ use Prim.Native.Nat.{ℕ, _≤_}
 use native.Mathlib.Omega.{arith}
 use Rattle.model.specs.Sizes as model
 use Rattle.model.specs.Directory as cached
-use Rattle.model.specs.Policy.{leastRecent}
+use Rattle.model.specs.Policy.{policyChoice}
 use Rattle.model.specs.Formats.{codeFor, storeFormat, StoreMatches, StoreNear}
 use Rattle.model.specs.Calls.{flashCells, openStore, openDone}
 use Rattle.model.specs.Lists.{opened, Borne}
 use Rattle.model.specs.Shelf.{plainly, ShelfOpened, ShelfStore, ShelfResult, ShelfReference, ShelfChosen, storeOpen, noEntries}
 use Rattle.model.specs.Shelf.{shelfCall, shelfBookSays, shelfFed, ShelfGives, ShelfClaim}
-use Rattle.model.proofs.Plan.{leastRecent-picks}
+use Rattle.model.proofs.Plan.{policyChoice-picks}
 use Rattle.model.proofs.Demand3.{cells-fit}
 use Rattle.model.proofs.Soundness.{limits-of}
 use Rattle.model.proofs.Opening.{open-accepted}
@@ -25,16 +25,16 @@ use Rattle.cache.specs.View.{sizesOf}
 use Rattle.store.specs.declared.Cache.{Cache}
 use Rattle.store.specs.View.{Lent, storeOf}
 use Rattle.store.specs.Histories.{Made, read, write, part, step, flush, callOf, cacheAfter, lentAfter, resultOf, Turn, lentTo}
-use Rattle.store.specs.Histories.{AsContracted, leastRecentOf, saidBy, fedBy, StillNear, Claim, CodesMatch, begun, Demand3}
+use Rattle.store.specs.Histories.{AsContracted, byPolicy, saidBy, fedBy, StillNear, Claim, CodesMatch, begun, Demand3}
 
 -- the calls of a list, each by the least recently used block
 abbrev chosen : List Turn → List ShelfChosen
 chosen [] = []
-chosen (t ∷ ts) = leastRecentOf (t .made) ∷ chosen ts
+chosen (t ∷ ts) = byPolicy (t .made) ∷ chosen ts
 
 chosen-pick : (ts : List Turn) → AllShelfPick (chosen ts)
 chosen-pick [] = tt
-chosen-pick (t ∷ ts) = (leastRecent-picks, chosen-pick ts)
+chosen-pick (t ∷ ts) = (policyChoice-picks, chosen-pick ts)
 
 -- the store after a call is the one in what came out of it
 store-after : (u : Lent) (m : Made) → resultOf u m .store ≡ storeOf (cacheAfter m) (lentAfter u m)
@@ -50,7 +50,7 @@ module _ (sz : model.Sizes) (u₀ : Lent) where
 
   -- what the reference is fed, with a result x of the call m
   abbrev fedWith : ShelfReference → Made → ShelfResult → ShelfReference
-  fedWith r m x = shelfFed sz (sz .shelfPages) r (leastRecentOf m) (shelfBookSays sz (sz .shelfPages) r (leastRecentOf m) (x .answer))
+  fedWith r m x = shelfFed sz (sz .shelfPages) r (byPolicy m) (shelfBookSays sz (sz .shelfPages) r (byPolicy m) (x .answer))
       (flashCells storeFormat sz (x .store .store .lent))
 
   from-model : (ts : List Turn) (c : Cache) (u : Lent) (r : ShelfReference) → sizesOf (c .sizes) ≡ sz → AsContracted c u ts
@@ -59,23 +59,23 @@ module _ (sz : model.Sizes) (u₀ : Lent) where
   from-model (t ∷ ts) c u r e h a = λ near.
       let m : Made = t .made in
       let v : Lent = lentTo u t in
-      let k : resultOf v m ≡ shelfCall storeFormat (sz .shelfPages) leastRecent (storeOf c v) (plainly (callOf m)) = h .0
-      ∙ ap (λ (w : model.Sizes). shelfCall storeFormat (w .shelfPages) leastRecent (storeOf c v) (plainly (callOf m))) e in
+      let k : resultOf v m ≡ shelfCall storeFormat (sz .shelfPages) policyChoice (storeOf c v) (plainly (callOf m)) = h .0
+      ∙ ap (λ (w : model.Sizes). shelfCall storeFormat (w .shelfPages) policyChoice (storeOf c v) (plainly (callOf m))) e in
       let b = a (t .flash) (t .codes) near in
       let same : sizesOf (cacheAfter m .sizes) ≡ sz = ap (λ (s : ShelfStore). s .store .cache .sizes) (sym (store-after v m))
       ∙ ap (λ (x : ShelfResult). x .store .store .cache .sizes) k
-      ∙ sizes-stay storeFormat leastRecent (sz .shelfPages) (storeOf c v) (plainly (callOf m)) ∙ e in
+      ∙ sizes-stay storeFormat policyChoice (sz .shelfPages) (storeOf c v) (plainly (callOf m)) ∙ e in
       record {
-        answers = subst (λ (x : ShelfResult). x .answer ≡ shelfBookSays sz (sz .shelfPages) r (leastRecentOf m) (x .answer) .answer) (sym k)
+        answers = subst (λ (x : ShelfResult). x .answer ≡ shelfBookSays sz (sz .shelfPages) r (byPolicy m) (x .answer) .answer) (sym k)
             (b .answers);
         reads = subst (ShelfGives (r .reference .array) (plainly (callOf m))) (sym k) (b .reads);
         near = subst (λ (s : ShelfStore). Borne storeFormat StoreNear sz
-            (shelfFed sz (sz .shelfPages) r (leastRecentOf m) (saidBy sz r v m) (flashCells storeFormat sz (s .store .lent)) .reference)
+            (shelfFed sz (sz .shelfPages) r (byPolicy m) (saidBy sz r v m) (flashCells storeFormat sz (s .store .lent)) .reference)
             (s .store .lent)) (store-after v m)
             (subst (λ (x : ShelfResult). Borne storeFormat StoreNear sz (fedWith r m x .reference) (x .store .store .lent)) (sym k)
             (b .borne));
         then = from-model ts (cacheAfter m) (lentAfter v m) (fedBy sz r v m) same (h .1)
-            (subst (λ (s : ShelfStore). Left ts s (shelfFed sz (sz .shelfPages) r (leastRecentOf m) (saidBy sz r v m)
+            (subst (λ (s : ShelfStore). Left ts s (shelfFed sz (sz .shelfPages) r (byPolicy m) (saidBy sz r v m)
             (flashCells storeFormat sz (s .store .lent)))) (store-after v m)
             (subst (λ (x : ShelfResult). Left ts (x .store) (fedWith r m x)) (sym k) (b .then)));
       }

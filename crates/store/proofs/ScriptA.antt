@@ -16,10 +16,12 @@ use Rattle.model.specs.Soundness.{usesOk, sound}
 use Rattle.model.specs.Policy.{inBlock, slotOf, inSlots, frameWith, frameOf, validCount, slotCount, readWay, leastRecent, victim}
 use Rattle.model.specs.Policy.{fewestValid, evictable, anyEvictable, evictFrame, evictionPlan, plan, occupied, lowestInSlots, dueOf}
 use Rattle.model.specs.Policy.{cached, isWorn, lowestWorn}
+use Rattle.model.specs.Policy.{fewestUses, policyChoice}
 use Rattle.model.specs.Moves.{flashPage, cellAt, programmed, worn, wornBy, recencyAfter, touched, putSlot, entered, putSlotPage}
 use Rattle.model.specs.Moves.{putFramePage}
 use Rattle.model.specs.Moves.{joined, filled, joinedPages, unmet, spare, taken, givenSlot, exchanged, exchangedPages, vacated, merged}
 use Rattle.model.specs.Moves.{rewrittenPages, readDirectory, written, stepped, readPage, writtenPages, steppedPages}
+use Rattle.model.specs.Moves.{oneMore}
 use Rattle.model.specs.Calls.{checked, readOutcome, writeOutcome, stepOutcome, steps, flushOutcome, decide, stepsPages, callPages, Page}
 use Rattle.model.specs.Calls.{Buffers, lentOk, openStore, zeroPage, memoryOf, buffersOf, flashCells, carriedOut, callReading, call}
 use Rattle.model.specs.Calls.{readsAll, heeding, faultOf, faultMet, somePage, mendsOf, mendsMet, readsFlash, readsPage, stepsMerge}
@@ -61,9 +63,9 @@ sizes = record {
 abbrev pub lentA : Lent
 lentA = lent (replicate 6 255) [] [] (replicate 3 0) (replicate 2 0) (replicate 2 0) []
 
--- a record with pages m and n in its two slots, and block b with the valid pages v in its frame
-abbrev holding : ℕ → ℕ → ℕ → ℕ → Cache
-holding m n b v = record {
+-- a record with pages m and n in its two slots, and block b with the valid pages v and c uses in its frame
+abbrev holding : ℕ → ℕ → ℕ → ℕ → ℕ → Cache
+holding m n b v c = record {
   sizes = sizes;
   entries = replicate 8 vacant;
   directory = record {
@@ -71,43 +73,43 @@ holding m n b v = record {
     frames = map blockNo (b ∷ replicate 7 vacant);
     valid = v ∷ replicate 7 0;
     recency = 0 ∷ 1 ∷ 2 ∷ 3 ∷ 4 ∷ 5 ∷ 6 ∷ 7 ∷ [];
-    uses = replicate 8 0;
+    uses = c ∷ replicate 7 0;
   };
 }
 
 abbrev pub opening : Opened
-opening = record { cache = holding vacant vacant vacant 0; answer = openings.Done }
+opening = record { cache = holding vacant vacant vacant 0 0; answer = openings.Done }
 
 abbrev byte : ℕ → Page
 byte b = b ∷ []
 
 -- write 0, 2, 4 and 3, of which the last erases block 0
 abbrev written-0 : Made
-written-0 = made.write (pageNo 0) (byte 10) (record { cache = holding 0 vacant vacant 0; answer = writes.Done 3 })
+written-0 = made.write (pageNo 0) (byte 10) (record { cache = holding 0 vacant vacant 0 0; answer = writes.Done 3 })
     (lent (replicate 6 255) [] [] (replicate 3 0) (10 ∷ 0 ∷ []) (0 ∷ 0 ∷ []) [])
 
 abbrev written-2 : Made
-written-2 = made.write (pageNo 2) (byte 20) (record { cache = holding 0 2 vacant 0; answer = writes.Done 3 })
+written-2 = made.write (pageNo 2) (byte 20) (record { cache = holding 0 2 vacant 0 0; answer = writes.Done 3 })
     (lent (replicate 6 255) [] [] (replicate 3 0) (10 ∷ 20 ∷ []) (0 ∷ 0 ∷ []) [])
 
 abbrev written-4 : Made
-written-4 = made.write (pageNo 4) (byte 30) (record { cache = holding 4 2 0 1; answer = writes.Done 5 })
+written-4 = made.write (pageNo 4) (byte 30) (record { cache = holding 4 2 0 1 1; answer = writes.Done 5 })
     (lent (replicate 6 255) [] [] (replicate 3 0) (30 ∷ 20 ∷ []) (10 ∷ 0 ∷ []) [])
 
 abbrev written-3 : Made
-written-3 = made.write (pageNo 3) (byte 40) (record { cache = holding 4 3 1 1; answer = writes.Rewrote (blockNo 0) 1 })
+written-3 = made.write (pageNo 3) (byte 40) (record { cache = holding 4 3 1 1 1; answer = writes.Rewrote (blockNo 0) 1 })
     (lent (10 ∷ 255 ∷ 255 ∷ 255 ∷ 255 ∷ 255 ∷ []) [] [] (1 ∷ 0 ∷ 0 ∷ []) (30 ∷ 40 ∷ []) (20 ∷ 255 ∷ []) [])
 
 -- read 2 from the frame, and 1 from flash
 abbrev read-2 : Made
-read-2 = made.read (pageNo 2) (byte 0) (record { cache = holding 4 3 1 1; answer = reads.Done 2 }) (byte 20)
+read-2 = made.read (pageNo 2) (byte 0) (record { cache = holding 4 3 1 1 2; answer = reads.Done 2 }) (byte 20)
 
 abbrev read-1 : Made
-read-1 = made.read (pageNo 1) (byte 0) (record { cache = holding 4 3 1 1; answer = reads.Done 3 }) (byte 255)
+read-1 = made.read (pageNo 1) (byte 0) (record { cache = holding 4 3 1 1 2; answer = reads.Done 3 }) (byte 255)
 
 -- the flush rewrites blocks 1 and 2
 abbrev flushed : Made
-flushed = made.flush (record { cache = holding vacant vacant vacant 0; answer = flushes.Done 2 1 })
+flushed = made.flush (record { cache = holding vacant vacant vacant 0 0; answer = flushes.Done 2 1 })
     (10 ∷ 255 ∷ 20 ∷ 40 ∷ 30 ∷ 255 ∷ []) [] [] (1 ∷ 1 ∷ 1 ∷ []) (30 ∷ 255 ∷ [])
 
 -- between the calls no bit flips
@@ -130,16 +132,15 @@ accepted = refl
 
 -- each call was made on what the one before it left, and did what its contract says
 pub as-contracted : AsContracted (opening .cache) lentA turns
-unfolding directoryOf shelfCall shelfOk shelved shelve entriesAfter shelfAfter shelvingReads ordinary callReading readsAll heeding
-    faultOf faultMet somePage mendsOf mendsMet sum readsFlash readsPage stepsMerge
-    mergesPage cellAt isCoded isMarked formatOf torn flashCells usesOk carriedOut memoryOf buffersOf zeroPage lentOk callPages stepsPages
-    decide flushOutcome steps stepOutcome
-    writeOutcome readOutcome checked steppedPages writtenPages readPage stepped written readDirectory rewrittenPages merged vacated
-    exchangedPages exchanged givenSlot taken spare unmet joinedPages filled joined putFramePage putSlotPage entered putSlot touched
-    recencyAfter wornBy worn programmed flashPage lowestWorn isWorn cached dueOf lowestInSlots occupied plan evictionPlan evictFrame
-    anyEvictable evictable fewestValid victim leastRecent readWay slotCount validCount frameOf frameWith inSlots slotOf inBlock inFrame
-    sound framePast slotPast listedOnce cachedOnce framesDiffer slotsDiffer frameOk slotOk shapeOk sizesOk every first firstFrom count all
-    allPairs tab tabFrom bit mask nth argmax least pageAt pagesOf flat
+unfolding directoryOf shelfCall shelfOk shelved shelve entriesAfter shelfAfter shelvingReads ordinary callReading readsAll heeding faultOf
+    faultMet somePage mendsOf mendsMet sum readsFlash readsPage stepsMerge mergesPage cellAt isCoded isMarked formatOf torn flashCells
+    usesOk carriedOut memoryOf buffersOf zeroPage lentOk callPages stepsPages decide flushOutcome steps stepOutcome writeOutcome
+    readOutcome checked steppedPages writtenPages readPage stepped written readDirectory rewrittenPages merged vacated exchangedPages
+    exchanged givenSlot taken spare unmet joinedPages filled joined putFramePage putSlotPage entered putSlot touched recencyAfter oneMore
+    wornBy worn programmed flashPage lowestWorn isWorn cached dueOf lowestInSlots occupied plan evictionPlan evictFrame anyEvictable
+    evictable fewestValid victim policyChoice fewestUses leastRecent readWay slotCount validCount frameOf frameWith inSlots slotOf inBlock
+    inFrame sound framePast slotPast listedOnce cachedOnce framesDiffer slotsDiffer frameOk slotOk shapeOk sizesOk every first firstFrom
+    count all allPairs tab tabFrom bit mask nth argmax least pageAt pagesOf flat
 as-contracted = (refl, (refl, (refl, (refl, (refl, (refl, (refl, tt)))))))
 
 pub accepted-answer : storeOpen (sizesOf sizes) (lentA .below) (lentA .shelf) .answer ≡ openDone

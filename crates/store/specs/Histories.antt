@@ -4,7 +4,7 @@ use mathlib.Core.List.{List, [], _∷_}
 use Prim.Native.Nat.{ℕ, _*_, _<_}
 use lib.ListN.{getD}
 use Rattle.model.specs.Sizes as model
-use Rattle.model.specs.Policy.{leastRecent}
+use Rattle.model.specs.Policy.{policyChoice}
 use Rattle.model.specs.Calls as calls
 use Rattle.model.specs.Calls.{Call, Page, Outcome, flashCells, openDone}
 use Rattle.model.specs.Formats.{storeFormat, StoreMatches, StoreNear}
@@ -65,7 +65,7 @@ resultOf u (flush out flash′ codes′ marks′ wear′ bspace′) = flushResul
 
 -- the contract of a call, on record c and buffers u: this is the `ensures` of `Cache::read`, `write`, `write_part`, `flush_step`, `flush`
 abbrev pub Contract : Cache → Lent → Made → Type 0
-Contract c u m = resultOf u m ≡ storeCall leastRecent (storeOf c u) (plainly (callOf m))
+Contract c u m = resultOf u m ≡ storeCall policyChoice (storeOf c u) (plainly (callOf m))
 
 -- a call, before which bits of flash and codes may have flipped: flash and codes as the call finds them
 pub record Turn : Type 0 where
@@ -86,16 +86,17 @@ AsContracted c u [] = Unit {0}
 AsContracted c u (t ∷ ts) = Contract c (lentTo u t) (t .made)
     × AsContracted (cacheAfter (t .made)) (lentAfter (lentTo u t) (t .made)) ts
 
-abbrev pub leastRecentOf : Made → ShelfChosen
-leastRecentOf m = record { choice = leastRecent; call = plainly (callOf m) }
+-- the call, with the choice of the record's policy
+abbrev pub byPolicy : Made → ShelfChosen
+byPolicy m = record { choice = policyChoice; call = plainly (callOf m) }
 
 -- what the book says of a call on the buffers u; it is told by the answer of refusals that requests add
 abbrev pub saidBy : model.Sizes → ShelfReference → Lent → Made → Outcome
-saidBy sz r u m = shelfBookSays sz (sz .shelfPages) r (leastRecentOf m) (resultOf u m .answer)
+saidBy sz r u m = shelfBookSays sz (sz .shelfPages) r (byPolicy m) (resultOf u m .answer)
 
 -- what runs beside the store, after the call
 abbrev pub fedBy : model.Sizes → ShelfReference → Lent → Made → ShelfReference
-fedBy sz r u m = shelfFed sz (sz .shelfPages) r (leastRecentOf m) (saidBy sz r u m) (flashCells storeFormat sz (lentAfter u m .below))
+fedBy sz r u m = shelfFed sz (sz .shelfPages) r (byPolicy m) (saidBy sz r u m) (flashCells storeFormat sz (lentAfter u m .below))
 
 -- every cell is near what it was when it was last programmed, or at opening
 abbrev pub StillNear : model.Sizes → ShelfReference → Lent → Type 0

@@ -10,7 +10,7 @@ use cache::Sizes;
 ghost use mathlib.Core.Path.{_≡_};
 ghost use mathlib.Core.List.{[]};
 ghost use lib.ListN.{length};
-ghost use Rattle.model.specs.Policy.{leastRecent};
+ghost use Rattle.model.specs.Policy.{policyChoice};
 ghost use Rattle.model.specs.Soundness.{Shape};
 ghost use Rattle.model.specs.Calls as calls;
 ghost use Rattle.model.specs.Shelf.{plainly, storeCall};
@@ -45,7 +45,7 @@ pub fn read(
         let u = lent (now (flash .entry)) (now (codes .entry)) (now (marks .entry))
         (now (wear .entry)) (now (pspace .entry)) (now (bspace .entry)) (now (shelf .entry)) in
         resultOn (readOf r) z d′ es u (now (page .exit))
-        ≡ storeCall leastRecent (storeOn z d es u) (plainly (calls.read (n .0) (now (page .entry))))) ⌝ }
+        ≡ storeCall policyChoice (storeOn z d es u) (plainly (calls.read (n .0) (now (page .entry))))) ⌝ }
 {
     if !shelf::idle(entries, shelf.len()) {
         let why = shelf::refusal(z, entries, slots, frames, valid, recency, uses);
@@ -98,7 +98,7 @@ pub fn write(
         let u′ = lent (now (flash .exit)) (now (codes .exit)) (now (marks .exit))
         (now (wear .exit)) (now (pspace .exit)) (now (bspace .exit)) (now (shelf .entry)) in
         resultOn (writeOf r) z d′ es u′ (now (page .entry))
-        ≡ storeCall leastRecent (storeOn z d es u) (plainly (calls.write (n .0) (now (page .entry))))) ⌝ }
+        ≡ storeCall policyChoice (storeOn z d es u) (plainly (calls.write (n .0) (now (page .entry))))) ⌝ }
 {
     if !shelf::idle(entries, shelf.len()) {
         let why = shelf::refusal(z, entries, slots, frames, valid, recency, uses);
@@ -153,7 +153,7 @@ pub fn part(
         let u′ = lent (now (flash .exit)) (now (codes .exit)) (now (marks .exit))
         (now (wear .exit)) (now (pspace .exit)) (now (bspace .exit)) (now (shelf .entry)) in
         resultOn (writeOf r) z d′ es u′ (now (page .exit))
-        ≡ storeCall leastRecent (storeOn z d es u) (plainly (calls.part (n .0) first (now (bytes .entry)) (now (page .entry))))) ⌝ }
+        ≡ storeCall policyChoice (storeOn z d es u) (plainly (calls.part (n .0) first (now (bytes .entry)) (now (page .entry))))) ⌝ }
 {
     if !shelf::idle(entries, shelf.len()) {
         let why = shelf::refusal(z, entries, slots, frames, valid, recency, uses);
@@ -206,7 +206,7 @@ pub fn step(
         let u′ = lent (now (flash .exit)) (now (codes .exit)) (now (marks .exit))
         (now (wear .exit)) (now (pspace .entry)) (now (bspace .exit)) (now (shelf .entry)) in
         resultOn (stepOf r) z d′ es u′ []
-        ≡ storeCall leastRecent (storeOn z d es u) (plainly calls.step)) ⌝ }
+        ≡ storeCall policyChoice (storeOn z d es u) (plainly calls.step)) ⌝ }
 {
     if !shelf::idle(entries, shelf.len()) {
         let why = shelf::refusal(z, entries, slots, frames, valid, recency, uses);
@@ -255,7 +255,7 @@ pub fn flush(
         let u′ = lent (now (flash .exit)) (now (codes .exit)) (now (marks .exit))
         (now (wear .exit)) (now (pspace .entry)) (now (bspace .exit)) (now (shelf .entry)) in
         resultOn (flushOf r) z d′ es u′ []
-        ≡ storeCall leastRecent (storeOn z d es u) (plainly calls.flush)) ⌝ }
+        ≡ storeCall policyChoice (storeOn z d es u) (plainly calls.flush)) ⌝ }
 {
     if !shelf::idle(entries, shelf.len()) {
         let why = shelf::refusal(z, entries, slots, frames, valid, recency, uses);

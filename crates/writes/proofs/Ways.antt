@@ -11,7 +11,7 @@ use Rattle.model.specs.Sizes.{Sizes, vacant}
 use Rattle.model.specs.Directory.{Directory, frameAt}
 use Rattle.model.specs.Soundness.{Sound}
 use Rattle.model.specs.Policy.{Choice, slotOf, frameOf, isWorn, Plan, slotHit, frameHit, freeSlot, join, fill, exchange, evict, plan}
-use Rattle.model.specs.Policy.{victim, leastRecent, due}
+use Rattle.model.specs.Policy.{victim, policyChoice, due}
 use Rattle.model.specs.Moves.{Memory, wornBy, touched, putSlot, entered, stepped, written, steppedPages, writtenPages, putSlotPage}
 use Rattle.model.specs.Moves.{putFramePage, joined, joinedPages, filled, exchangedPages}
 use Rattle.model.specs.Formats.{storeFormat, chipFor}
@@ -20,7 +20,7 @@ use Rattle.model.specs.Calls.{memoryOf}
 use Rattle.model.specs.Lists.{Picks}
 use Rattle.model.proofs.Lookup.{block-vacant, found-slot, frame-is, no-frame}
 use Rattle.model.proofs.Steps as steps
-use Rattle.model.proofs.Plan.{leastRecent-picks, victim-lt, victim-pos, sole-own, occupied-all, fewest-pick, evict-pick, plan-elim}
+use Rattle.model.proofs.Plan.{policyChoice-picks, victim-lt, victim-pos, sole-own, occupied-all, fewest-pick, evict-pick, plan-elim}
 use Rattle.model.proofs.Plan.{eviction-elim}
 use Rattle.moves.specs.Spaces.{spaces}
 use Rattle.policy.specs.declared.decision.Plan as code
@@ -48,7 +48,7 @@ module _ (sz : Sizes) (d : Directory) (flash codes marks wear pspace bspace : Li
     pages-are = λ j. record { flash = flashCells storeFormat sz lent; pspace = h j; bspace = framePages sz bspace };
   }
 
-  pub way-2 : (f : ℕ) (d′ : Directory) (bspace′ : List ℕ) → d′ ≡ touched sz d f
+  pub way-2 : (f : ℕ) (d′ : Directory) (bspace′ : List ℕ) → d′ ≡ touched sz false d f
       → framePages sz bspace′ ≡ set (framePages sz bspace) (f * sz .K + n % sz .K) page
       → Wrote sz d lent n page (frameHit f) (writeDone 2 vacant 0) d′ (buffers flash codes marks wear pspace bspace′)
   unfolding writeOutcome isWorn written wornBy writtenPages putFramePage memoryOf flashCells
@@ -81,7 +81,7 @@ module _ (sz : Sizes) (d : Directory) (flash codes marks wear pspace bspace : Li
   }) h
 
   module _ (v f : ℕ) (d′ : Directory) (pspace′ bspace′ : List ℕ) where
-    pub way-4 : JoinEntered sz d v f pspace bspace n page d′ pspace′ bspace′
+    pub way-4 : JoinEntered sz false d v f pspace bspace n page d′ pspace′ bspace′
         → Wrote sz d lent n page (join v f) (writeDone 4 vacant 0) d′ (buffers flash codes marks wear pspace′ bspace′)
     unfolding writeOutcome isWorn written wornBy writtenPages putSlotPage joinedPages filled memoryOf spaces flashCells
     way-4 h = record {
@@ -91,7 +91,7 @@ module _ (sz : Sizes) (d : Directory) (flash codes marks wear pspace bspace : Li
       pages-are = beside _ pspace′ bspace′ (h .pages-are);
     }
 
-    pub way-5 : JoinEntered sz d v f pspace bspace n page d′ pspace′ bspace′
+    pub way-5 : JoinEntered sz true d v f pspace bspace n page d′ pspace′ bspace′
         → Wrote sz d lent n page (fill v f) (writeDone 5 vacant 0) d′ (buffers flash codes marks wear pspace′ bspace′)
     unfolding writeOutcome isWorn written wornBy writtenPages putSlotPage joinedPages filled memoryOf spaces flashCells
     way-5 h = record {
@@ -115,7 +115,7 @@ module _ (sz : Sizes) (d : Directory) (flash codes marks wear pspace bspace : Li
 
 -- a join and an entering beside any flash
 joined-beside : (sz : Sizes) (e d′ : Directory) (flash codes marks wear pspace bspace pspace′ bspace′ : List ℕ) (v f n : ℕ) (page : Page)
-    → JoinEntered sz e v f pspace bspace n page d′ pspace′ bspace′
+    → JoinEntered sz true e v f pspace bspace n page d′ pspace′ bspace′
     → memoryOf storeFormat sz (buffers flash codes marks wear pspace′ bspace′) ≡ putSlotPage
     (joinedPages (zeroPage sz) sz e (memoryOf storeFormat sz (buffers flash codes marks wear pspace bspace)) v f)
     (slotOf sz (joined sz e v f) vacant) page
@@ -160,7 +160,7 @@ module _ (sz : Sizes) (d : Directory) (flash codes marks wear pspace bspace : Li
   pub way-7 : (n reads : ℕ) (e d′ : Directory) (flash′ codes′ marks′ wear′ pspace′ bspace₁ bspace′ : List ℕ)
       → getD wear (frameAt d f) 0 < sz .W
       → BlockCleaned sz d evicting (frameAt d f) f e reads (buffers flash′ codes′ marks′ wear′ pspace bspace₁)
-      → JoinEntered sz e v f pspace bspace₁ n page d′ pspace′ bspace′
+      → JoinEntered sz true e v f pspace bspace₁ n page d′ pspace′ bspace′
       → Wrote sz d evicting n page (evict v f) (writeDone 7 (frameAt d f) reads) d′ (buffers flash′ codes′ marks′ wear′ pspace′ bspace′)
   unfolding writeOutcome isWorn written writtenPages
   way-7 n reads e d′ flash′ codes′ marks′ wear′ pspace′ bspace₁ bspace′ l w j =
@@ -168,7 +168,7 @@ module _ (sz : Sizes) (d : Directory) (flash codes marks wear pspace bspace : Li
       (λ a. rw (a, lt-leb (sz .W) (getD wear (frameAt d f) 0) l)) (λ a. rw a) in
       rw (t, writeOutcome) (record {
         answer-is = ap (writeDone 7 (frameAt d f)) (w .reads-are);
-        directory-is = j .directory-is ∙ ap (λ (x : Directory). entered sz (touched sz (joined sz x v f) f) n) (w .directory-is);
+        directory-is = j .directory-is ∙ ap (λ (x : Directory). entered sz (touched sz true (joined sz x v f) f) n) (w .directory-is);
         wear-is = w .wear-is;
         pages-are = joined-beside sz e d′ flash′ codes′ marks′ wear′ pspace bspace₁ pspace′ bspace′ v f n page j
             ∙ ap (λ (x : Memory Cell Page). putSlotPage (joinedPages (zeroPage sz) sz e x v f) (slotOf sz (joined sz e v f) vacant) page)
@@ -204,13 +204,13 @@ To sz d u n page p a d′ w′ m′ = Carried (writeOutcome sz (state d u) n p) 
     (writtenPages (chipFor sz) (zeroPage sz) sz d (memoryOf storeFormat sz u) n page p) a d′ w′ m′
 
 module _ (sz : Sizes) (d : Directory) (u : Buffers) (n : ℕ) (page : Page) (q : Writable sz d u n page) (found shown : code.Plan)
-    (is-plan : planOf found ≡ plan leastRecent sz d (u .wear) n) (is-shown : found ≡ shown) where
+    (is-plan : planOf found ≡ plan policyChoice sz d (u .wear) n) (is-shown : found ≡ shown) where
   pub holds : PlanHolds sz d (planOf shown)
   holds = subst (PlanHolds sz d) (sym is-plan ∙ ap planOf is-shown)
-      (plan-holds leastRecent leastRecent-picks sz d (q .ready .sound) (u .wear) n)
+      (plan-holds policyChoice policyChoice-picks sz d (q .ready .sound) (u .wear) n)
 
   pub by-plan : {a : Answer} {d′ : Directory} {w′ : List ℕ} {m′ : Memory Cell Page} → To sz d u n page (planOf shown) a d′ w′ m′
-      → To sz d u n page (plan leastRecent sz d (u .wear) n) a d′ w′ m′
+      → To sz d u n page (plan policyChoice sz d (u .wear) n) a d′ w′ m′
   by-plan {a} {d′} {w′} {m′} w = subst (λ (p : Plan). To sz d u n page p a d′ w′ m′) (sym (ap planOf is-shown) ∙ is-plan) w
 
 -- ---- and of ways 4 to 7

@@ -66,6 +66,6 @@ pub fn evict(
         f,
     );
     join::join(z, slots, frames, valid, recency, uses, pspace, bspace, v, f);
-    put::enter(z, slots, frames, valid, recency, uses, pspace, f, n, page);
+    put::enter_filled(z, slots, frames, valid, recency, uses, pspace, f, n, page);
     Write::Rewrote { block: b, merged }
 }

@@ -46,17 +46,17 @@ pub fn write(
     match room {
         Room::Join(v, f) => {
             join::join(z, slots, frames, valid, recency, uses, pspace, bspace, v, f);
-            put::enter(z, slots, frames, valid, recency, uses, pspace, f, n, page);
+            put::enter_joined(z, slots, frames, valid, recency, uses, pspace, f, n, page);
             return Write::Done { way: 4 };
         }
         Room::Fill(v, f) => {
             join::join(z, slots, frames, valid, recency, uses, pspace, bspace, v, f);
-            put::enter(z, slots, frames, valid, recency, uses, pspace, f, n, page);
+            put::enter_filled(z, slots, frames, valid, recency, uses, pspace, f, n, page);
             return Write::Done { way: 5 };
         }
         Room::Exchange(v, f) => {
             exchange::exchange(z, slots, frames, valid, recency, uses, pspace, bspace, v, f);
-            put::enter(z, slots, frames, valid, recency, uses, pspace, f, n, page);
+            put::enter_filled(z, slots, frames, valid, recency, uses, pspace, f, n, page);
             return Write::Done { way: 6 };
         }
         Room::Evict(v, f) => {

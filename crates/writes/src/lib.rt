@@ -8,7 +8,7 @@ use answer::Write;
 use cache::Sizes;
 use moves::numbers;
 use policy::decision::Plan;
-ghost use Rattle.model.specs.Policy.{leastRecent, plan};
+ghost use Rattle.model.specs.Policy.{policyChoice, plan};
 ghost use Rattle.cache.specs.View.{sizesOf, numbers};
 ghost use Rattle.answer.specs.Numbers.{writeOf};
 ghost use Rattle.answer.specs.Carried.{buffers};
@@ -42,7 +42,7 @@ pub fn write(
         let d′ = numbers (now (slots .exit)) (now (frames .exit)) (now (valid .exit)) (now (recency .exit)) (now (uses .exit)) in
         let u′ = buffers (now (flash .exit)) (now (codes .exit)) (now (marks .exit))
         (now (wear .exit)) (now (pspace .exit)) (now (bspace .exit)) in
-        Wrote (sizesOf z) d u (n .0) (now (page .entry)) (plan leastRecent (sizesOf z) d (now (wear .entry)) (n .0)) (writeOf r) d′ u′) ⌝ }
+        Wrote (sizesOf z) d u (n .0) (now (page .entry)) (plan policyChoice (sizesOf z) d (now (wear .entry)) (n .0)) (writeOf r) d′ u′) ⌝ }
 {
     let plan = policy::plan::plan(z, slots, frames, valid, recency, uses, n, wear);
     match plan {
@@ -52,7 +52,7 @@ pub fn write(
         }
         Plan::FrameHit(f) => {
             put::over_frame_page(z, bspace, f, n, page);
-            numbers::touch(z, recency, f);
+            numbers::used(z, recency, uses, f, false);
             return Write::Done { way: 2 };
         }
         Plan::FreeSlot(i) => {

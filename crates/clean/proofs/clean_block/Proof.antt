@@ -54,6 +54,12 @@ unfolding vacated
 returns c = let whole : tie.After-rewrite = search in let after : tie.After-join = search in let start : tie.Start = search in
     cleaned (start .pre) _ _ (after .join .ensures) _ _ _ _ _ _ _ (whole .rewrite .ensures)
 
+mul-uses : tie.Need-mul-uses
+mul-uses c = search needs
+
+element-write-uses : tie.Need-element-write-uses
+element-write-uses c = search needs
+
 pub clean-block-spec : {M : Type 1} → statement M
 clean-block-spec =
     tie.close
@@ -65,6 +71,8 @@ clean-block-spec =
     element-write-frames
     mul-valid
     element-write-valid
+    mul-uses
+    element-write-uses
     rewrite-requires
     same-length
     same-length-2

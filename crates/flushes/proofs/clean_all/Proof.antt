@@ -2,7 +2,7 @@ use borrow.Author.Needs.{needs}
 use native.Mathlib.Omega.{arith}
 use mathlib.Core.Path.{_≡_, sym, ap, _∙_}
 use Prim.Native.Nat.{_-_}
-use Rattle.model.specs.Policy.{leastRecent, due, dueOf}
+use Rattle.model.specs.Policy.{policyChoice, due, dueOf}
 use Rattle.answer.specs.Carried.{buffers}
 use Rattle.cache.specs.View.{sizesOf, numbers}
 use Rattle.policy.specs.Views.{dueView}
@@ -32,7 +32,7 @@ head c = search
 found : (c : tie.After-due2 Inv-loop μ-loop) →
     let start : tie.Start Inv-loop μ-loop = search in
     let a = start .args in due (c .due2 .given .0 .0 .0) (c .due2 .given .0 .1 .0)
-    ≡ dueOf leastRecent (sizesOf (a .z)) (numbers (head c .loop .slots) (head c .loop .frames) (head c .loop .valid) (a .recency .now)
+    ≡ dueOf policyChoice (sizesOf (a .z)) (numbers (head c .loop .slots) (head c .loop .frames) (head c .loop .valid) (a .recency .now)
     (head c .loop .uses))
 found c =
     let after-due : tie.After-due Inv-loop μ-loop = search in
@@ -46,7 +46,7 @@ loop-holds c =
 due-requires : tie.Need-due-requires Inv-loop μ-loop
 due-requires c κs =
     let at-loop : tie.At-loop Inv-loop μ-loop = search in
-    record { valid = _; uses = _; sound = at-loop .loop .inv .ready .sound }
+    record { valid = _; sound = at-loop .loop .inv .ready .sound }
 
 enum-known-due : tie.Need-enum-known-due Inv-loop μ-loop
 enum-known-due c = search needs

@@ -1,6 +1,6 @@
 use borrow.Author.Needs.{needs}
 use mathlib.Core.Path.{_≡_, sym, ap, _∙_}
-use Rattle.model.specs.Policy.{leastRecent, due, dueOf}
+use Rattle.model.specs.Policy.{policyChoice, due, dueOf}
 use Rattle.cache.specs.View.{sizesOf, numbers}
 use Rattle.policy.specs.Views.{dueView}
 use Rattle.flushes.proofs.Stepping.{due-same, step-clean, has-wear, step-worn, cleanable, step-done}
@@ -12,7 +12,7 @@ start c = search
 
 -- the block and the frame that are due
 found : (c : tie.After-due2) → due (c .due2 .given .0 .0 .0) (c .due2 .given .0 .1 .0)
-    ≡ dueOf leastRecent (sizesOf (start c .args .z)) (numbers (start c .args .slots .now) (start c .args .frames .now)
+    ≡ dueOf policyChoice (sizesOf (start c .args .z)) (numbers (start c .args .slots .now) (start c .args .frames .now)
     (start c .args .valid .now) (start c .args .recency .now) (start c .args .uses .now))
 found c =
     let after-due : tie.After-due = search in
@@ -21,7 +21,7 @@ found c =
 due-requires : tie.Need-due-requires
 due-requires c κs =
     let entry : tie.Start = search in
-    record { valid = _; uses = _; sound = entry .pre .sound }
+    record { valid = _; sound = entry .pre .sound }
 
 enum-known-due : tie.Need-enum-known-due
 enum-known-due c = search needs

@@ -1,6 +1,7 @@
 use borrow.Author.Needs.{needs}
 use native.Mathlib.Omega.{arith}
 use mathlib.Core.Path.{sym, ap, _∙_}
+use mathlib.Core.Bool.{false}
 use Rattle.model.specs.Sizes.{Sizes}
 use Rattle.model.specs.Directory.{Directory}
 use Rattle.cache.specs.View.{sizesOf, numbers}
@@ -8,10 +9,6 @@ use Rattle.moves.proofs.Recency.{listed, touched-is}
 use Rattle.reads.proofs.Places.{wayOf, after, frame-below, read-out, peeked-any}
 use Rattle.reads.proofs.read.Statement.{statement}
 use Rattle.reads.proofs.read.Tie as tie
-use Rattle.reads.proofs.read.Reads as reads
-use Rattle.reads.proofs.read.Lts as lts
-use Rattle.moves.proofs.numbers.touch.Reads as touch-reads
-use Rattle.reads.proofs.peek.Reads as peek-reads
 
 abbrev sizes : tie.Start → Sizes
 sizes s = sizesOf (s .args .z)
@@ -28,8 +25,8 @@ enum-told c = search needs
 enum-known-found : tie.Need-enum-known-found
 enum-known-found c = search needs
 
-touch-requires : tie.Need-touch-requires
-touch-requires c κs = let found : tie.After-found = search in let peek : tie.After-peek = search in let s : tie.Start = search in
+used-requires : tie.Need-used-requires
+used-requires c κs = let found : tie.After-found = search in let peek : tie.After-peek = search in let s : tie.Start = search in
     let k = peeked-any _ _ (peek .peek .ensures) in
     listed (sizes s) (directory s) _ (s .pre .0) (frame-below _ (directory s) _ _ (sym (found .found .given .1) ∙ k .found-is))
 
@@ -48,10 +45,10 @@ same-length-2 : tie.Need-same-length-2
 same-length-2 c = search needs
 
 returns-2 : tie.Need-returns-2
-returns-2 c = let touch : tie.After-touch = search in let found : tie.After-found = search in let peek : tie.After-peek = search in
+returns-2 c = let used : tie.After-used = search in let found : tie.After-found = search in let peek : tie.After-peek = search in
     let s : tie.Start = search in let e = found .found .given .1 in
     read-out (sizes s) (directory s) _ _ _ _ (peeked-any _ _ (peek .peek .ensures))
-    (touched-is (sizes s) (directory s) _ _ (touch .touch .ensures) ∙ sym (ap (after (sizes s) (directory s)) e)) (sym (ap wayOf e))
+    (touched-is (sizes s) false (directory s) _ _ _ (used .used .ensures) ∙ sym (ap (after (sizes s) (directory s)) e)) (sym (ap wayOf e))
 
 same-length-3 : tie.Need-same-length-3
 same-length-3 c = search needs
@@ -68,7 +65,7 @@ read-spec =
     peek-requires
     enum-told
     enum-known-found
-    touch-requires
+    used-requires
     enum-told-2
     same-length
     returns

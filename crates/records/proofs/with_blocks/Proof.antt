@@ -13,21 +13,6 @@ abbrev μ-loop : tie.MeasureT-loop
 loop-holds : tie.Need-loop-holds Inv-loop μ-loop
 loop-holds c = search needs
 
-cast-with-frame : tie.Need-cast-with-frame Inv-loop μ-loop
-cast-with-frame c = search needs
-
-with-frame-requires : tie.Need-with-frame-requires Inv-loop μ-loop
-with-frame-requires c κs = search needs
-
-cast-with-valid : tie.Need-cast-with-valid Inv-loop μ-loop
-cast-with-valid c = search needs
-
-all-pages-requires : tie.Need-all-pages-requires Inv-loop μ-loop
-all-pages-requires c κs = search needs
-
-with-valid-requires : tie.Need-with-valid-requires Inv-loop μ-loop
-with-valid-requires c κs = search needs
-
 add-f : tie.Need-add-f Inv-loop μ-loop
 add-f c = search needs
 
@@ -40,6 +25,9 @@ loop-again c = search needs
 returns : tie.Need-returns Inv-loop μ-loop
 returns c = search needs
 
+with-block-requires : tie.Need-with-block-requires Inv-loop μ-loop
+with-block-requires c κs = search needs
+
 pub with-blocks-spec : {M : Type 1} → statement M
 with-blocks-spec =
     tie.close
@@ -47,11 +35,7 @@ with-blocks-spec =
     Inv-loop
     μ-loop
     loop-holds
-    cast-with-frame
-    with-frame-requires
-    cast-with-valid
-    all-pages-requires
-    with-valid-requires
+    with-block-requires
     add-f
     loop-less
     loop-again

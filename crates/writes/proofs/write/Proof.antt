@@ -23,8 +23,8 @@ from-after-plan3 c = search
 abbrev from-after-over-frame-page : tie.After-over-frame-page → tie.After-plan3
 from-after-over-frame-page c = search
 
-abbrev from-after-touch : tie.After-touch → tie.After-over-frame-page
-from-after-touch c = search
+abbrev from-after-used : tie.After-used → tie.After-over-frame-page
+from-after-used c = search
 
 abbrev from-after-plan4 : tie.After-plan4 → tie.After-plan
 from-after-plan4 c = search
@@ -44,7 +44,7 @@ ruleset back = (
   from-after-over-slot,
   from-after-plan3,
   from-after-over-frame-page,
-  from-after-touch,
+  from-after-used,
   from-after-plan4,
   from-after-over-slot2,
   from-after-plan5,
@@ -101,8 +101,8 @@ over-frame-page-requires c κs =
       page-length = q .page-length;
     }
 
-touch-requires : tie.Need-touch-requires
-touch-requires c κs =
+used-requires : tie.Need-used-requires
+used-requires c κs =
     let after-plan3 : tie.After-plan3 = search back in
     let after-plan : tie.After-plan = search back in
     let start : tie.Start = search back in
@@ -122,7 +122,7 @@ returns-2 c =
     let after-plan : tie.After-plan = search back in
     let start : tie.Start = search back in
     by-plan _ _ _ _ _ (start .pre) _ _ (after-plan .plan .ensures) (after-plan3 .plan3 .given .1)
-    (way-2 _ _ _ _ _ _ _ _ _ _ _ _ _ (touched-is _ _ _ _ (c .touch .ensures)) (after-over-frame-page .over-frame-page .ensures))
+    (way-2 _ _ _ _ _ _ _ _ _ _ _ _ _ (touched-is _ _ _ _ _ _ (c .used .ensures)) (after-over-frame-page .over-frame-page .ensures))
 
 enum-known-plan-3 : tie.Need-enum-known-plan-3
 enum-known-plan-3 c = search needs
@@ -230,7 +230,7 @@ write-spec =
     returns
     enum-known-plan-2
     over-frame-page-requires
-    touch-requires
+    used-requires
     same-length-3
     same-length-4
     returns-2

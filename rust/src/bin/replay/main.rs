@@ -11,7 +11,7 @@ use std::io::{self, BufWriter, Read, Write};
 #[derive(Clone, Copy)]
 pub struct Release(u32);
 
-const RELEASE: Release = Release(4);
+const RELEASE: Release = Release(5);
 
 impl Release {
     /// Whether what request `since` brings, or the base where it is 0, is in force.
@@ -121,8 +121,8 @@ mod tests {
     fn the_dump_before_an_opening() {
         let said = replay("(dump)").concat();
         assert!(said.starts_with("(dump (sizes 0 0 0 0 0 0) (places 4294967295 "), "{said}");
-        let end = "(valid 0 0 0 0 0 0 0 0) (order 0 1 2 3 4 5 6 7) (flash 00000000) (wear) (pspace 00000000) (bspace 00000000))";
-        assert!(said.ends_with(end), "{said}");
+        let middle = " (valid 0 0 0 0 0 0 0 0) (order 0 1 2 3 4 5 6 7) (flash 00000000) (wear) (pspace 00000000) (bspace 00000000)";
+        assert!(said.contains(middle) && said.ends_with(" (policy 0) (uses 0 0 0 0 0 0 0 0))"), "{said}");
     }
 
     /// What follows p-space and b-space in the dump is of the options in force, and of no other.
@@ -139,22 +139,31 @@ mod tests {
         }
     }
 
-    /// An option that is in force is the store's to refuse, and it takes none yet.
+    /// An option that is in force is the store's to take or to refuse; it takes no other than the policy yet.
     #[test]
     fn options_reach_the_store() {
-        for options in ["1 0 0 0", "0 1 0 0", "0 0 1 0", "0 0 0 1"] {
-            let script = format!("(open 256 2 3 2 1 9 {options})\n(open 256 2 3 2 1 9 0 0 0 0)\n(reopen 256 2 3 2 1 9 {options})\n");
-            assert_eq!(replay(&script), ["(bad 1)", "(open (done))", "(bad 3)"]);
-            assert_eq!(replay_at(Release(12), &script), ["(open (refused 1))", "(open (done))", "(open (refused 1))"]);
+        let script = |options| format!("(open 256 2 3 2 1 9 {options})\n(open 256 2 3 2 1 9 0 0 0 0)\n(reopen 256 2 3 2 1 9 {options})\n");
+        for options in ["0 1 0 0", "0 0 1 0", "0 0 0 1"] {
+            assert_eq!(replay(&script(options)), ["(bad 1)", "(open (done))", "(bad 3)"]);
+            assert_eq!(replay_at(Release(12), &script(options)), ["(open (refused 1))", "(open (done))", "(open (refused 1))"]);
+        }
+        assert_eq!(replay(&script("3 0 0 0")), ["(open (refused 1))", "(open (done))", "(open (refused 1))"]);
+        for options in ["1 0 0 0", "2 0 0 0"] {
+            assert_eq!(replay_at(Release(4), &script(options)), ["(bad 1)", "(open (done))", "(bad 3)"]);
+            assert_eq!(replay(&script(options)), ["(open (done))"; 3]);
         }
     }
 
     #[test]
     fn what_the_options_add_to_a_record_can_be_spoilt() {
-        for spoil in ["policy 0 1", "coded 0 1", "shelf 0 1", "marked 0 1", "uses 0 1", "uses 7 1", "shelfno 0 0", "shelfno 7 4294967294"] {
-            let script = format!("(open 1 2 3 2 1 9 0 0 0 0)\n(spoil {spoil})\n(read 0)\n");
-            assert_eq!(replay(&script)[1], "(bad 2)", "{spoil}");
-            assert_eq!(replay_at(Release(12), &script)[1..], ["(read (refused 4))"], "{spoil}");
+        let script = |spoil| format!("(open 1 2 3 2 1 9 0 0 0 0)\n(spoil {spoil})\n(read 0)\n");
+        for spoil in ["coded 0 1", "shelf 0 1", "marked 0 1", "shelfno 0 0", "shelfno 7 4294967294"] {
+            assert_eq!(replay(&script(spoil))[1], "(bad 2)", "{spoil}");
+            assert_eq!(replay_at(Release(12), &script(spoil))[1..], ["(read (refused 4))"], "{spoil}");
+        }
+        for spoil in ["policy 0 3", "uses 0 1", "uses 7 1"] {
+            assert_eq!(replay_at(Release(4), &script(spoil))[1], "(bad 2)", "{spoil}");
+            assert_eq!(replay(&script(spoil))[1..], ["(read (refused 4))"], "{spoil}");
         }
     }
 }

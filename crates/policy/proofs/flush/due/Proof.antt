@@ -4,22 +4,22 @@ use mathlib.Core.Path.{_≡_, sym, ap, _∙_}
 use Prim.Native.Nat.{ℕ}
 use Rattle.address.specs.declared.BlockNo.{BlockNo}
 use Rattle.model.specs.Directory.{Directory, frameAt}
-use Rattle.model.specs.Policy.{leastRecent, occupied, inBlock, slotCount, lowestInSlots, dueOf, due}
+use Rattle.model.specs.Policy.{leastRecent, fewestUses, policyChoice, occupied, inBlock, slotCount, lowestInSlots, dueOf, due}
 use Rattle.cache.specs.View.{sizesOf, numbers}
-use Rattle.policy.specs.Views.{oldestOccupied}
+use Rattle.policy.specs.Views.{stepFrame}
 use Rattle.policy.proofs.Oldest.{due-frame, due-slots, due-clean}
 use Rattle.policy.proofs.flush.due.Statement.{statement}
 use Rattle.policy.proofs.flush.due.Tie as tie
 
 -- the directory as the call began
 abbrev whole : tie.Start → Directory
-whole c = numbers (c .args .slots .now) (c .args .frames .now) (c .pre .valid) (c .args .recency .now) (c .pre .uses)
+whole c = numbers (c .args .slots .now) (c .args .frames .now) (c .pre .valid) (c .args .recency .now) (c .args .uses .now)
 
-oldest : (c : tie.After-oldest-occupied) →
+taken : (c : tie.After-step-frame) →
     let start : tie.Start = search in
-    c .oldest-occupied .result ≡ oldestOccupied (sizesOf (start .args .z)) (whole start)
-unfolding oldestOccupied leastRecent occupied
-oldest c = c .oldest-occupied .ensures
+    c .step-frame .result ≡ stepFrame (sizesOf (start .args .z)) (whole start)
+unfolding stepFrame policyChoice fewestUses leastRecent occupied
+taken c = c .step-frame .ensures
 
 lowest : (c : tie.After-lowest-in-slots) →
     let start : tie.Start = search in
@@ -27,19 +27,19 @@ lowest : (c : tie.After-lowest-in-slots) →
 unfolding lowestInSlots slotCount inBlock
 lowest c = c .lowest-in-slots .ensures
 
-oldest-occupied-requires : tie.Need-oldest-occupied-requires
-oldest-occupied-requires c κs = record { slots = c .args .slots .now; valid = c .pre .valid; uses = c .pre .uses; sound = c .pre .sound }
+step-frame-requires : tie.Need-step-frame-requires
+step-frame-requires c κs = record { slots = c .args .slots .now; valid = c .pre .valid; sound = c .pre .sound }
 
 cast-if1 : tie.Need-cast-if1
 cast-if1 c = search needs
 
 returns : tie.Need-returns
-unfolding dueOf leastRecent occupied lowestInSlots slotCount inBlock
+unfolding dueOf policyChoice fewestUses leastRecent occupied lowestInSlots slotCount inBlock
 returns c =
-    let after-oldest-occupied : tie.After-oldest-occupied = search in
+    let after-step-frame : tie.After-step-frame = search in
     let start : tie.Start = search in
-    let e = oldest after-oldest-occupied in
-    ap (λ (b : BlockNo). due (b .0) (after-oldest-occupied .oldest-occupied .result)) (c .block .ensures)
+    let e = taken after-step-frame in
+    ap (λ (b : BlockNo). due (b .0) (after-step-frame .step-frame .result)) (c .block .ensures)
     ∙ ap (λ (g : ℕ). due (frameAt (whole start) g) g) e ∙ sym (due-frame (sizesOf (start .args .z)) (whole start) (start .pre .sound)
     (omega arith))
 
@@ -50,27 +50,27 @@ lowest-in-slots-requires c κs =
       frames = start .args .frames .now;
       valid = start .pre .valid;
       recency = start .args .recency .now;
-      uses = start .pre .uses;
+      uses = start .args .uses .now;
       sound = start .pre .sound;
     }
 
 returns-2 : tie.Need-returns-2
-unfolding dueOf leastRecent occupied lowestInSlots slotCount inBlock
+unfolding dueOf policyChoice fewestUses leastRecent occupied lowestInSlots slotCount inBlock
 returns-2 c =
     let after-lowest-in-slots : tie.After-lowest-in-slots = search in
-    let after-oldest-occupied : tie.After-oldest-occupied = search in
+    let after-step-frame : tie.After-step-frame = search in
     let start : tie.Start = search in
-    let e = oldest after-oldest-occupied in
+    let e = taken after-step-frame in
     let b = lowest after-lowest-in-slots in
     ap (λ (x : ℕ). due x 0) b ∙ sym (due-slots (sizesOf (start .args .z)) (whole start) (start .pre .sound) (omega arith) (omega arith))
 
 returns-3 : tie.Need-returns-3
-unfolding dueOf leastRecent occupied lowestInSlots slotCount inBlock
+unfolding dueOf policyChoice fewestUses leastRecent occupied lowestInSlots slotCount inBlock
 returns-3 c =
     let after-lowest-in-slots : tie.After-lowest-in-slots = search in
-    let after-oldest-occupied : tie.After-oldest-occupied = search in
+    let after-step-frame : tie.After-step-frame = search in
     let start : tie.Start = search in
-    let e = oldest after-oldest-occupied in
+    let e = taken after-step-frame in
     let b = lowest after-lowest-in-slots in
     sym (due-clean (sizesOf (start .args .z)) (whole start) (start .pre .sound) (omega arith) (omega arith))
 
@@ -87,7 +87,7 @@ pub due-spec : {M : Type 1} → statement M
 due-spec =
     tie.close
     (tie.spec
-    oldest-occupied-requires
+    step-frame-requires
     cast-if1
     mul-block
     element-copy-out-block

@@ -4,9 +4,10 @@ use mathlib.Core.Path.{_≡_, refl, sym, ap, _∙_}
 use lib.Dec.{eqb}
 use Rattle.model.specs.Sizes.{Sizes, vacant}
 use Rattle.model.specs.Directory.{Directory}
-use Rattle.model.specs.Policy.{inBlock, frameOf, validCount, slotCount, leastRecent, victim, fewestValid, evictable, anyEvictable}
-use Rattle.model.specs.Policy.{evictFrame, join, fill, exchange, evict}
-use Rattle.model.proofs.Plan.{leastRecent-picks, occupied-all, fewest-pick, plan-4, plan-5, plan-6, plan-7}
+use Rattle.model.specs.Policy.{inBlock, frameOf, validCount, slotCount, leastRecent, fewestUses, policyChoice, victim, fewestValid}
+use Rattle.model.specs.Policy.{evictable}
+use Rattle.model.specs.Policy.{anyEvictable, evictFrame, join, fill, exchange, evict}
+use Rattle.model.proofs.Plan.{policyChoice-picks, occupied-all, fewest-pick, plan-4, plan-5, plan-6, plan-7}
 use Rattle.cache.specs.View.{sizesOf, numbers}
 use Rattle.policy.specs.declared.decision.Victim.{Victim}
 use Rattle.policy.specs.Views.{victimOf}
@@ -55,19 +56,19 @@ unfolding fewestValid validCount
 fewest-is c = c .fewest-valid .ensures
 
 -- the frames of ways 6 and 7
-exchanged-is : (c : tie.After-least-recent-with) →
+exchanged-is : (c : tie.After-exchange-frame) →
     let start : tie.Start = search in
-    c .least-recent-with .result ≡ leastRecent (sizes start) (directory start)
+    c .exchange-frame .result ≡ policyChoice (sizes start) (directory start)
     (λ f. eqb (validCount (sizes start) (directory start) f) (fewestValid (sizes start) (directory start)))
-unfolding leastRecent validCount
+unfolding policyChoice fewestUses leastRecent validCount
 exchanged-is c =
     let after-fewest-valid : tie.After-fewest-valid = search in
-    rw (← (fewest-is after-fewest-valid)) (c .least-recent-with .ensures)
+    rw (← (fewest-is after-fewest-valid)) (c .exchange-frame .ensures)
 
 evicted-is : (c : tie.After-evict-frame) →
     let start : tie.Start = search in
-    c .evict-frame .result ≡ evictFrame leastRecent (sizes start) (directory start) (start .args .wear .now)
-unfolding evictFrame anyEvictable evictable leastRecent
+    c .evict-frame .result ≡ evictFrame policyChoice (sizes start) (directory start) (start .args .wear .now)
+unfolding evictFrame anyEvictable evictable policyChoice fewestUses leastRecent
 evicted-is c = c .evict-frame .ensures
 
 victim-requires : tie.Need-victim-requires
@@ -86,7 +87,8 @@ returns c =
     let s : tie.Start = search in
     let own = own-is after-frame-of in
     let b = after-victim .victim .result .block .0 in
-    rw (← (block-is after-victim)) (ap (join b) own ∙ sym (plan-4 leastRecent (sizes s) (directory s) (s .args .wear .now) b (omega arith)))
+    rw (← (block-is after-victim)) (ap (join b) own
+    ∙ sym (plan-4 policyChoice (sizes s) (directory s) (s .args .wear .now) b (omega arith)))
 
 free-frame-requires : tie.Need-free-frame-requires
 free-frame-requires c κs = search needs
@@ -103,21 +105,20 @@ returns-2 c =
     let own = own-is after-frame-of in
     let free = free-is after-free-frame in
     let b = after-victim .victim .result .block .0 in
-    rw (← (block-is after-victim)) (ap (fill b) free ∙ sym (plan-5 leastRecent (sizes s) (directory s) (s .args .wear .now) b (omega arith)
+    rw (← (block-is after-victim)) (ap (fill b) free ∙ sym (plan-5 policyChoice (sizes s) (directory s) (s .args .wear .now) b (omega arith)
     (omega arith)))
 
 fewest-valid-requires : tie.Need-fewest-valid-requires
 fewest-valid-requires c κs = search needs
 
-least-recent-with-requires : tie.Need-least-recent-with-requires
-least-recent-with-requires c κs =
+exchange-frame-requires : tie.Need-exchange-frame-requires
+exchange-frame-requires c κs =
     let after-fewest-valid : tie.After-fewest-valid = search in
     let s : tie.Start = search in
-    let k = fewest-pick (sizes s) (directory s) (s .pre .sound) leastRecent leastRecent-picks _ refl in
+    let k = fewest-pick (sizes s) (directory s) (s .pre .sound) policyChoice policyChoice-picks _ refl in
     record {
       slots = _;
       frames = _;
-      uses = _;
       sound = s .pre .sound;
       frame = _;
       frame-lt = k .0;
@@ -138,7 +139,7 @@ returns-3 c =
     let p = pages-is after-victim in
     let b = after-victim .victim .result .block .0 in
     rw (← (block-is after-victim)) (ap (exchange b) (exchanged-is c)
-    ∙ sym (plan-6 leastRecent (sizes s) (directory s) (s .args .wear .now) b (omega arith) (omega arith) (omega arith)))
+    ∙ sym (plan-6 policyChoice (sizes s) (directory s) (s .args .wear .now) b (omega arith) (omega arith) (omega arith)))
 
 evict-frame-requires : tie.Need-evict-frame-requires
 evict-frame-requires c κs =
@@ -149,7 +150,6 @@ evict-frame-requires c κs =
     record {
       slots = _;
       valid = _;
-      uses = _;
       sound = q .sound;
       wear-length = q .wear-length;
       block-lt = occupied-all (sizes s) (directory s) (q .sound) (omega arith);
@@ -168,7 +168,7 @@ returns-4 c =
     let p = pages-is after-victim in
     let b = after-victim .victim .result .block .0 in
     rw (← (block-is after-victim)) (ap (evict b) (evicted-is c) ∙ sym
-    (plan-7 leastRecent (sizes s) (directory s) (s .args .wear .now) b (omega arith) (omega arith) (omega arith)))
+    (plan-7 policyChoice (sizes s) (directory s) (s .args .wear .now) b (omega arith) (omega arith) (omega arith)))
 
 pub eviction-plan-spec : {M : Type 1} → statement M
 eviction-plan-spec =
@@ -182,7 +182,7 @@ eviction-plan-spec =
     cast-if2
     returns-2
     fewest-valid-requires
-    least-recent-with-requires
+    exchange-frame-requires
     returns-3
     evict-frame-requires
     returns-4)

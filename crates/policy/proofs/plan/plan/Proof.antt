@@ -3,7 +3,7 @@ use native.Mathlib.Omega.{arith}
 use mathlib.Core.Path.{_≡_, sym, ap, _∙_}
 use Rattle.model.specs.Sizes.{Sizes, vacant}
 use Rattle.model.specs.Directory.{Directory, inFrame}
-use Rattle.model.specs.Policy.{slotOf, frameWith, leastRecent, slotHit, frameHit, freeSlot}
+use Rattle.model.specs.Policy.{slotOf, frameWith, policyChoice, slotHit, frameHit, freeSlot}
 use Rattle.model.proofs.Plan.{plan-1, plan-2, plan-3, plan-full}
 use Rattle.cache.specs.View.{sizesOf, numbers}
 use Rattle.policy.proofs.plan.plan.Statement.{statement}
@@ -45,7 +45,7 @@ returns c =
     let after-slot-of : tie.After-slot-of = search in
     let s : tie.Start = search in
     let e = slot-is after-slot-of in
-    ap slotHit e ∙ sym (plan-1 leastRecent (sizes s) (directory s) (s .args .wear .now) (s .args .n .0) (omega arith))
+    ap slotHit e ∙ sym (plan-1 policyChoice (sizes s) (directory s) (s .args .wear .now) (s .args .n .0) (omega arith))
 
 frame-with-requires : tie.Need-frame-with-requires
 frame-with-requires c κs = search needs
@@ -60,7 +60,7 @@ returns-2 c =
     let s : tie.Start = search in
     let e = slot-is after-slot-of in
     let f = frame-is after-frame-with in
-    ap frameHit f ∙ sym (plan-2 leastRecent (sizes s) (directory s) (s .args .wear .now) (s .args .n .0) (omega arith) (omega arith))
+    ap frameHit f ∙ sym (plan-2 policyChoice (sizes s) (directory s) (s .args .wear .now) (s .args .n .0) (omega arith) (omega arith))
 
 free-slot-requires : tie.Need-free-slot-requires
 free-slot-requires c κs = search needs
@@ -77,7 +77,7 @@ returns-3 c =
     let e = slot-is after-slot-of in
     let f = frame-is after-frame-with in
     let g = free-is after-free-slot in
-    ap freeSlot g ∙ sym (plan-3 leastRecent (sizes s) (directory s) (s .args .wear .now) (s .args .n .0) (omega arith) (omega arith)
+    ap freeSlot g ∙ sym (plan-3 policyChoice (sizes s) (directory s) (s .args .wear .now) (s .args .n .0) (omega arith) (omega arith)
     (omega arith))
 
 eviction-plan-requires : tie.Need-eviction-plan-requires
@@ -92,7 +92,7 @@ returns-4 c =
     let e = slot-is after-slot-of in
     let f = frame-is after-frame-with in
     let g = free-is after-free-slot in
-    rw (plan-full leastRecent (sizes s) (directory s) (s .args .wear .now) (s .args .n .0) (omega arith) (omega arith) (omega arith))
+    rw (plan-full policyChoice (sizes s) (directory s) (s .args .wear .now) (s .args .n .0) (omega arith) (omega arith) (omega arith))
     (c .eviction-plan .ensures)
 
 pub plan-spec : {M : Type 1} → statement M

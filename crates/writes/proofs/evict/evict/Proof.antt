@@ -26,10 +26,10 @@ from-after-clean-plain c = search
 abbrev from-after-join : tie.After-join → tie.After-clean-plain
 from-after-join c = search
 
-abbrev from-after-enter : tie.After-enter → tie.After-join
-from-after-enter c = search
+abbrev from-after-enter-filled : tie.After-enter-filled → tie.After-join
+from-after-enter-filled c = search
 
-ruleset back = (from-after-block, from-else1, from-after-clean-plain, from-after-join, from-after-enter)
+ruleset back = (from-after-block, from-else1, from-after-clean-plain, from-after-join, from-after-enter-filled)
 
 mul-block : tie.Need-mul-block
 mul-block c =
@@ -121,8 +121,8 @@ join-requires c κs =
     joins _ _ _ _ _ _ (start .args .page .now) (h .0) (h .1 .victim-lt) (h .1 .frame-lt) (q .ready .fits .pspace-length)
     (omega (arith, after-clean-plain .clean-plain .kept, q .ready .fits))
 
-enter-requires : tie.Need-enter-requires
-enter-requires c κs =
+enter-filled-requires : tie.Need-enter-filled-requires
+enter-filled-requires c κs =
     let after-join : tie.After-join = search back in
     let after-clean-plain : tie.After-clean-plain = search back in
     let after-block : tie.After-block = search back in
@@ -146,7 +146,7 @@ same-length-4 c = search needs
 
 returns-2 : tie.Need-returns-2
 returns-2 c =
-    let after-enter : tie.After-enter = search back in
+    let after-enter-filled : tie.After-enter-filled = search back in
     let after-join : tie.After-join = search back in
     let after-clean-plain : tie.After-clean-plain = search back in
     let else1 : tie.Else1 = search back in
@@ -157,7 +157,7 @@ returns-2 c =
     let w = by-block e (after-clean-plain .clean-plain .ensures) in
     let h = cleaned _ _ _ _ _ _ _ _ _ _ _ q _ (w .directory-is) in
     let o = way-7 _ _ _ _ _ _ _ _ _ _ _ q _ _ _ _ _ _ _ _ _ _ _ (unworn else1) w
-    (join-entered _ _ _ _ _ _ _ (h .0) _ _ _ _ _ (after-join .join .ensures) (after-enter .enter .ensures)) in
+    (join-entered _ _ _ _ _ _ _ (h .0) _ _ _ _ _ _ (after-join .join .ensures) (after-enter-filled .enter-filled .ensures)) in
     record {
       answer-is = ap (λ (b : ℕ). writeDone 7 b (after-clean-plain .clean-plain .result)) e ∙ o .answer-is;
       directory-is = o .directory-is;
@@ -184,7 +184,7 @@ evict-spec =
     returns
     clean-plain-requires
     join-requires
-    enter-requires
+    enter-filled-requires
     same-length
     same-length-2
     same-length-3

@@ -1,6 +1,7 @@
 use native.Mathlib.Omega.{arith}
 use borrow.Author.Needs.{needs}
 use mathlib.Core.Path.{_≡_}
+use mathlib.Core.Bool.{Bool, true, false}
 use mathlib.Core.List.{List}
 use Prim.Native.Nat.{ℕ}
 use Rattle.model.specs.Sizes.{Sizes}
@@ -34,12 +35,12 @@ module _ (s : tie.Start) (v f : ℕ) (g : Joining (sizes s) (lent s) v f) where
       let q = s .pre in
       join-enters _ _ _ _ _ (s .args .bspace .now) _ (q .ready .sound) g (q .ready .fits .pspace-length) (q .page-length) d e
 
-  has-joined : (d d′ : Directory) (pspace′ bspace′ : List ℕ)
+  has-joined : (t : Bool) (d d′ : Directory) (pspace′ bspace′ : List ℕ)
       → Joined (sizes s) (lent s) v f (s .args .pspace .now) (s .args .bspace .now) d bspace′
-      → Entered (sizes s) d f (s .args .pspace .now) (s .args .n .0) (s .args .page .now) d′ pspace′
-      → JoinEntered (sizes s) (lent s) v f (s .args .pspace .now) (s .args .bspace .now) (s .args .n .0) (s .args .page .now) d′ pspace′
-      bspace′
-  has-joined d d′ pspace′ bspace′ j e = join-entered _ _ _ _ _ _ _ (s .pre .ready .sound) _ d d′ pspace′ bspace′ j e
+      → Entered (sizes s) t d f (s .args .pspace .now) (s .args .n .0) (s .args .page .now) d′ pspace′
+      → JoinEntered (sizes s) t (lent s) v f (s .args .pspace .now) (s .args .bspace .now) (s .args .n .0) (s .args .page .now) d′
+      pspace′ bspace′
+  has-joined t d d′ pspace′ bspace′ j e = join-entered _ _ _ _ _ _ _ (s .pre .ready .sound) t _ d d′ pspace′ bspace′ j e
 
 -- ---- way 4
 
@@ -52,8 +53,8 @@ join-requires c κs =
     let start : tie.Start = search in
     may-join start _ _ (room-holds _ _ _ (start .args .n .0) _ _ _ (start .pre) (after-room .room .given .1))
 
-enter-requires : tie.Need-enter-requires
-enter-requires c κs =
+enter-joined-requires : tie.Need-enter-joined-requires
+enter-joined-requires c κs =
     let after-join : tie.After-join = search in
     let after-room : tie.After-room = search in
     let start : tie.Start = search in
@@ -68,14 +69,14 @@ same-length-2 c = search needs
 
 returns : tie.Need-returns
 returns c =
-    let after-enter : tie.After-enter = search in
+    let after-enter-joined : tie.After-enter-joined = search in
     let after-join : tie.After-join = search in
     let after-room : tie.After-room = search in
     let start : tie.Start = search in
     let is = after-room .room .given .1 in
     let g = room-holds _ _ _ (start .args .n .0) _ _ _ (start .pre) is in
     by-room _ _ _ _ _ _ _ (start .pre) is (way-4 _ _ _ _ _ _ _ _ _ _ _ _ _ _ _
-    (has-joined start _ _ g _ _ _ _ (after-join .join .ensures) (after-enter .enter .ensures)))
+    (has-joined start _ _ g false _ _ _ _ (after-join .join .ensures) (after-enter-joined .enter-joined .ensures)))
 
 -- ---- way 5
 
@@ -88,8 +89,8 @@ join-requires-2 c κs =
     let start : tie.Start = search in
     may-join start _ _ (room-holds _ _ _ (start .args .n .0) _ _ _ (start .pre) (after-room2 .room2 .given .1))
 
-enter-requires-2 : tie.Need-enter-requires-2
-enter-requires-2 c κs =
+enter-filled-requires : tie.Need-enter-filled-requires
+enter-filled-requires c κs =
     let after-join2 : tie.After-join2 = search in
     let after-room2 : tie.After-room2 = search in
     let start : tie.Start = search in
@@ -104,14 +105,14 @@ same-length-4 c = search needs
 
 returns-2 : tie.Need-returns-2
 returns-2 c =
-    let after-enter2 : tie.After-enter2 = search in
+    let after-enter-filled : tie.After-enter-filled = search in
     let after-join2 : tie.After-join2 = search in
     let after-room2 : tie.After-room2 = search in
     let start : tie.Start = search in
     let is = after-room2 .room2 .given .1 in
     let g = room-holds _ _ _ (start .args .n .0) _ _ _ (start .pre) is in
     by-room _ _ _ _ _ _ _ (start .pre) is (way-5 _ _ _ _ _ _ _ _ _ _ _ _ _ _ _
-    (has-joined start _ _ g _ _ _ _ (after-join2 .join2 .ensures) (after-enter2 .enter2 .ensures)))
+    (has-joined start _ _ g true _ _ _ _ (after-join2 .join2 .ensures) (after-enter-filled .enter-filled .ensures)))
 
 -- ---- way 6
 
@@ -130,8 +131,8 @@ exchange-requires c κs =
       old-lt = g .block-lt;
     }
 
-enter-requires-3 : tie.Need-enter-requires-3
-enter-requires-3 c κs =
+enter-filled-requires-2 : tie.Need-enter-filled-requires-2
+enter-filled-requires-2 c κs =
     let after-exchange : tie.After-exchange = search in
     let after-room3 : tie.After-room3 = search in
     let start : tie.Start = search in
@@ -148,13 +149,14 @@ same-length-6 c = search needs
 
 returns-3 : tie.Need-returns-3
 returns-3 c =
-    let after-enter3 : tie.After-enter3 = search in
+    let after-enter-filled2 : tie.After-enter-filled2 = search in
     let after-exchange : tie.After-exchange = search in
     let after-room3 : tie.After-room3 = search in
     let start : tie.Start = search in
     let q = start .pre in
     by-room _ _ _ _ _ _ _ q (after-room3 .room3 .given .1) (way-6 _ _ _ _ _ _ _ _ _ _ _ _ _ _ _
-    (exchange-entered _ _ _ _ _ _ _ (q .ready .sound) _ _ _ _ _ _ (after-exchange .exchange .ensures) (after-enter3 .enter3 .ensures)))
+    (exchange-entered _ _ _ _ _ _ _ (q .ready .sound) _ _ _ _ _ _ (after-exchange .exchange .ensures)
+    (after-enter-filled2 .enter-filled2 .ensures)))
 
 -- ---- way 7
 
@@ -204,19 +206,19 @@ write-spec =
     (tie.spec
     enum-known-room
     join-requires
-    enter-requires
+    enter-joined-requires
     same-length
     same-length-2
     returns
     enum-known-room-2
     join-requires-2
-    enter-requires-2
+    enter-filled-requires
     same-length-3
     same-length-4
     returns-2
     enum-known-room-3
     exchange-requires
-    enter-requires-3
+    enter-filled-requires-2
     same-length-5
     same-length-6
     returns-3

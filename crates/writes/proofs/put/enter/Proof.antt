@@ -1,15 +1,8 @@
 use borrow.Author.Needs.{needs}
 use native.Mathlib.Omega.{arith}
-use Rattle.moves.proofs.Recency.{listed}
-use Rattle.writes.proofs.Entering.{slot-small, over, enter-is}
+use Rattle.writes.proofs.Entering.{slot-small, over, put-is}
 use Rattle.writes.proofs.put.enter.Statement.{statement}
 use Rattle.writes.proofs.put.enter.Tie as tie
-
-touch-requires : tie.Need-touch-requires
-touch-requires c κs =
-    let start : tie.Start = search in
-    let q = start .pre in
-    listed _ _ _ (q .sound) (q .frame-lt)
 
 free-slot-requires : tie.Need-free-slot-requires
 free-slot-requires c κs = search needs
@@ -18,20 +11,20 @@ over-slot-requires : tie.Need-over-slot-requires
 over-slot-requires c κs =
     let after-free-slot : tie.After-free-slot = search in
     let start : tie.Start = search in
-    over _ _ _ _ _ (start .pre) _ (after-free-slot .free-slot .ensures)
+    over _ _ _ _ (start .pre) _ (after-free-slot .free-slot .ensures)
 
 mul-slots : tie.Need-mul-slots
 mul-slots c =
     let after-free-slot : tie.After-free-slot = search in
     let start : tie.Start = search in
-    let l = slot-small _ _ _ _ _ (start .pre) _ (after-free-slot .free-slot .ensures) in
+    let l = slot-small _ _ _ _ (start .pre) _ (after-free-slot .free-slot .ensures) in
     record { fits = omega arith }
 
 element-write-slots : tie.Need-element-write-slots
 element-write-slots c =
     let after-free-slot : tie.After-free-slot = search in
     let start : tie.Start = search in
-    slot-small _ _ _ _ _ (start .pre) _ (after-free-slot .free-slot .ensures)
+    slot-small _ _ _ _ (start .pre) _ (after-free-slot .free-slot .ensures)
 
 same-length : tie.Need-same-length
 same-length c = search needs
@@ -40,16 +33,13 @@ returns : tie.Need-returns
 returns c =
     let after-over-slot : tie.After-over-slot = search in
     let after-free-slot : tie.After-free-slot = search in
-    let after-touch : tie.After-touch = search in
     let start : tie.Start = search in
-    enter-is _ _ _ _ _ (start .pre) _ (after-free-slot .free-slot .ensures) _ _ _ (after-touch .touch .ensures)
-    (after-over-slot .over-slot .ensures)
+    put-is _ _ _ _ (start .pre) _ (after-free-slot .free-slot .ensures) _ _ (after-over-slot .over-slot .ensures)
 
 pub enter-spec : {M : Type 1} → statement M
 enter-spec =
     tie.close
     (tie.spec
-    touch-requires
     free-slot-requires
     over-slot-requires
     mul-slots

@@ -19,7 +19,7 @@ ghost use Rattle.answer.specs.Numbers.{readOf, writeOf, stepOf, flushOf};
 ghost use Rattle.store.specs.View.{lent, storeOn, resultOn};
 
 // Reading a page.
-pub fn read(
+pub(crate) fn read(
     z: Sizes,
     entries: &[u32; 8],
     slots: &[u32; 128],
@@ -70,7 +70,7 @@ pub fn read(
 }
 
 // Writing a page.
-pub fn write(
+pub(crate) fn write(
     z: Sizes,
     entries: &[u32; 8],
     slots: &mut [u32; 128],
@@ -123,7 +123,7 @@ pub fn write(
 }
 
 // Writing part of a page.
-pub fn part(
+pub(crate) fn part(
     z: Sizes,
     entries: &[u32; 8],
     slots: &mut [u32; 128],
@@ -180,7 +180,7 @@ pub fn part(
 }
 
 // A flush step.
-pub fn step(
+pub(crate) fn step(
     z: Sizes,
     entries: &[u32; 8],
     slots: &mut [u32; 128],
@@ -229,7 +229,7 @@ pub fn step(
 }
 
 // A flush.
-pub fn flush(
+pub(crate) fn flush(
     z: Sizes,
     entries: &[u32; 8],
     slots: &mut [u32; 128],

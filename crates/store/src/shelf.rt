@@ -27,7 +27,7 @@ fn vacant(entries: &[u32; 8]) -> bool
 }
 
 // No entry is in use, and the shelf lent has no bytes.
-pub fn idle(entries: &[u32; 8], shelf: usize) -> bool
+pub(crate) fn idle(entries: &[u32; 8], shelf: usize) -> bool
     ensures { λ r. ⌜ r ≡ (allVacant (now (entries .entry)) && eqb shelf 0) ⌝ }
 {
     let ok = vacant(entries);
@@ -35,7 +35,7 @@ pub fn idle(entries: &[u32; 8], shelf: usize) -> bool
 }
 
 // Why a call with entries or a shelf is refused: the shelf, where the record is sound and has no entries; else the record.
-pub fn refusal(
+pub(crate) fn refusal(
     z: Sizes,
     entries: &[u32; 8],
     slots: &[u32; 128],

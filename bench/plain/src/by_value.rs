@@ -22,6 +22,12 @@ impl Plain {
     }
 
     #[inline(never)]
+    pub fn take_back_by_value(mut self, lent: &mut Buffers) -> Outcome {
+        let answer = self.take_back(lent);
+        (self, answer)
+    }
+
+    #[inline(never)]
     pub fn step_by_value(mut self, lent: &mut Buffers) -> Outcome {
         let answer = self.step(lent);
         (self, answer)

@@ -3,18 +3,33 @@
 //! outside vectors on it alone. The record is changed in place.
 mod answer;
 mod by_value;
+mod catalogue;
 mod chip;
+pub mod codes;
+mod cut;
 mod flush;
+mod look;
+mod marks;
 mod memory;
 mod part;
 pub mod policy;
 mod record;
+mod rehearsal;
+mod report;
+mod roles;
 mod room;
+mod sheets;
+mod shelf;
 mod sound;
 mod store;
 mod write;
 
 pub use answer::{Answer, Refusal, Said};
+pub use catalogue::{Catalogue, Looked, NewRun};
 pub use memory::{Buffers, Memory};
 pub use record::{Cache, Directory, Options, Sizes, VACANT};
+pub use rehearsal::{Rehearsal, Tallies};
+pub use report::Report;
+pub use roles::{Caller, Role};
+pub use sheets::Sheet;
 pub use store::Plain;

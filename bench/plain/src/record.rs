@@ -15,14 +15,17 @@ pub struct Sizes {
     pub wear_limit: u32,
 }
 
-/// What an opening may set beside the sizes. Codes, shelf and marks are not in force yet: each must be 0.
+/// What an opening may set beside the sizes.
 #[repr(C)]
 #[derive(Clone, Copy, Debug, Default, PartialEq, Eq)]
 pub struct Options {
     /// which frame is old, of [`crate::policy`]
     pub policy: u32,
+    /// 1: pages have codes
     pub coded: u32,
+    /// 0 to 8
     pub shelf_pages: u32,
+    /// 1: pages have marks
     pub marked: u32,
 }
 
@@ -87,6 +90,11 @@ impl Sizes {
         self.block_len().saturating_mul(self.frames as usize)
     }
 
+    /// Bytes of a page's codes, of a store that has them.
+    pub fn code_len(&self) -> usize {
+        self.page_size as usize / 256 * 3
+    }
+
     fn block_len(&self) -> usize {
         self.pages_per_block as usize * self.page_size as usize
     }
@@ -101,23 +109,32 @@ impl From<[u32; 4]> for Options {
 
 impl Options {
     /// Whether each is one that an opening of these sizes takes.
-    pub fn in_limits(&self, _: &Sizes) -> bool {
-        self.policy <= 2 && self.coded | self.shelf_pages | self.marked == 0
+    pub fn in_limits(&self, sizes: &Sizes) -> bool {
+        let chunks_fit = self.coded <= 1 && self.coded * (sizes.page_size % 256) == 0;
+        self.policy <= 2 && chunks_fit && self.shelf_pages <= 8 && self.marked <= 1
     }
 
-    /// Bytes of codes: none yet.
-    pub fn codes_len(&self, _: &Sizes) -> usize {
-        0
+    /// Whether a page of flash may be refused when it is read.
+    pub(crate) fn watched(&self) -> bool {
+        self.coded | self.marked != 0
     }
 
-    /// Bytes of marks: none yet.
-    pub fn marks_len(&self, _: &Sizes) -> usize {
-        0
+    pub fn codes_len(&self, sizes: &Sizes) -> usize {
+        match self.coded {
+            0 => 0,
+            _ => sizes.flash_len() / 256 * 3,
+        }
     }
 
-    /// Bytes of the shelf: none yet.
-    pub fn shelf_len(&self, _: &Sizes) -> usize {
-        0
+    pub fn marks_len(&self, sizes: &Sizes) -> usize {
+        match self.marked {
+            0 => 0,
+            _ => sizes.pages() as usize,
+        }
+    }
+
+    pub fn shelf_len(&self, sizes: &Sizes) -> usize {
+        self.shelf_pages as usize * sizes.page_size as usize
     }
 }
 

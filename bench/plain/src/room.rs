@@ -2,11 +2,12 @@
 use crate::store::{page_at, page_at_mut};
 use crate::{Buffers, Plain, Refusal, VACANT};
 
-/// The block whose pages leave the slots, the frame that takes them, and the way.
+/// The block whose pages leave the slots, the frame that takes them, the way, and the block that is erased by way 7.
 pub(crate) struct Room {
     pub way: u32,
-    victim: u32,
-    frame: usize,
+    pub victim: u32,
+    pub frame: usize,
+    pub erased: Option<u32>,
 }
 
 impl Plain {
@@ -19,19 +20,17 @@ impl Plain {
         if way == 7 && self.is_worn(lent, block) {
             return Err(Refusal::Worn(block));
         }
-        Ok(Room { way, victim, frame })
+        Ok(Room { way, victim, frame, erased: (way == 7).then_some(block) })
     }
 
-    /// The block erased if any, and its merge reads.
+    /// Gives the merge reads, none where the call was stopped. Of the merge pages, these are flawed.
     #[inline(always)]
-    pub(crate) fn make_room(&mut self, lent: &mut Buffers, room: &Room) -> (Option<u32>, u32) {
-        let &Room { way, victim, frame } = room;
-        let (mut erased, mut merged) = (None, 0);
-        if way == 7 {
-            let block = self.0.directory.frames[frame];
-            merged = self.clean(lent, block, frame);
-            erased = Some(block);
-        }
+    pub(crate) fn make_room(&mut self, lent: &mut Buffers, room: &Room, flawed: u64, left: &mut u32) -> Option<u32> {
+        let &Room { way, victim, frame, erased } = room;
+        let merged = match erased {
+            Some(block) => self.clean(lent, block, frame, flawed, left)?,
+            None => 0,
+        };
         match way {
             6 => self.exchange(lent, victim, frame),
             _ => self.join(lent, victim, frame),
@@ -40,7 +39,7 @@ impl Plain {
             4 => self.used(frame),
             _ => self.filled(frame),
         }
-        (erased, merged)
+        Some(merged)
     }
 
     /// The block with the most pages in slots, the lowest among equals, and how many. All slots are in use.
@@ -128,6 +127,15 @@ impl Plain {
             left &= left - 1;
             vacated &= vacated - 1;
         }
+    }
+
+    /// Drops a block from the record, as its rewrite through frame f does.
+    pub(crate) fn forget(&mut self, block: u32, f: usize) {
+        let (k, p) = (self.0.sizes.pages_per_block, self.0.sizes.slots as usize);
+        for n in self.0.directory.slots[..p].iter_mut().filter(|n| n.wrapping_sub(block * k) < k) {
+            *n = VACANT;
+        }
+        self.vacate(f);
     }
 
     pub(crate) fn vacate(&mut self, f: usize) {

@@ -29,24 +29,49 @@ impl Plain {
     pub fn read(&mut self, lent: &Buffers, n: u32, page: &mut [u8]) -> Said {
         self.check(lent)?;
         self.check_page(n, page.len())?;
+        self.read_checked(lent, n, page)
+    }
+
+    #[inline(always)]
+    pub(crate) fn read_checked(&mut self, lent: &Buffers, n: u32, page: &mut [u8]) -> Said {
         let s = page.len();
         if let Some(i) = self.slot_of(n) {
             page.copy_from_slice(page_at(lent.pspace, i, s));
-            return Ok(Answer::Read { way: 1 });
+            return Ok(Answer::Read { way: 1, mended: 0 });
         }
         if let Some((f, at)) = self.frame_with(n) {
             page.copy_from_slice(page_at(lent.bspace, at, s));
             self.used(f);
-            return Ok(Answer::Read { way: 2 });
+            return Ok(Answer::Read { way: 2, mended: 0 });
         }
-        page.copy_from_slice(page_at(lent.flash, n as usize, s));
-        Ok(Answer::Read { way: 3 })
+        let mended = self.load(lent, n, page)?;
+        Ok(Answer::Read { way: 3, mended })
+    }
+
+    /// Page n as a read would give it, as no use, and how many chunks were mended: where it stands, or in the copy where some were.
+    pub(crate) fn peek<'a>(&self, lent: &'a Buffers, n: u32, copy: &'a mut [u8]) -> Result<(&'a [u8], u32), Refusal> {
+        let s = copy.len();
+        if let Some(i) = self.slot_of(n) {
+            return Ok((page_at(lent.pspace, i, s), 0));
+        }
+        if let Some((_, at)) = self.frame_with(n) {
+            return Ok((page_at(lent.bspace, at, s), 0));
+        }
+        match self.look_at(lent, n)? {
+            0 => Ok((page_at(lent.flash, n as usize, s), 0)),
+            mended => {
+                copy.copy_from_slice(page_at(lent.flash, n as usize, s));
+                self.mend(lent, n, copy);
+                Ok((copy, mended))
+            }
+        }
     }
 
     /// Checks 4 and 2.
     pub(crate) fn check(&self, lent: &Buffers) -> Result<(), Refusal> {
         let c = &self.0;
-        if !sound::sound(&c.sizes, &c.options, &c.directory) || c.entries != [VACANT; 8] {
+        let entries_ok = || c.entries == [VACANT; 8] || self.entries_ok();
+        if !sound::sound(&c.sizes, &c.options, &c.directory) || !entries_ok() {
             return Err(Refusal::Record);
         }
         if !lent.fit(&c.sizes, &c.options) {

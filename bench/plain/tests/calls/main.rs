@@ -1,5 +1,11 @@
 //! Calls whose answers can be told from the documents by hand, a file a request.
+mod catalogue;
+mod codes;
+mod marks;
 mod policy;
+mod rehearsal;
+mod report;
+mod shelf;
 
 use plain::{Memory, Options, Plain, Sizes};
 

@@ -2,9 +2,11 @@
 //! `rRR-NN.out`. The folder is named by the environment variable `VECTORS`; where it is not set, nothing is replayed.
 #[path = "../../../../rust/src/bin/replay/crc32.rs"]
 mod crc32;
+mod fields;
 mod forms;
 mod perform;
 mod print;
+mod words;
 
 use std::collections::BTreeMap;
 use std::path::Path;
@@ -16,7 +18,7 @@ pub struct Release(u32);
 
 /// The store has the first four requests whatever the release.
 const FIRST: Release = Release(4);
-const LAST: Release = Release(5);
+const LAST: Release = Release(14);
 
 impl Release {
     fn has(self, since: u32) -> bool {
@@ -75,4 +77,16 @@ fn compare(path: &Path, said: &str, wanted: &str) {
 fn bad_lines_say_their_number() {
     let script = b"(step)\n\n(step )\n(read 01)\n(open 2048 64 4096 1 1 1 0 0 0 0)\n(open 2048 64 4096 1 1 0 0 0 0 0)";
     assert_eq!(replay(LAST, script), "(step (refused 4))\n(bad 2)\n(bad 3)\n(bad 4)\n(bad 5)\n(open (refused 1))\n");
+}
+
+#[test]
+fn cuts_lose_the_record() {
+    let script = b"(open 1 2 3 2 1 9 0 0 0 1)\n(write 0 1)\n(cut 2 flush)\n(flush)\n(reopen 1 2 3 2 1 9 0 0 0 1)\n(read 0)\n(read 1)\n\
+                   (write 1 1)\n(cut 3 step)\n(reopen 1 2 3 2 1 9 0 0 0 1)\n(setmark 4 7)\n(cut 0 write 6 1)\n\
+                   (reopen 1 2 3 2 1 9 0 0 0 1)\n(cut 1 read 0)\n(setmark 6 0)\n";
+    let said = "(open (done) (torn 0))\n(write (way 3) (erased none) (merged 0) (mended 0))\n(cut stopped)\n(flush (refused 4))\n\
+                (open (done) (torn 1))\n(read (way 3) (mended 0) (page a505df1b))\n(read (refused 14))\n\
+                (write (way 3) (erased none) (merged 0) (mended 0))\n(cut whole)\n(open (done) (torn 0))\n(write (refused 5))\n\
+                (open (done) (torn 1))\n(bad 14)\n(bad 15)\n";
+    assert_eq!(replay(Release(12), script), said);
 }

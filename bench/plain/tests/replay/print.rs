@@ -2,30 +2,62 @@
 use crate::crc32::crc32;
 use crate::perform::{Reply, State};
 use crate::Release;
-use plain::{Answer, Refusal};
+use plain::{Answer, Looked, Refusal, Tallies};
 use std::fmt::Display;
 
 /// The line of a form that was carried out, none where it prints nothing.
 pub fn said(release: Release, word: &str, reply: &Reply, state: &State) -> Option<String> {
     match reply {
         Reply::Nothing => None,
-        Reply::Opened(Ok(())) => Some("(open (done))".into()),
+        Reply::Opened(Ok(torn)) if release.has(12) => Some(format!("(open (done) (torn {torn}))")),
+        Reply::Opened(Ok(_)) => Some("(open (done))".into()),
         Reply::Opened(Err(why)) => Some(format!("(open {})", refused(why))),
-        Reply::Called(Ok(answer), page) => Some(format!("({word} {}{})", accepted(answer), with_page(page))),
-        Reply::Called(Err(why), _) => Some(format!("({word} {})", refused(why))),
+        Reply::Called(Ok(answer), page) => Some(format!("({word} {}{})", accepted(release, answer), with_page(page))),
+        Reply::Added(Ok((run, answer)), page) => Some(format!("({word} {run} {}{})", accepted(release, answer), with_page(&Some(*page)))),
+        Reply::Looked(Ok(looked)) => Some(format!("(look{}{})", sheet(release, looked), mends(release, looked.mended))),
+        Reply::Listed(Ok((run, mended))) => Some(format!("(list {run}{})", mends(release, *mended))),
+        Reply::Called(Err(why), _) | Reply::Added(Err(why), _) => Some(format!("({word} {})", refused(why))),
+        Reply::Looked(Err(why)) | Reply::Listed(Err(why)) => Some(format!("({word} {})", refused(why))),
+        Reply::Cut(_, Ok(true)) => Some("(cut whole)".into()),
+        Reply::Cut(_, Ok(false)) => Some("(cut stopped)".into()),
+        Reply::Cut(word, Err(why)) => Some(format!("({word} {})", refused(why))),
+        Reply::Rehearsed(Ok(tallies)) => Some(rehearsed(tallies)),
+        Reply::Reported(Ok(r)) => Some(format!("(report (total {}) (largest {}) (spread {}))", r.total, r.largest, r.spread)),
+        Reply::Rehearsed(Err(why)) | Reply::Reported(Err(why)) => Some(format!("({word} {})", refused(why))),
         Reply::Dump => Some(dump(release, state)),
     }
 }
 
-fn accepted(answer: &Answer) -> String {
-    match answer {
-        Answer::Read { way } => format!("(way {way})"),
-        Answer::Write { way, erased: None, merged } => format!("(way {way}) (erased none) (merged {merged})"),
-        Answer::Write { way, erased: Some(block), merged } => format!("(way {way}) (erased {block}) (merged {merged})"),
-        Answer::Step { block, merged } => format!("(block {block}) (merged {merged})"),
+fn accepted(release: Release, answer: &Answer) -> String {
+    match *answer {
+        Answer::Read { way, mended } => format!("(way {way}){}", mends(release, mended)),
+        Answer::Write { way, erased, merged, mended } => {
+            let erased = erased.map_or("none".into(), |block| block.to_string());
+            format!("(way {way}) (erased {erased}) (merged {merged}){}", mends(release, mended))
+        }
+        Answer::Step { block, merged, mended } => format!("(block {block}) (merged {merged}){}", mends(release, mended)),
         Answer::Clean => "clean".into(),
-        Answer::Flush { rewrites, merged } => format!("(rewrites {rewrites}) (merged {merged})"),
+        Answer::Flush { rewrites, merged, mended } => format!("(rewrites {rewrites}) (merged {merged}){}", mends(release, mended)),
     }
+}
+
+fn mends(release: Release, mended: u32) -> String {
+    if release.has(7) {
+        return format!(" (mended {mended})");
+    }
+    String::new()
+}
+
+fn sheet(release: Release, looked: &Looked) -> String {
+    let s = looked.sheet;
+    let numbers = [s.run, s.trainee, s.sample, s.first, s.count, s.mark, s.replaces, looked.current];
+    let many = if release.has(11) { 8 } else { 6 };
+    numbers[..many].iter().map(|number| format!(" {number}")).collect()
+}
+
+fn rehearsed(t: &Tallies) -> String {
+    let ways = format!("{} {}", list("reads", &t.reads), list("writes", &t.writes));
+    format!("(rehearse {ways} (erased {}) (merged {}) (refused {}))", t.erased, t.merged, t.refused)
 }
 
 fn with_page(crc: &Option<u32>) -> String {

@@ -1,5 +1,5 @@
 /* Measures the stack that each call needs: the call runs on a stack painted with one byte, and what it painted over is counted,
- * the caller's copies of the record included. Largest page size and cache, 6,000 random calls. */
+ * the caller's copies of the record included. Largest page size and cache, 6,000 random calls; with an argument the store is coded. */
 #include "clash.h"
 #include <pthread.h>
 #include <stdio.h>
@@ -11,14 +11,16 @@ enum { STACK = 1 << 18, PAINT = 0xA5, CALLS = 6000 };
 enum kind { NOTHING, OPEN, READ, WRITE, PART, STEP, FLUSH };
 
 static const clash_sizes sizes = { PAGE, PER_BLOCK, BLOCKS, SLOTS, FRAMES, 1000000 };
-static const clash_options options = { 0, 0, 0, 0 };
+static clash_options options = { 0, 0, 0, 0 };
 static uint8_t flash[PAGES * PAGE], pspace[SLOTS * PAGE], bspace[FRAMES * PER_BLOCK * PAGE], none[1], page[PAGE], bytes[40];
+static uint8_t codes[PAGES * (PAGE / 256) * 3];
+static size_t codes_len;
 static uint32_t wear[BLOCKS], n;
 static enum kind kind;
 static clash_reply reply;
 
-/* A store without options has no codes, no marks and no shelf. */
-#define LENT flash, sizeof flash, none, 0, none, 0, wear, BLOCKS, pspace, sizeof pspace, bspace, sizeof bspace, none, 0
+/* No marks and no shelf. */
+#define LENT flash, sizeof flash, codes, codes_len, none, 0, wear, BLOCKS, pspace, sizeof pspace, bspace, sizeof bspace, none, 0
 
 static void *call(void *unused) {
     switch (kind) {
@@ -53,9 +55,20 @@ static void keep(size_t *most, size_t now) {
     if (*most < now) *most = now;
 }
 
-int main(void) {
-    size_t none = used(NOTHING), open = used(OPEN) - none, read[4] = { 0 }, write[8] = { 0 }, part[8] = { 0 }, step = 0, flush = 0;
+/* The code of a chunk of zeros is 255 in each byte. */
+static void set_options(int coded) {
+    options.coded = coded;
+    codes_len = coded ? sizeof codes : 0;
+    memset(codes, 255, sizeof codes);
+}
+
+int main(int words, char **word) {
+    size_t none, open, read[4] = { 0 }, write[8] = { 0 }, part[8] = { 0 }, step = 0, flush = 0;
     uint32_t i, state = 1;
+    (void)word;
+    set_options(words > 1);
+    none = used(NOTHING);
+    open = used(OPEN) - none;
     for (i = 0; i < CALLS; i++) {
         state = state * 1664525u + 1013904223u;
         n = (state >> 8) % (i % 3 == 0 ? PAGES : i % 6 == 1 ? 2048 : 600);

@@ -5,7 +5,7 @@
  * flash, codes, marks, wear, p-space, b-space, shelf. Buffers must not overlap. Nothing is kept of them between calls.
  *
  *   flash    blocks * pages_per_block * page_size bytes, the chip
- *   codes    0 bytes
+ *   codes    0 bytes; of a coded store 3 for each 256 bytes of flash, those of an erased page 255
  *   marks    0 bytes
  *   wear     blocks numbers: how often each block was erased (aligned as uint32_t)
  *   pspace   slots * page_size bytes
@@ -13,7 +13,7 @@
  *   shelf    0 bytes
  *   page     page_size bytes, for read, write and part
  *
- * Codes, marks and shelf belong to options that no store has yet. A buffer of length 0 is lent with any pointer but NULL.
+ * Marks and shelf belong to options that no store has yet. A buffer of length 0 is lent with any pointer but NULL.
  * A buffer of another length is refused, and a refused call changes nothing: neither the record nor a byte lent. */
 #ifndef CLASH_H
 #define CLASH_H
@@ -25,8 +25,9 @@
 extern "C" {
 #endif
 
-/* Goes up when the record or a call takes another shape. Version 1 had neither options nor this number. */
-#define CLASH_VERSION 2
+/* Goes up when the record, an answer or a call takes another shape. Version 1 had neither options nor this number, version 2 no
+ * `mended`. */
+#define CLASH_VERSION 3
 
 /* No page, no block. */
 #define CLASH_VACANT 4294967295u
@@ -34,12 +35,13 @@ extern "C" {
 /* Why a call is turned down; 0 is an accepted call. */
 enum {
     CLASH_ACCEPTED = 0,
-    CLASH_SIZE = 1,     /* open: a size, the wear limit or an option is beyond its limits */
-    CLASH_BUFFER = 2,   /* a lent buffer has another length than the sizes ask for; part: the bytes reach past the page */
-    CLASH_OVERWORN = 3, /* open: a wear entry is above the wear limit */
-    CLASH_RECORD = 4,   /* the record is not sound; the blank one is not */
-    CLASH_PAGE = 5,     /* there is no such page */
-    CLASH_WORN = 6      /* a rewrite is due for block `block`, whose wear has reached the limit */
+    CLASH_SIZE = 1,      /* open: a size, the wear limit or an option is beyond its limits */
+    CLASH_BUFFER = 2,    /* a lent buffer has another length than sizes and options ask for; part: the bytes reach past the page */
+    CLASH_OVERWORN = 3,  /* open: a wear entry is above the wear limit */
+    CLASH_RECORD = 4,    /* the record is not sound; the blank one is not */
+    CLASH_PAGE = 5,      /* there is no such page */
+    CLASH_WORN = 6,      /* a rewrite is due for block `block`, whose wear has reached the limit */
+    CLASH_UNREADABLE = 7 /* of a coded store: a flash page that the call reads or merges cannot be read by its codes */
 };
 
 typedef struct {
@@ -58,10 +60,10 @@ enum {
     CLASH_LFU = 2   /* the one with the fewest uses, among equals the least recent */
 };
 
-/* What a store may have beside its sizes. Only the policy is in force yet: the others must be 0. */
+/* What a store may have beside its sizes. Policy and codes are in force: the others must be 0. */
 typedef struct {
     uint32_t policy;      /* CLASH_LRU, CLASH_FIFO or CLASH_LFU */
-    uint32_t coded;       /* 0: pages have no codes */
+    uint32_t coded;       /* 1: pages have codes, and page_size is a multiple of 256; 0: they have none */
     uint32_t shelf_pages; /* 0: nothing is shelved */
     uint32_t marked;      /* 0: pages have no marks */
 } clash_options;
@@ -90,6 +92,7 @@ typedef struct {
     uint32_t block;    /* write, part: the block erased; step: the block rewritten; refusal 6: the worn block */
     uint32_t rewrites; /* flush: blocks rewritten; step: 1, or 0 where nothing was cached */
     uint32_t merged;   /* merge reads of write, part, step and flush */
+    uint32_t mended;   /* chunks of 256 bytes that the codes mended, data or code, of the flash pages that the call read, each page once */
 } clash_answer;
 
 typedef struct {
@@ -109,7 +112,7 @@ clash_reply clash_open(clash_sizes sizes, clash_options options,
     const uint32_t *wear, size_t wear_count, const uint8_t *pspace, size_t pspace_bytes, const uint8_t *bspace, size_t bspace_bytes,
     const uint8_t *shelf, size_t shelf_bytes);
 
-/* Fills page with page n. */
+/* Fills page with page n. A flipped bit is mended in page, and stays in flash until its block is rewritten. */
 clash_reply clash_read(clash_cache cache,
     const uint8_t *flash, size_t flash_bytes, const uint8_t *codes, size_t codes_bytes, const uint8_t *marks, size_t marks_bytes,
     const uint32_t *wear, size_t wear_count, const uint8_t *pspace, size_t pspace_bytes, const uint8_t *bspace, size_t bspace_bytes,
@@ -136,7 +139,7 @@ clash_reply clash_step(clash_cache cache,
     uint32_t *wear, size_t wear_count, const uint8_t *pspace, size_t pspace_bytes, uint8_t *bspace, size_t bspace_bytes,
     const uint8_t *shelf, size_t shelf_bytes);
 
-/* Rewrites every block that has pages cached, or none where one of them is worn. */
+/* Rewrites every block that has pages cached, or none where one of them is worn or has a page to merge that is unreadable. */
 clash_reply clash_flush(clash_cache cache,
     uint8_t *flash, size_t flash_bytes, uint8_t *codes, size_t codes_bytes, uint8_t *marks, size_t marks_bytes,
     uint32_t *wear, size_t wear_count, const uint8_t *pspace, size_t pspace_bytes, uint8_t *bspace, size_t bspace_bytes,

@@ -1,26 +1,27 @@
 use std::fmt;
 
-/// What an accepted call answers.
+/// What an accepted call answers. `mended` is the number of chunks that the codes mended, data or code, of the flash pages that the call
+/// read, each page once: 0 of a store without codes.
 #[derive(Clone, Copy, Debug, PartialEq, Eq)]
 pub enum Answer {
     /// way 1 from a slot, 2 from a frame, 3 from flash
-    Read { way: u32 },
+    Read { way: u32, mended: u32 },
     /// of a page or of part of one: way 1 to 7, the block erased if any, and the merge reads; way 0 of a part write without bytes
-    Write { way: u32, erased: Option<u32>, merged: u32 },
+    Write { way: u32, erased: Option<u32>, merged: u32, mended: u32 },
     /// the block rewritten and its merge reads
-    Step { block: u32, merged: u32 },
+    Step { block: u32, merged: u32, mended: u32 },
     /// a step that found nothing cached
     Clean,
     /// the blocks rewritten and the sum of their merge reads
-    Flush { rewrites: u32, merged: u32 },
+    Flush { rewrites: u32, merged: u32, mended: u32 },
 }
 
-/// Why a call is turned down, by document 01's words.
+/// Why a call is turned down, by the documents' words.
 #[derive(Clone, Copy, Debug, PartialEq, Eq)]
 pub enum Refusal {
     /// 1, opening: a size, the wear limit or an option is beyond its limits
     Size,
-    /// 2: a lent buffer has another length than the sizes ask for, or the bytes of a part write reach past the page
+    /// 2: a lent buffer has another length than sizes and options ask for, or the bytes of a part write reach past the page
     Buffer,
     /// 3, opening: a wear entry is above the wear limit
     Overworn,
@@ -31,10 +32,12 @@ pub enum Refusal {
     /// 6: a rewrite is due for this block, whose wear has reached the limit; of a write, the block of the least recent frame, where every
     /// frame holds a worn block
     Worn(u32),
+    /// 7, of a coded store: a flash page that the call reads or merges cannot be read by its codes
+    Unreadable,
 }
 
 impl Refusal {
-    /// Document 01's number.
+    /// The documents' number.
     pub fn number(self) -> u32 {
         match self {
             Refusal::Size => 1,
@@ -43,6 +46,7 @@ impl Refusal {
             Refusal::Record => 4,
             Refusal::Page => 5,
             Refusal::Worn(_) => 6,
+            Refusal::Unreadable => 7,
         }
     }
 }
@@ -56,6 +60,7 @@ impl fmt::Display for Refusal {
             Refusal::Record => out.write_str("the record is not sound"),
             Refusal::Page => out.write_str("there is no such page"),
             Refusal::Worn(block) => write!(out, "block {block} is worn"),
+            Refusal::Unreadable => out.write_str("a flash page cannot be read"),
         }
     }
 }

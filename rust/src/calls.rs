@@ -9,6 +9,7 @@ struct RawAnswer {
     block: u32,
     rewrites: u32,
     merged: u32,
+    mended: u32,
 }
 
 #[repr(C)]
@@ -17,7 +18,7 @@ struct Reply {
     answer: RawAnswer,
 }
 
-const _: () = assert!(std::mem::size_of::<RawAnswer>() == 20 && std::mem::size_of::<Reply>() == 744);
+const _: () = assert!(std::mem::size_of::<RawAnswer>() == 24 && std::mem::size_of::<Reply>() == 744);
 
 #[rustfmt::skip]
 extern "C" {
@@ -91,7 +92,7 @@ impl Cache {
     pub fn read(&mut self, lent: &Buffers, n: u32, page: &mut [u8]) -> Result<Answer, Refusal> {
         let reply = call!(clash_read(*self; lent.as_ptr; n, page.as_mut_ptr(), page.len()));
         let a = self.next(&reply)?;
-        Ok(Answer::Read { way: a.way })
+        Ok(Answer::Read { way: a.way, mended: a.mended })
     }
 
     /// Stores `page` as page `n`. Refused as worn only where every frame holds a worn block.
@@ -114,14 +115,14 @@ impl Cache {
         if a.rewrites == 0 {
             return Ok(Answer::Clean);
         }
-        Ok(Answer::Step { block: a.block, merged: a.merged })
+        Ok(Answer::Step { block: a.block, merged: a.merged, mended: a.mended })
     }
 
     /// Rewrites every block that has pages cached, or none where one of them is worn.
     pub fn flush(&mut self, lent: &mut Buffers) -> Result<Answer, Refusal> {
         let reply = call!(clash_flush(*self; lent.as_mut_ptr;));
         let a = self.next(&reply)?;
-        Ok(Answer::Flush { rewrites: a.rewrites, merged: a.merged })
+        Ok(Answer::Flush { rewrites: a.rewrites, merged: a.merged, mended: a.mended })
     }
 
     /// Takes the record of a reply, and gives the answer where the call was accepted.
@@ -137,7 +138,7 @@ impl Cache {
 #[inline]
 fn written(a: &RawAnswer) -> Answer {
     let erased = if a.block == VACANT { None } else { Some(a.block) };
-    Answer::Write { way: a.way, erased, merged: a.merged }
+    Answer::Write { way: a.way, erased, merged: a.merged, mended: a.mended }
 }
 
 #[inline]
@@ -150,6 +151,7 @@ fn accepted(a: &RawAnswer) -> Result<(), Refusal> {
         4 => Err(Refusal::Record),
         5 => Err(Refusal::Page),
         6 => Err(Refusal::Worn(a.block)),
+        7 => Err(Refusal::Unreadable),
         other => unreachable!("the store has no refusal {other}"),
     }
 }

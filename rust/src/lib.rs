@@ -15,8 +15,8 @@
 //! let mut store = Store::open(sizes, Options::default(), &memory.lend())?;
 //! let mut page = [7; 256];
 //! store.write(&mut memory.lend(), 5, &page)?;
-//! assert_eq!(store.read(&memory.lend(), 5, &mut page)?, Answer::Read { way: 1 });
-//! assert_eq!(store.flush(&mut memory.lend())?, Answer::Flush { rewrites: 1, merged: 15 });
+//! assert_eq!(store.read(&memory.lend(), 5, &mut page)?, Answer::Read { way: 1, mended: 0 });
+//! assert_eq!(store.flush(&mut memory.lend())?, Answer::Flush { rewrites: 1, merged: 15, mended: 0 });
 //! # Ok::<(), clash::Refusal>(())
 //! ```
 mod answer;

@@ -1,6 +1,7 @@
-use crate::Sizes;
+use crate::{Options, Sizes};
 
-/// The buffers of a store, lent for the time of a call. Codes, marks and shelf belong to options that no store has yet, and are empty.
+/// The buffers of a store, lent for the time of a call. Those of options that the store does not have are empty; marks and shelf belong to
+/// options that no store has yet.
 ///
 /// ```
 /// use clash::{Buffers, Options, Sizes, Store};
@@ -18,6 +19,7 @@ use crate::Sizes;
 #[derive(Default)]
 pub struct Buffers<'a> {
     pub flash: &'a mut [u8],
+    /// of a coded store: 3 bytes for each 256 of flash
     pub codes: &'a mut [u8],
     pub marks: &'a mut [u8],
     /// how often each block was erased
@@ -28,13 +30,13 @@ pub struct Buffers<'a> {
 }
 
 impl Buffers<'_> {
-    /// Whether each has the length that the sizes ask for, of a store without options.
-    pub fn fit(&self, sizes: &Sizes) -> bool {
+    /// Whether each has the length that sizes and options ask for.
+    pub fn fit(&self, sizes: &Sizes, options: &Options) -> bool {
         self.flash.len() == sizes.flash_len()
             && self.wear.len() == sizes.wear_len()
             && self.pspace.len() == sizes.pspace_len()
             && self.bspace.len() == sizes.bspace_len()
-            && self.codes.is_empty()
+            && self.codes.len() == options.codes_len(sizes)
             && self.marks.is_empty()
             && self.shelf.is_empty()
     }
@@ -62,6 +64,11 @@ impl Memory {
             bspace: vec![0; sizes.bspace_len()],
             ..Memory::default()
         }
+    }
+
+    /// The same for a store with these options: codes, where they ask for them, are those of erased pages.
+    pub fn with_options(sizes: &Sizes, options: &Options) -> Memory {
+        Memory { codes: vec![255; options.codes_len(sizes)], ..Memory::new(sizes) }
     }
 
     pub fn lend(&mut self) -> Buffers<'_> {

@@ -19,13 +19,13 @@ pub struct Sizes {
     pub wear_limit: u32,
 }
 
-/// What an opening may set beside the sizes. The default is LRU and no other option. Only the policy is in force yet: the others must be 0.
+/// What an opening may set beside the sizes. The default is LRU and no other option. Policy and codes are in force: the others must be 0.
 #[repr(C)]
 #[derive(Clone, Copy, Debug, Default, PartialEq, Eq)]
 pub struct Options {
     /// which frame is old: [`LRU`], [`FIFO`] or [`LFU`]
     pub policy: u32,
-    /// 0: pages have no codes
+    /// 1: pages have codes, and a page is a multiple of 256 bytes; 0: they have none
     pub coded: u32,
     /// 0: nothing is shelved
     pub shelf_pages: u32,
@@ -125,9 +125,18 @@ impl From<[u32; 4]> for Options {
 }
 
 impl Options {
-    /// Whether each is one that an opening takes.
-    pub fn in_limits(&self) -> bool {
-        *self == Options { policy: self.policy, ..Options::default() } && self.policy <= LFU
+    /// Whether each is one that an opening with these sizes takes.
+    pub fn in_limits(&self, sizes: &Sizes) -> bool {
+        let chunks = self.coded == 0 || self.coded == 1 && sizes.page_size % 256 == 0;
+        self.policy <= LFU && chunks && (self.shelf_pages, self.marked) == (0, 0)
+    }
+
+    /// Bytes of codes: 3 for each 256 of flash, or none.
+    pub fn codes_len(&self, sizes: &Sizes) -> usize {
+        match self.coded {
+            1 => sizes.page_size as usize / 256 * 3 * sizes.pages() as usize,
+            _ => 0,
+        }
     }
 }
 

@@ -9,8 +9,8 @@ pub struct Store {
 impl Store {
     /// Opens a store of these sizes and options on the buffers lent. Changes no buffer.
     pub fn open(sizes: Sizes, options: Options, lent: &Buffers) -> Result<Store, Refusal> {
-        let in_limits = sizes.in_limits() && options.in_limits();
-        debug_assert!(!in_limits || lent.fit(&sizes), "a lent buffer has another length than {sizes:?} ask for");
+        let in_limits = sizes.in_limits() && options.in_limits(&sizes);
+        debug_assert!(!in_limits || lent.fit(&sizes, &options), "a lent buffer has another length than {sizes:?} ask for");
         let cache = Cache::open(sizes, options, lent)?;
         Ok(Store { cache })
     }
@@ -55,7 +55,11 @@ impl Store {
     }
 
     fn expect(&self, lent: &Buffers) {
-        debug_assert!(lent.fit(&self.cache.sizes), "a lent buffer has another length than {:?} ask for", self.cache.sizes);
+        debug_assert!(
+            lent.fit(&self.cache.sizes, &self.cache.options),
+            "a lent buffer has another length than {:?} ask for",
+            self.cache.sizes
+        );
     }
 
     fn expect_page(&self, page: &[u8]) {

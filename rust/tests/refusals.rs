@@ -1,4 +1,5 @@
-//! Each refusal of document 01, and that it changes nothing. Wrong lengths go through the record's own calls, which assert nothing.
+//! Each refusal of document 01, and that it changes nothing; `codes.rs` has that of request A6. Wrong lengths go through the record's own
+//! calls, which assert nothing.
 use clash::{Answer, Cache, Memory, Options, Refusal, Sizes, Store, FIFO, LFU, LRU, VACANT};
 
 const SIZES: [u32; 6] = [2, 4, 3, 3, 1, 9];
@@ -54,11 +55,11 @@ fn size() {
     }
 }
 
-/// The policy is 0, 1 or 2. No other option is in force: each other than 0 is refused, whatever is lent.
+/// The policy is 0, 1 or 2, and coded 0 or 1. No other option is in force: each other than 0 is refused, whatever is lent.
 #[test]
 fn option() {
     let sizes = Sizes::from([256, 4, 3, 3, 1, 9]);
-    for (i, wrongs) in [(0, [3, 4, 8, u32::MAX]), (1, NONE), (2, NONE), (3, NONE)] {
+    for (i, wrongs) in [(0, [3, 4, 8, u32::MAX]), (1, [2, 3, 8, u32::MAX]), (2, NONE), (3, NONE)] {
         for wrong in wrongs {
             let mut options = [0; 4];
             options[i] = wrong;
@@ -152,8 +153,8 @@ fn record() {
     }
 }
 
-/// What the options add to a record: the policy is up to 2, any other option 0, a frame that is vacant has no use and any other one at least,
-/// and each entry of the shelf is vacant.
+/// What the options add to a record: the policy is up to 2, any other option 0 where a page has 2 bytes, a frame that is vacant has no use
+/// and any other one at least, and each entry of the shelf is vacant.
 #[test]
 fn record_of_options() {
     let options: [fn(&mut Cache) -> &mut u32; 3] = [|c| &mut c.options.coded, |c| &mut c.options.shelf_pages, |c| &mut c.options.marked];
@@ -204,7 +205,7 @@ fn page() {
         all_refused(cache, memory, n, 2, Refusal::Page);
     }
     let (mut cache, mut memory) = filled();
-    assert_eq!(cache.read(&memory.lend(), 11, &mut [0, 0]), Ok(Answer::Read { way: 3 }));
+    assert_eq!(cache.read(&memory.lend(), 11, &mut [0, 0]), Ok(Answer::Read { way: 3, mended: 0 }));
 }
 
 #[test]
@@ -224,7 +225,7 @@ fn worn() {
     memory.wear[0] = 9;
     assert_eq!(cache.flush(&mut memory.lend()), Err(Refusal::Worn(0)));
     memory.wear = vec![8; 3];
-    assert_eq!(cache.flush(&mut memory.lend()), Ok(Answer::Flush { rewrites: 3, merged: 7 }));
+    assert_eq!(cache.flush(&mut memory.lend()), Ok(Answer::Flush { rewrites: 3, merged: 7, mended: 0 }));
 }
 
 /// Frames of blocks 2, 1 and 0, least recent that of block 1 and most recent that of block 2; pages 10 and 8 in slots.
@@ -247,7 +248,7 @@ fn a_write_passes_worn_blocks_over() {
         if wear[1] == 9 {
             assert_eq!(cache.step(&mut memory.lend()), Err(Refusal::Worn(1)));
         }
-        assert_eq!(cache.write(&mut memory.lend(), 6, &[6]), Ok(Answer::Write { way: 7, erased: Some(block), merged: 1 }));
+        assert_eq!(cache.write(&mut memory.lend(), 6, &[6]), Ok(Answer::Write { way: 7, erased: Some(block), merged: 1, mended: 0 }));
         assert_eq!(memory.wear[block as usize], wear[block as usize] + 1);
     }
 }
@@ -263,9 +264,10 @@ fn with_all_blocks_worn_a_write_names_the_least_recent() {
 }
 
 #[test]
-fn numbers_are_document_01s() {
-    let all = [Refusal::Size, Refusal::Buffer, Refusal::Overworn, Refusal::Record, Refusal::Page, Refusal::Worn(3)];
-    assert_eq!(all.map(Refusal::number), [1, 2, 3, 4, 5, 6]);
+fn numbers_are_the_documents() {
+    let base = [Refusal::Size, Refusal::Buffer, Refusal::Overworn, Refusal::Record, Refusal::Page, Refusal::Worn(3)];
+    assert_eq!(base.map(Refusal::number), [1, 2, 3, 4, 5, 6]);
+    assert_eq!(Refusal::Unreadable.number(), 7);
 }
 
 #[cfg(debug_assertions)]

@@ -16,7 +16,7 @@ fn bench() -> Bench {
 impl Bench {
     fn write(&mut self, n: u32) -> (u32, Option<u32>, u32) {
         match self.store.write(&mut self.memory.lend(), n, &[n as u8 + 100]) {
-            Ok(Answer::Write { way, erased, merged }) => (way, erased, merged),
+            Ok(Answer::Write { way, erased, merged, mended: 0 }) => (way, erased, merged),
             other => panic!("write of {n}: {other:?}"),
         }
     }
@@ -30,7 +30,7 @@ impl Bench {
     fn read(&mut self, n: u32) -> (u32, u8) {
         let mut page = [0];
         match self.store.read(&self.memory.lend(), n, &mut page) {
-            Ok(Answer::Read { way }) => (way, page[0]),
+            Ok(Answer::Read { way, mended: 0 }) => (way, page[0]),
             other => panic!("read of {n}: {other:?}"),
         }
     }
@@ -128,10 +128,10 @@ fn steps_until_clean() {
     let mut b = bench();
     b.writes(&[0, 4, 8, 9]);
     let mut step = || b.store.step(&mut b.memory.lend()).unwrap();
-    assert_eq!(step(), Answer::Step { block: 0, merged: 3 });
-    assert_eq!(step(), Answer::Step { block: 1, merged: 3 });
-    assert_eq!(step(), Answer::Step { block: 2, merged: 2 });
+    assert_eq!(step(), Answer::Step { block: 0, merged: 3, mended: 0 });
+    assert_eq!(step(), Answer::Step { block: 1, merged: 3, mended: 0 });
+    assert_eq!(step(), Answer::Step { block: 2, merged: 2, mended: 0 });
     assert_eq!(step(), Answer::Clean);
     assert_eq!(b.memory.flash, [100, 255, 255, 255, 104, 255, 255, 255, 108, 109, 255, 255]);
-    assert_eq!(b.store.flush(&mut b.memory.lend()), Ok(Answer::Flush { rewrites: 0, merged: 0 }));
+    assert_eq!(b.store.flush(&mut b.memory.lend()), Ok(Answer::Flush { rewrites: 0, merged: 0, mended: 0 }));
 }

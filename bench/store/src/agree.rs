@@ -1,10 +1,10 @@
 //! Both stores on the same random histories: after each call the answers, the records, all buffers and the page must be equal. Some
 //! openings get a size or an option that is refused, some calls a record with an entry spoilt, a buffer of another length or a page that
-//! is not there.
+//! is not there. Of coded stores bits of flash and codes flip between the calls.
 use crate::both;
 use crate::random::Random;
 use clash::{Cache, Memory, Options, Sizes, VACANT};
-use plain::{Answer, Plain, Said};
+use plain::{codes, Answer, Plain, Said};
 
 const HISTORIES: u32 = 1000;
 const CALLS: u32 = 400;
@@ -22,9 +22,10 @@ struct Side {
 struct Tally {
     calls: u32,
     reads: [u32; 3],
-    writes: [u32; 7],
+    writes: [u32; 8],
     rewrites: u32,
-    refused: [u32; 6],
+    mended: u32,
+    refused: [u32; 7],
 }
 
 pub fn agree(random: &mut Random) {
@@ -32,38 +33,42 @@ pub fn agree(random: &mut Random) {
     for _ in 0..HISTORIES {
         history(random, &mut tally);
     }
-    let Tally { calls, reads, writes, rewrites, refused } = tally;
-    assert!(reads.iter().chain(&writes).chain(&refused).all(|&count| count > 40), "{reads:?} {writes:?} {refused:?}");
+    let Tally { calls, reads, writes, rewrites, mended, refused } = tally;
+    assert!(reads.iter().chain(&writes).chain(&refused).chain([&mended]).all(|&count| count > 40), "{reads:?} {writes:?} {refused:?}");
     println!("{calls} calls in {HISTORIES} random histories: answers, records and buffers of both stores are equal after each.");
-    println!("reads by way {reads:?}, writes by way {writes:?}, {rewrites} rewrites by steps and flushes, refusals 1 to 6 {refused:?}\n");
+    println!("reads by way {reads:?}, writes by way from 0 {writes:?}, {rewrites} rewrites by steps and flushes, {mended} chunks mended,");
+    println!("refusals 1 to 7 {refused:?}\n");
 }
 
 fn history(random: &mut Random, tally: &mut Tally) {
     let Some(mut proved) = opened(random, tally) else { return };
     for _ in 0..CALLS {
-        let before = proved.clone();
-        let spoilt = random.one_in(30);
-        if spoilt {
+        if random.one_in(8) {
+            disturb(random, &mut proved.memory);
+        }
+        let before = random.one_in(30).then(|| proved.clone());
+        if before.is_some() {
             spoil(random, &mut proved);
         }
+        proved.page.iter_mut().enumerate().for_each(|(i, byte)| *byte = byte.wrapping_add((i * 3 + 1) as u8));
         let mut plain = proved.clone();
-        let (kind, n) = (random.below(40), random.below(proved.cache.sizes.pages().saturating_add(1).max(1)));
-        let answer = call(kind, n, &mut proved, Side::proved);
-        assert_eq!(answer, call(kind, n, &mut plain, Side::plain));
-        assert_eq!(proved, plain);
+        let call = call(random, &proved.cache.sizes);
+        let answer = proved.proved(call);
+        assert_eq!(answer, plain.plain(call), "{call:?}");
+        assert!(proved == plain, "{call:?} leaves another record or other bytes");
         tally.count(answer);
-        if spoilt {
-            proved = before;
-        }
+        proved = before.unwrap_or(proved);
     }
 }
 
 fn opened(random: &mut Random, tally: &mut Tally) -> Option<Side> {
-    let limit = 1 + random.below(60);
-    let mut sizes = [1 + random.below(20), 2 + random.below(8), 1 + random.below(10), 1 + random.below(12), 1 + random.below(4), limit];
-    let mut options = [random.below(3), 0, 0, 0];
-    let mut memory = Memory::new(&Sizes::from(sizes));
+    let (limit, coded) = (1 + random.below(60), random.one_in(3));
+    let s = if coded { 256 * (1 + random.below(2)) } else { 1 + random.below(20) };
+    let mut sizes = [s, 2 + random.below(8), 1 + random.below(10), 1 + random.below(12), 1 + random.below(4), limit];
+    let mut options = [random.below(3), coded as u32, 0, 0];
+    let mut memory = Memory::with_options(&Sizes::from(sizes), &Options::from(options));
     memory.flash = random.bytes(memory.flash.len());
+    codes::encode(&mut memory.codes, &memory.flash);
     spoil_opening(random, &mut sizes, &mut options, &mut memory);
     let (sizes, options) = (Sizes::from(sizes), Options::from(options));
     let cache = Cache::open(sizes, options, &memory.lend());
@@ -79,7 +84,7 @@ fn opened(random: &mut Random, tally: &mut Tally) -> Option<Side> {
     }
 }
 
-/// Perhaps a size or an option is another, blocks have been erased, or a buffer is lent that only an option asks for.
+/// Perhaps a size or an option is another, blocks have been erased, or a buffer has a length that only another option asks for.
 fn spoil_opening(random: &mut Random, sizes: &mut [u32; 6], options: &mut [u32; 4], m: &mut Memory) {
     let limit = sizes[5];
     match random.below(6) {
@@ -89,11 +94,16 @@ fn spoil_opening(random: &mut Random, sizes: &mut [u32; 6], options: &mut [u32; 
         _ => {}
     }
     match random.below(16) {
-        0 => options[random.below(4) as usize] = random.of(&[0, 1, 2, 8, u32::MAX]),
-        1 => of_an_option(random, m).push(0),
+        0 => options[random.below(2) as usize] = random.of(&[0, 1, 2, 8, u32::MAX]),
+        1 => options[2 + random.below(2) as usize] = random.of(&OUTSIDE),
+        2 => of_an_option(random, m).push(0),
+        3 => m.codes.truncate(m.codes.len().saturating_sub(1)),
         _ => {}
     }
 }
+
+/// What neither store takes for an option, but for 0: the plain one has the shelf and the marks already.
+const OUTSIDE: [u32; 3] = [0, 9, u32::MAX];
 
 fn of_an_option<'a>(random: &mut Random, m: &'a mut Memory) -> &'a mut Vec<u8> {
     match random.below(3) {
@@ -103,9 +113,25 @@ fn of_an_option<'a>(random: &mut Random, m: &'a mut Memory) -> &'a mut Vec<u8> {
     }
 }
 
+/// Flips a bit of flash or of the codes, of a store that has some, or lets all codes match again.
+fn disturb(random: &mut Random, m: &mut Memory) {
+    if m.codes.is_empty() {
+        return;
+    }
+    match random.below(8) {
+        0 => codes::encode(&mut m.codes, &m.flash),
+        1..=4 => flip(random, &mut m.flash),
+        _ => flip(random, &mut m.codes),
+    }
+}
+
+fn flip(random: &mut Random, bytes: &mut [u8]) {
+    bytes[random.below(bytes.len() as u32) as usize] ^= 1 << random.below(8);
+}
+
 fn spoil(random: &mut Random, side: &mut Side) {
     let (d, m, f) = (&mut side.cache.directory, &mut side.memory, random.below(8) as usize);
-    match random.below(19) {
+    match random.below(20) {
         0 => d.slots[random.below(128) as usize] = random.below(100),
         1 => d.slots[random.below(12) as usize] = d.slots[random.below(12) as usize],
         2 => d.frames[f] = random.below(12),
@@ -117,43 +143,69 @@ fn spoil(random: &mut Random, side: &mut Side) {
         8 => side.cache.sizes.slots = random.below(140),
         9 => side.cache.options.policy = random.below(4),
         10 => side.cache.options.coded = random.below(3),
-        11 => side.cache.options.shelf_pages = random.below(10),
-        12 => side.cache.options.marked = random.below(3),
-        13 => m.flash.push(0),
-        14 => m.wear.push(0),
-        15 => m.pspace.push(0),
-        16 => m.bspace.push(0),
-        17 => of_an_option(random, m).push(0),
+        11 => side.cache.options.shelf_pages = random.of(&OUTSIDE),
+        12 => side.cache.options.marked = random.of(&OUTSIDE),
+        13 => side.cache.sizes.page_size += 1,
+        14 => m.flash.push(0),
+        15 => m.wear.push(0),
+        16 => m.pspace.push(0),
+        17 => m.bspace.push(0),
+        18 => of_an_option(random, m).push(0),
         _ => side.page.push(0),
     }
 }
 
-type Calls = fn(&mut Side, u32, u32) -> Said;
+#[derive(Clone, Copy, Debug)]
+enum Call {
+    Flush,
+    Step,
+    Read(u32),
+    Write(u32),
+    Part { n: u32, first: u32, many: usize },
+}
 
-fn call(kind: u32, n: u32, side: &mut Side, on: Calls) -> Said {
-    side.page.iter_mut().enumerate().for_each(|(i, byte)| *byte = byte.wrapping_add(i as u8 * 3 + 1));
-    on(side, kind, n)
+/// Some pages are not there, and some bytes of a part write reach past the page.
+fn call(random: &mut Random, sizes: &Sizes) -> Call {
+    let n = random.below(sizes.pages().saturating_add(1).max(1));
+    match random.below(40) {
+        0 => Call::Flush,
+        1 => Call::Step,
+        2..=12 => Call::Read(n),
+        13..=20 => {
+            let first = random.below(sizes.page_size + 2);
+            let many = random.below((sizes.page_size + 2).saturating_sub(first).max(1)) as usize;
+            Call::Part { n, first, many }
+        }
+        _ => Call::Write(n),
+    }
+}
+
+/// What a part write lays in.
+fn bytes(first: u32, many: usize) -> Vec<u8> {
+    (0..many).map(|i| (first as usize + i * 5) as u8).collect()
 }
 
 impl Side {
-    fn proved(&mut self, kind: u32, n: u32) -> Said {
-        let mut lent = self.memory.lend();
-        both::said(match kind {
-            0 => self.cache.flush(&mut lent),
-            1 => self.cache.step(&mut lent),
-            2..=12 => self.cache.read(&lent, n, &mut self.page),
-            _ => self.cache.write(&mut lent, n, &self.page),
+    fn proved(&mut self, call: Call) -> Said {
+        let (lent, page) = (&mut self.memory.lend(), &mut self.page);
+        both::said(match call {
+            Call::Flush => self.cache.flush(lent),
+            Call::Step => self.cache.step(lent),
+            Call::Read(n) => self.cache.read(lent, n, page),
+            Call::Write(n) => self.cache.write(lent, n, page),
+            Call::Part { n, first, many } => self.cache.part(lent, n, first, &bytes(first, many), page),
         })
     }
 
-    fn plain(&mut self, kind: u32, n: u32) -> Said {
-        let mut lent = both::lent(self.memory.lend());
+    fn plain(&mut self, call: Call) -> Said {
+        let (lent, page) = (&mut both::lent(self.memory.lend()), &mut self.page);
         let mut plain = both::plain(self.cache);
-        let answer = match kind {
-            0 => plain.flush(&mut lent),
-            1 => plain.step(&mut lent),
-            2..=12 => plain.read(&lent, n, &mut self.page),
-            _ => plain.write(&mut lent, n, &self.page),
+        let answer = match call {
+            Call::Flush => plain.flush(lent),
+            Call::Step => plain.step(lent),
+            Call::Read(n) => plain.read(lent, n, page),
+            Call::Write(n) => plain.write(lent, n, page),
+            Call::Part { n, first, many } => plain.part(lent, n, first, &bytes(first, many), page),
         };
         self.cache = both::proved(plain);
         answer
@@ -164,13 +216,21 @@ impl Tally {
     fn count(&mut self, answer: Said) {
         self.calls += 1;
         match answer {
-            Ok(Answer::Read { way }) => self.reads[way as usize - 1] += 1,
-            Ok(Answer::Write { way, .. }) => self.writes[way as usize - 1] += 1,
+            Ok(Answer::Read { way, .. }) => self.reads[way as usize - 1] += 1,
+            Ok(Answer::Write { way, .. }) => self.writes[way as usize] += 1,
             Ok(Answer::Step { .. }) => self.rewrites += 1,
             Ok(Answer::Flush { rewrites, .. }) => self.rewrites += rewrites,
             Ok(Answer::Clean) => {}
             Err(why) => self.refused[why.number() as usize - 1] += 1,
         }
+        self.mended += answer.map_or(0, mends);
+    }
+}
+
+fn mends(answer: Answer) -> u32 {
+    match answer {
+        Answer::Read { mended, .. } | Answer::Write { mended, .. } | Answer::Step { mended, .. } | Answer::Flush { mended, .. } => mended,
+        Answer::Clean => 0,
     }
 }
 

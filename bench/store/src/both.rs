@@ -41,11 +41,11 @@ pub fn said(answer: Result<clash::Answer, clash::Refusal>) -> Said {
 
 fn accepted(answer: clash::Answer) -> plain::Answer {
     match answer {
-        clash::Answer::Read { way } => plain::Answer::Read { way },
-        clash::Answer::Write { way, erased, merged } => plain::Answer::Write { way, erased, merged },
-        clash::Answer::Step { block, merged } => plain::Answer::Step { block, merged },
+        clash::Answer::Read { way, mended } => plain::Answer::Read { way, mended },
+        clash::Answer::Write { way, erased, merged, mended } => plain::Answer::Write { way, erased, merged, mended },
+        clash::Answer::Step { block, merged, mended } => plain::Answer::Step { block, merged, mended },
         clash::Answer::Clean => plain::Answer::Clean,
-        clash::Answer::Flush { rewrites, merged } => plain::Answer::Flush { rewrites, merged },
+        clash::Answer::Flush { rewrites, merged, mended } => plain::Answer::Flush { rewrites, merged, mended },
     }
 }
 
@@ -57,5 +57,6 @@ pub fn refused(why: clash::Refusal) -> plain::Refusal {
         clash::Refusal::Record => plain::Refusal::Record,
         clash::Refusal::Page => plain::Refusal::Page,
         clash::Refusal::Worn(block) => plain::Refusal::Worn(block),
+        clash::Refusal::Unreadable => plain::Refusal::Unreadable,
     }
 }

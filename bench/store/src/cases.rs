@@ -1,8 +1,8 @@
 //! The calls to time: records taken from a long random history of writes, each with a page for which the call goes the way wanted.
 use crate::both;
 use crate::random::Random;
-use clash::{Cache, Sizes, VACANT};
-use plain::{Answer, Memory, Options, Plain};
+use clash::{Cache, Options, Sizes, VACANT};
+use plain::{Answer, Memory, Plain};
 
 /// So many for each way.
 pub const CASES: usize = 32;
@@ -21,8 +21,8 @@ pub struct Cases {
     pub writes: [Vec<Case>; 7],
 }
 
-pub fn cases(random: &mut Random, sizes: Sizes) -> Cases {
-    let writes = writes(random, sizes);
+pub fn cases(random: &mut Random, sizes: Sizes, options: Options) -> Cases {
+    let writes = writes(random, sizes, options);
     let full: Vec<Cache> = writes[6].iter().map(|case| case.record).collect();
     let mut pick =
         |page: fn(&mut Random, &Cache) -> u32| full.iter().map(|&cache| Case { record: cache, n: page(random, &cache) }).collect();
@@ -30,11 +30,11 @@ pub fn cases(random: &mut Random, sizes: Sizes) -> Cases {
     Cases { reads, writes }
 }
 
-/// A history with pages of one byte: how long pages are changes nothing in the record.
-fn writes(random: &mut Random, sizes: Sizes) -> [Vec<Case>; 7] {
-    let (small, options) = (both::sizes(Sizes { page_size: 1, ..sizes }), Options::default());
-    let mut memory = Memory::new(&small, &options);
-    let mut store = Plain::open(small, options, &memory.lend()).expect("sizes within limits");
+/// A history with pages of one byte and no options: how long pages are and whether they have codes changes nothing else in the record.
+fn writes(random: &mut Random, sizes: Sizes, options: Options) -> [Vec<Case>; 7] {
+    let (small, none) = (both::sizes(Sizes { page_size: 1, ..sizes }), plain::Options::default());
+    let mut memory = Memory::new(&small, &none);
+    let mut store = Plain::open(small, none, &memory.lend()).expect("sizes within limits");
     let mut hot: Vec<u32> = (0..2 * sizes.frames + 8).map(|_| random.below(sizes.blocks)).collect();
     let mut found: [Vec<Case>; 7] = Default::default();
     for i in 0.. {
@@ -43,7 +43,7 @@ fn writes(random: &mut Random, sizes: Sizes) -> [Vec<Case>; 7] {
         if let Ok(Answer::Write { way, .. }) = store.write(&mut memory.lend(), n, &[0]) {
             let list = &mut found[way as usize - 1];
             if i > 2000 && list.len() < CASES && random.one_in(8) {
-                list.push(Case { record: Cache { sizes, ..before }, n });
+                list.push(Case { record: Cache { sizes, options, ..before }, n });
             }
         }
         if random.one_in(60) {

@@ -26,6 +26,9 @@ fn main() {
     for sizes in SIZES {
         table(&mut random, sizes);
     }
+    for sizes in &SIZES[..2] {
+        coded(&mut random, *sizes);
+    }
     println!("\nHow the cost grows from S=256 K=16 N=256 P=32 B=4: proved / plain in place");
     println!("{:8}{:>15}{:>15}{:>15}{:>15}{:>15}{:>15}", "", "soundness", "read 3", "write 3", "write 4", "write 7", "step");
     grow(&mut random, "P", 3, [8, 32, 128]);
@@ -34,16 +37,29 @@ fn main() {
 }
 
 fn table(random: &mut Random, sizes: [u32; 6]) {
-    let [s, k, n, p, b, _] = sizes;
-    let mut bench = Bench::new(random, Sizes::from(sizes));
-    println!("\nS={s} K={k} N={n} P={p} B={b}");
-    println!("{:26}{:>10}{:>10}{:>8}{:>10}{:>8}", "call", "proved", "in place", "ratio", "by value", "ratio");
+    let mut bench = Bench::new(random, Sizes::from(sizes), Options::default());
+    head(sizes, "");
     line(bench.refused());
     line(bench.sound());
     (1..=3).for_each(|way| line(bench.read(way)));
     (1..=7).for_each(|way| line(bench.write(way)));
     line(bench.step());
     line(bench.flush());
+}
+
+/// The calls that read or program flash, of a store with codes, all of which match.
+fn coded(random: &mut Random, sizes: [u32; 6]) {
+    let mut bench = Bench::new(random, Sizes::from(sizes), Options { coded: 1, ..Options::default() });
+    head(sizes, ", coded");
+    line(bench.read(3));
+    line(bench.write(7));
+    line(bench.step());
+    line(bench.flush());
+}
+
+fn head([s, k, n, p, b, _]: [u32; 6], with: &str) {
+    println!("\nS={s} K={k} N={n} P={p} B={b}{with}");
+    println!("{:26}{:>10}{:>10}{:>8}{:>10}{:>8}", "call", "proved", "in place", "ratio", "by value", "ratio");
 }
 
 fn line(Row { name, times: t }: Row) {
@@ -54,7 +70,7 @@ fn grow(random: &mut Random, word: &str, which: usize, values: [u32; 3]) {
     for value in values {
         let mut sizes = MIDDLE;
         sizes[which] = value;
-        let mut bench = Bench::new(random, Sizes::from(sizes));
+        let mut bench = Bench::new(random, Sizes::from(sizes), Options::default());
         let rows = [bench.sound(), bench.read(3), bench.write(3), bench.write(4), bench.write(7), bench.step()];
         let cells = rows.map(|row| format!("{:>15}", format!("{:.0} / {:.0}", row.times.proved, row.times.plain)));
         println!("{:8}{}", format!("{word}={value}"), cells.concat());

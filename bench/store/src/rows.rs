@@ -4,8 +4,8 @@ use crate::cases::{cases, Case, Cases, CASES};
 use crate::numbers::Numbers;
 use crate::random::Random;
 use crate::timing::{measure, Sides, Times};
-use clash::{Buffers, Cache, Refusal, Sizes};
-use plain::{Answer, Said};
+use clash::{Buffers, Cache, Options, Refusal, Sizes};
+use plain::{codes, Answer, Said};
 use std::hint::black_box;
 use std::time::Duration;
 
@@ -18,6 +18,7 @@ pub struct Row {
 /// buffers lie, and not on every side alike.
 pub struct Lent {
     flash: Run,
+    codes: Run,
     wear: Vec<u32>,
     pspace: Run,
     bspace: Run,
@@ -42,15 +43,17 @@ impl Run {
 }
 
 impl Lent {
-    fn new(random: &mut Random, sizes: &Sizes) -> Lent {
-        let [flash, pspace, bspace, page] =
-            [sizes.flash_len(), sizes.pspace_len(), sizes.bspace_len(), sizes.page_size as usize].map(|len| Run::new(random, len));
-        Lent { flash, wear: vec![0; sizes.wear_len()], pspace, bspace, page, random: Random(random.0) }
+    fn new(random: &mut Random, sizes: &Sizes, options: &Options) -> Lent {
+        let lengths = [sizes.flash_len(), options.codes_len(sizes), sizes.pspace_len(), sizes.bspace_len(), sizes.page_size as usize];
+        let [flash, codes, pspace, bspace, page] = lengths.map(|len| Run::new(random, len));
+        let mut lent = Lent { flash, codes, wear: vec![0; sizes.wear_len()], pspace, bspace, page, random: Random(random.0) };
+        lent.place();
+        lent
     }
 
     fn parts(&mut self) -> (Buffers<'_>, &mut [u8]) {
-        let (flash, pspace, bspace) = (self.flash.part(), self.pspace.part(), self.bspace.part());
-        (Buffers { flash, wear: &mut self.wear, pspace, bspace, ..Default::default() }, self.page.part())
+        let (flash, codes, pspace, bspace) = (self.flash.part(), self.codes.part(), self.pspace.part(), self.bspace.part());
+        (Buffers { flash, codes, wear: &mut self.wear, pspace, bspace, ..Default::default() }, self.page.part())
     }
 
     /// The same, in the plain store's type.
@@ -59,11 +62,12 @@ impl Lent {
         (both::lent(lent), page)
     }
 
-    /// Each buffer starts at some multiple of 16 bytes, as memory from an allocator does.
+    /// Each buffer starts at some multiple of 16 bytes, as memory from an allocator does. The codes, if any, are those of the flash.
     fn place(&mut self) {
-        for run in [&mut self.flash, &mut self.pspace, &mut self.bspace, &mut self.page] {
+        for run in [&mut self.flash, &mut self.codes, &mut self.pspace, &mut self.bspace, &mut self.page] {
             run.start = self.random.below(256) as usize * 16;
         }
+        codes::encode(self.codes.part(), self.flash.part());
     }
 }
 
@@ -151,9 +155,9 @@ const FLUSH: Calls = Sides {
 };
 
 impl Bench {
-    pub fn new(random: &mut Random, sizes: Sizes) -> Bench {
-        let lent = Lent::new(random, &sizes);
-        Bench { cases: cases(random, sizes), lent }
+    pub fn new(random: &mut Random, sizes: Sizes, options: Options) -> Bench {
+        let lent = Lent::new(random, &sizes, &options);
+        Bench { cases: cases(random, sizes, options), lent }
     }
 
     pub fn sound(&mut self) -> Row {
@@ -169,7 +173,7 @@ impl Bench {
 
     pub fn read(&mut self, way: u32) -> Row {
         let cases = &self.cases.reads[way as usize - 1];
-        same(cases, &mut self.lent, &READ, |answer| answer == Answer::Read { way });
+        same(cases, &mut self.lent, &READ, |answer| matches!(answer, Answer::Read { way: gone, .. } if gone == way));
         Row { name: format!("read {way}"), times: measure(cases, &mut self.lent, TIME, Lent::place, &READ) }
     }
 

@@ -1,4 +1,5 @@
--- Document 01's number and values for each answer.
+-- Document 01's number and values for each answer, and the chunks mended (request A7) for each that can read flash.
+use Prim.Native.Nat.{ℕ}
 use Rattle.model.specs.Sizes.{vacant}
 use Rattle.model.specs.Calls.{Answer, openDone, readDone, writeDone, stepDone, stepClean, flushDone, refused}
 use Rattle.answer.specs.declared.Refusal.{Refusal}
@@ -21,25 +22,47 @@ refusalOf refusals.Overworn = refused 3 vacant
 refusalOf refusals.Record = refused 4 vacant
 refusalOf refusals.Page = refused 5 vacant
 refusalOf (refusals.Worn b) = refused 6 (b .0)
+refusalOf refusals.Unreadable = refused 7 vacant
+refusalOf refusals.Torn = refused 14 vacant
 
 abbrev pub openingOf : Opening → Answer
 openingOf openings.Done = openDone
 openingOf (openings.Refused why) = refusalOf why
 
 abbrev pub readOf : Read → Answer
-readOf (reads.Done way) = readDone way
+readOf (reads.Done way mends) = readDone way
 readOf (reads.Refused why) = refusalOf why
 
 abbrev pub writeOf : Write → Answer
-writeOf (writes.Done way) = writeDone way vacant 0
-writeOf (writes.Rewrote block merged) = writeDone 7 (block .0) merged
+writeOf (writes.Done way mends) = writeDone way vacant 0
+writeOf (writes.Rewrote block merged mends) = writeDone 7 (block .0) merged
 writeOf (writes.Refused why) = refusalOf why
 
 abbrev pub stepOf : Step → Answer
-stepOf (steps.Done block merged) = stepDone (block .0) merged
+stepOf (steps.Done block merged mends) = stepDone (block .0) merged
 stepOf steps.Clean = stepClean
 stepOf (steps.Refused why) = refusalOf why
 
 abbrev pub flushOf : Flush → Answer
-flushOf (flushes.Done rewrites merged) = flushDone rewrites merged
+flushOf (flushes.Done rewrites merged mends) = flushDone rewrites merged
 flushOf (flushes.Refused why) = refusalOf why
+
+-- ---- the chunks mended; a refused call reports none
+
+abbrev pub mendsOfRead : Read → ℕ
+mendsOfRead (reads.Done way mends) = mends
+mendsOfRead (reads.Refused why) = 0
+
+abbrev pub mendsOfWrite : Write → ℕ
+mendsOfWrite (writes.Done way mends) = mends
+mendsOfWrite (writes.Rewrote block merged mends) = mends
+mendsOfWrite (writes.Refused why) = 0
+
+abbrev pub mendsOfStep : Step → ℕ
+mendsOfStep (steps.Done block merged mends) = mends
+mendsOfStep steps.Clean = 0
+mendsOfStep (steps.Refused why) = 0
+
+abbrev pub mendsOfFlush : Flush → ℕ
+mendsOfFlush (flushes.Done rewrites merged mends) = mends
+mendsOfFlush (flushes.Refused why) = 0

@@ -51,7 +51,8 @@ impl Sizes {
         }
     }
 
-    // Whether each size and the wear limit are within their limits, the policy is one of the three, and no other option is set.
+    // Whether each size and the wear limit are within their limits, and the policy is one of the three. Of the other options only codes are
+    // in force yet, where a page is a whole number of chunks.
     pub fn ok(self) -> bool
         ensures { λ r. ⌜ r ≡ sizesOk (sizesOf self) ⌝ }
     {
@@ -68,9 +69,10 @@ impl Sizes {
             & (1 <= self.wear_limit)
             & (self.wear_limit <= 1000000)
             & (self.policy <= 2)
-            & (self.coded == 0)
+            & (self.coded <= 1)
             & (self.shelf_pages == 0)
             & (self.marked == 0)
+            & ((self.coded == 0) | (self.page_size % 256 == 0))
     }
 }
 

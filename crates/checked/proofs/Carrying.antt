@@ -1,34 +1,52 @@
 -- A call of the model by its tests, and from what an inner call leaves to what the model's call gives.
 use mathlib.Core.Path.{_≡_, refl, sym, ap, _∙_}
-use mathlib.Core.Bool.{Bool, true, false, cond}
-use mathlib.Core.List.{[]}
-use Prim.Native.Nat.{ℕ, _+_, _*_, _≤_, _<_}
+use mathlib.Core.Logic.{_≢_}
+use mathlib.Core.Bool.{Bool, true, false, not, cond, _&&_, _||_}
+use mathlib.Core.List.{List, []}
+use Prim.Native.Nat.{ℕ, suc, _+_, _*_, _≤_, _<_}
+use native.Mathlib.Nat.{mul-le-mul}
+use native.Mathlib.Omega.{arith}
 use lib.Dec.{leb, eqb}
 use lib.ListN.{length}
-use borrow.Author.Tests.{leb-true, eq-eqb, ne-eqb, lt-ltb, le-ltb}
-use Rattle.prelude.proofs.Tests.{by-test}
+use borrow.Author.Tests.{leb-true, eqb-true, eq-eqb, ne-eqb, lt-ltb, le-ltb}
+use Rattle.prelude.proofs.Tests.{by-test, clash, or-false}
 use Rattle.model.specs.Sizes.{Sizes, vacant, InLimits}
 use Rattle.model.specs.Directory.{Directory}
 use Rattle.model.specs.Soundness.{sound}
-use Rattle.model.specs.Policy.{Choice, policyChoice, plan, dueOf}
-use Rattle.model.specs.Moves.{Memory}
+use Rattle.model.specs.Policy.{Choice, readWay, policyChoice, Plan, plan, dueOf}
+use Rattle.model.specs.Moves.{Memory, readDirectory, readPage}
 use Rattle.model.specs.Formats.{storeFormat, chipFor}
 use Rattle.model.specs.Calls.{Answer, readDone, writeDone, refused, isRefused, Call, read, write, part, step, flush, State, Outcome}
 use Rattle.model.specs.Calls.{turnedDown, checked, readOutcome, writeOutcome, partOutcome, stepOutcome, flushOutcome, decide, noBytes}
-use Rattle.model.specs.Calls.{callPages, Page, Cell, Buffers, lentOk, Fits, Store, zeroPage, memoryOf, buffersOf, stateOf, told, lentBuffer}
-use Rattle.model.specs.Calls.{filledBuffer, unaltered, heeding, flashCells, mendsOf, readsAll, carriedOut, callReading, call}
-use Rattle.model.proofs.Demand3.{decide-keeps}
+use Rattle.model.specs.Calls.{readsFlash, readsPage, writeMerges, stepMerges, stepsMerge, faultMet, mendsMet, heeding, callPages}
+use Rattle.model.specs.Calls.{Page, Cell}
+use Rattle.model.specs.Calls.{Buffers, lentOk, Fits, Store, zeroPage, flashCells, memoryOf, buffersOf, stateOf, told, lentBuffer}
+use Rattle.model.specs.Calls.{filledBuffer, unaltered, faultOf, mendsOf, readsAll, carriedOut, callReading, call}
+use Rattle.model.proofs.Demand3.{KeepsRefused, decide-keeps, heeding-keeps}
 use Rattle.model.proofs.Buffers.{buffers-of-memory, fits-of}
 use Rattle.model.proofs.Soundness.{sound-facts}
-use Rattle.model.proofs.Plain.{uncoded, unmarked, faultless, mendless, heeds-none}
-use Rattle.answer.specs.Carried.{Ready, Carried}
+use Rattle.model.proofs.RulesCalls.{heeds-rule}
+use Rattle.answer.specs.Carried.{Ready, Carried, CarriedTo}
+use Rattle.answer.proofs.Heeding.{down-late, goes-on}
+use Rattle.chip.specs.declared.Seen.{Seen}
+use Rattle.chip.specs.Chip.{faultOn, faultIn, mendsIn}
+use Rattle.chip.proofs.Cells.{lent-of}
+use Rattle.chip.proofs.Looking.{fault-none, mends-none, met-late}
 use Rattle.reads.specs.declared.Answered.{Answered}
 use Rattle.reads.specs.Reads.{Readable, ReadOut}
-use Rattle.chip.proofs.Cells.{lent-of}
-use Rattle.reads.proofs.Plain.{nothing-met}
-use Rattle.writes.specs.Writes.{Writable, Wrote}
-use Rattle.flushes.specs.Flushes.{StepCarried, FlushCarried}
+use Rattle.writes.specs.Writes.{Writable, Beside, writeReads, Wrote}
+use Rattle.flushes.specs.Flushes.{StepCarried, flushMerges, FlushCarried}
 use Rattle.parts.specs.Parts.{PartReady, PartWrote, combinedOf}
+
+and-f : (t : Bool) → (t && false) ≡ false
+and-f true = refl
+and-f false = refl
+
+or-swap : (x y : Bool) → (x || y) ≡ (y || x)
+or-swap true true = refl
+or-swap true false = refl
+or-swap false true = refl
+or-swap false false = refl
 
 module _ (pick : Choice) (s : Store) (c : Call Page) where
   abbrev sz : Sizes
@@ -36,6 +54,17 @@ module _ (pick : Choice) (s : Store) (c : Call Page) where
 
   abbrev sounds : Bool
   sounds = sound (s .cache .sizes) (s .cache .directory)
+
+  -- the flash pages that the call reads
+  abbrev reading : ℕ → Bool
+  reading = readsAll storeFormat pick (s .cache .sizes) (stateOf s) c (λ i. false)
+
+  -- the refusal that it meets there
+  abbrev late : ℕ
+  late = faultOf storeFormat pick (s .cache .sizes) (memoryOf storeFormat (s .cache .sizes) (s .lent) .flash) reading
+
+  abbrev decided : Outcome
+  decided = decide pick (s .cache .sizes) (stateOf s) (told c)
 
   pub call-record : sounds ≡ false → call storeFormat pick s c ≡ unaltered (refused 4 vacant) s c
   unfolding call callReading
@@ -46,21 +75,6 @@ module _ (pick : Choice) (s : Store) (c : Call Page) where
   unfolding call callReading
   call-buffer a b = rw (a, callReading) (rw b)
 
-  pub call-carried : sounds ≡ true → lentOk storeFormat (s .cache .sizes) (s .lent) ≡ true
-      → call storeFormat pick s c ≡ carriedOut storeFormat pick s c (λ i. false) (decide pick (s .cache .sizes) (stateOf s) (told c))
-  unfolding call callReading
-  call-carried a b =
-      let l = sound-facts (s .cache .sizes) (s .cache .directory) a .limits in
-      let e = faultless (s .cache .sizes) (uncoded _ l) (unmarked _ l) pick (memoryOf storeFormat (s .cache .sizes) (s .lent) .flash)
-      (readsAll storeFormat pick (s .cache .sizes) (stateOf s) c (λ i. false)) in
-      rw (a, callReading) (rw b (ap (carriedOut storeFormat pick s c (λ i. false))
-      (ap (λ (x : ℕ). heeding (stateOf s) x (decide pick (s .cache .sizes) (stateOf s) (told c))) e ∙ heeds-none (stateOf s) _)))
-
-  -- a refused outcome hands everything back
-  pub carried-refused : (n b : ℕ) → carriedOut storeFormat pick s c (λ i. false) (turnedDown (stateOf s) n b) ≡ unaltered (refused n b) s c
-  unfolding carriedOut
-  carried-refused n b = refl
-
   -- buffers are their pages and wear
   joined-again : (u : Buffers) → Fits storeFormat sz u → buffersOf (memoryOf storeFormat sz u) (u .wear) ≡ u
   joined-again u f = buffers-of-memory storeFormat sz u f
@@ -69,49 +83,93 @@ module _ (pick : Choice) (s : Store) (c : Call Page) where
   bufferAfter o = cond (isRefused (o .answer)) (lentBuffer c) (filledBuffer (chipFor sz) sz (s .cache .directory)
       (memoryOf storeFormat sz (s .lent)) c)
 
-  module _ (l : InLimits sz) (f : Fits storeFormat sz (s .lent)) (u′ : Buffers) (f′ : Fits storeFormat sz u′) (a : Answer) (d′ : Directory)
-      (page′ : Page) where
-    pub carried-call : Carried (decide pick sz (stateOf s) (told c)) (memoryOf storeFormat sz (s .lent))
-        (callPages (chipFor sz) (zeroPage sz) pick sz (stateOf s) (memoryOf storeFormat sz (s .lent)) c) a d′ (u′ .wear)
-        (memoryOf storeFormat sz u′)
-        → page′ ≡ bufferAfter (decide pick sz (stateOf s) (told c))
-        → record { answer = a; mends = 0; store = record { cache = record { sizes = sz; directory = d′ }; lent = u′ }; page = page′ }
-        ≡ carriedOut storeFormat pick s c (λ i. false) (decide pick sz (stateOf s) (told c))
+  module _ (a : sounds ≡ true) (b : lentOk storeFormat (s .cache .sizes) (s .lent) ≡ true) where
+    call-carried : call storeFormat pick s c ≡ carriedOut storeFormat pick s c (λ i. false) (heeding (stateOf s) late decided)
+    unfolding call callReading
+    call-carried = rw (a, callReading) (rw b)
+
+    -- a refused outcome hands everything back, whatever is met in flash
+    pub call-down : (n x : ℕ) → decided ≡ turnedDown (stateOf s) n x → call storeFormat pick s c ≡ unaltered (refused n x) s c
     unfolding carriedOut
-    carried-call h p =
-        let o : Outcome = decide pick sz (stateOf s) (told c) in
-        by-test (isRefused (o .answer))
-        (λ e. let k = decide-keeps sz (stateOf s) pick (told c) e in
-        let w : u′ .wear ≡ s .lent .wear = h .wear-is ∙ ap (λ (x : State). x .wear) k in
-        let m : memoryOf storeFormat sz u′ ≡ memoryOf storeFormat sz (s .lent) = h .pages-are ∙ rw e in
-        let u : u′ ≡ s .lent = sym (joined-again u′ f′) ∙ ap (λ (x : Memory Cell Page). buffersOf x (u′ .wear)) m
-        ∙ ap (buffersOf (memoryOf storeFormat sz (s .lent))) w ∙ joined-again (s .lent) f in
-        let d : d′ ≡ s .cache .directory = h .directory-is ∙ ap (λ (x : State). x .directory) k in
-        let q : page′ ≡ lentBuffer c = p ∙ rw e in
-        let b : a ≡ o .answer = h .answer-is in
-        rw (e, carriedOut) (λ i. record {
-          answer = b i;
-          mends = 0;
-          store = record { cache = record { sizes = sz; directory = d i }; lent = u i };
-          page = q i;
-        }))
-        (λ e. let m : memoryOf storeFormat sz u′ ≡ callPages (chipFor sz) (zeroPage sz) pick sz (stateOf s)
-        (memoryOf storeFormat sz (s .lent)) c = h .pages-are ∙ rw e in
-        let u : u′ ≡ buffersOf (callPages (chipFor sz) (zeroPage sz) pick sz (stateOf s) (memoryOf storeFormat sz (s .lent)) c)
-        (o .state .wear) = sym
-        (joined-again u′ f′) ∙ ap (λ (x : Memory Cell Page). buffersOf x (u′ .wear)) m
-        ∙ ap (buffersOf (callPages (chipFor sz) (zeroPage sz) pick sz (stateOf s) (memoryOf storeFormat sz (s .lent)) c)) (h .wear-is) in
-        let q : page′ ≡ filledBuffer (chipFor sz) sz (s .cache .directory) (memoryOf storeFormat sz (s .lent)) c = p ∙ rw e in
-        let b : a ≡ o .answer = h .answer-is in let d : d′ ≡ o .state .directory = h .directory-is in
-        let z : 0 ≡ mendsOf storeFormat pick sz (memoryOf storeFormat sz (s .lent) .flash)
-        (readsAll storeFormat pick sz (stateOf s) c (λ i. false))
-        = sym (mendless sz (uncoded _ l) (unmarked _ l) pick _ _) in
-        rw (e, carriedOut) (λ i. record {
-          answer = b i;
-          mends = z i;
-          store = record { cache = record { sizes = sz; directory = d i }; lent = u i };
-          page = q i;
-        }))
+    call-down n x e = call-carried ∙ ap (carriedOut storeFormat pick s c (λ i. false)) (heeds-rule (stateOf s) late decided .0
+        (ap (λ (o : Outcome). isRefused (o .answer)) e) ∙ e)
+
+    module _ (u′ : Buffers) (f′ : Fits storeFormat sz u′) (answer : Answer) (mended : ℕ) (d′ : Directory) (page′ : Page) where
+      abbrev f : Fits storeFormat sz (s .lent)
+      f = fits-of storeFormat (s .cache .sizes) (s .lent) b
+
+      carried-call : (o : Outcome) → KeepsRefused (stateOf s) o
+          → Carried o (mendsOf storeFormat pick sz (memoryOf storeFormat sz (s .lent) .flash) reading) (memoryOf storeFormat sz (s .lent))
+          (callPages (chipFor sz) (zeroPage sz) pick sz (stateOf s) (memoryOf storeFormat sz (s .lent)) c) answer mended d′ (u′ .wear)
+          (memoryOf storeFormat sz u′)
+          → page′ ≡ bufferAfter o
+          → record {
+            answer = answer;
+            mends = mended;
+            store = record { cache = record { sizes = sz; directory = d′ }; lent = u′ };
+            page = page′;
+          }
+          ≡ carriedOut storeFormat pick s c (λ i. false) o
+      unfolding carriedOut
+      carried-call o keeps h p =
+          by-test (isRefused (o .answer))
+          (λ e. let k = keeps e in
+          let w : u′ .wear ≡ s .lent .wear = h .wear-is ∙ ap (λ (x : State). x .wear) k in
+          let m : memoryOf storeFormat sz u′ ≡ memoryOf storeFormat sz (s .lent) = h .pages-are ∙ rw e in
+          let u : u′ ≡ s .lent = sym (joined-again u′ f′) ∙ ap (λ (x : Memory Cell Page). buffersOf x (u′ .wear)) m
+          ∙ ap (buffersOf (memoryOf storeFormat sz (s .lent))) w ∙ joined-again (s .lent) f in
+          let d : d′ ≡ s .cache .directory = h .directory-is ∙ ap (λ (x : State). x .directory) k in
+          let q : page′ ≡ lentBuffer c = p ∙ rw e in
+          let g : answer ≡ o .answer = h .answer-is in
+          let z : mended ≡ 0 = h .mends-are ∙ rw e in
+          rw (e, carriedOut) (λ i. record {
+            answer = g i;
+            mends = z i;
+            store = record { cache = record { sizes = sz; directory = d i }; lent = u i };
+            page = q i;
+          }))
+          (λ e. let m : memoryOf storeFormat sz u′ ≡ callPages (chipFor sz) (zeroPage sz) pick sz (stateOf s)
+          (memoryOf storeFormat sz (s .lent)) c = h .pages-are ∙ rw e in
+          let u : u′ ≡ buffersOf (callPages (chipFor sz) (zeroPage sz) pick sz (stateOf s) (memoryOf storeFormat sz (s .lent)) c)
+          (o .state .wear) = sym
+          (joined-again u′ f′) ∙ ap (λ (x : Memory Cell Page). buffersOf x (u′ .wear)) m
+          ∙ ap (buffersOf (callPages (chipFor sz) (zeroPage sz) pick sz (stateOf s) (memoryOf storeFormat sz (s .lent)) c)) (h .wear-is) in
+          let q : page′ ≡ filledBuffer (chipFor sz) sz (s .cache .directory) (memoryOf storeFormat sz (s .lent)) c = p ∙ rw e in
+          let g : answer ≡ o .answer = h .answer-is in let d : d′ ≡ o .state .directory = h .directory-is in
+          let z : mended ≡ mendsOf storeFormat pick sz (memoryOf storeFormat sz (s .lent) .flash) reading = h .mends-are ∙ rw e in
+          rw (e, carriedOut) (λ i. record {
+            answer = g i;
+            mends = z i;
+            store = record { cache = record { sizes = sz; directory = d i }; lent = u i };
+            page = q i;
+          }))
+
+      module _ (reads : ℕ → Bool) (same : (i : ℕ) → reading i ≡ reads i) where
+        late-is : late ≡ faultIn sz (s .lent) reads
+        unfolding faultOf memoryOf flashCells
+        late-is = λ j. faultIn sz (s .lent) (λ i. same i j)
+
+        mends-are : mendsOf storeFormat pick sz (memoryOf storeFormat sz (s .lent) .flash) reading ≡ mendsIn sz (s .lent) reads
+        unfolding mendsOf memoryOf flashCells
+        mends-are = λ j. mendsIn sz (s .lent) (λ i. same i j)
+
+        -- an inner call did what the outcome says, once what it reads is heeded
+        pub call-done : (o : Outcome) → decided ≡ o
+            → Carried (heeding (stateOf s) (faultIn sz (s .lent) reads) o) (mendsIn sz (s .lent) reads) (memoryOf storeFormat sz (s .lent))
+            (callPages (chipFor sz) (zeroPage sz) pick sz (stateOf s) (memoryOf storeFormat sz (s .lent)) c) answer mended d′ (u′ .wear)
+            (memoryOf storeFormat sz u′)
+            → page′ ≡ bufferAfter (heeding (stateOf s) (faultIn sz (s .lent) reads) o)
+            → record {
+              answer = answer;
+              mends = mended;
+              store = record { cache = record { sizes = sz; directory = d′ }; lent = u′ };
+              page = page′;
+            } ≡ call storeFormat pick s c
+        call-done o e h p =
+            let says : heeding (stateOf s) late decided ≡ heeding (stateOf s) (faultIn sz (s .lent) reads) o =
+            (ap (λ (x : ℕ). heeding (stateOf s) x decided) late-is ∙ ap (heeding (stateOf s) (faultIn sz (s .lent) reads)) e) in
+            carried-call (heeding (stateOf s) late decided) (heeding-keeps sz (stateOf s) late decided (decide-keeps sz (stateOf s) pick
+            (told c))) (rw (says, mends-are) h) (rw says p) ∙ sym call-carried
 
 -- ---- the checks of a read and a write
 
@@ -132,43 +190,18 @@ module _ (sz : Sizes) (k : State) (n long : ℕ) (o : Outcome) where
 module _ (s : Store) (c : Call Page) (n long : ℕ) (o : Outcome)
     (is : decide policyChoice (s .cache .sizes) (stateOf s) (told c) ≡ checked (s .cache .sizes) (stateOf s) n long o)
     (a : sound (s .cache .sizes) (s .cache .directory) ≡ true) (b : lentOk storeFormat (s .cache .sizes) (s .lent) ≡ true) where
-  turned-down : (m : ℕ) → checked (s .cache .sizes) (stateOf s) n long o ≡ turnedDown (stateOf s) m vacant
-      → call storeFormat policyChoice s c ≡ unaltered (refused m vacant) s c
-  turned-down m e = call-carried policyChoice s c a b ∙ ap (carriedOut storeFormat policyChoice s c (λ i. false)) (is ∙ e)
-      ∙ carried-refused policyChoice s c m vacant
-
   pub call-page-buffer : (long ≡ s .cache .sizes .S → ⊥) → call storeFormat policyChoice s c ≡ unaltered (refused 2 vacant) s c
-  call-page-buffer e = turned-down 2 (checked-buffer (s .cache .sizes) (stateOf s) n long o e)
+  call-page-buffer e = call-down policyChoice s c a b 2 vacant (is ∙ checked-buffer (s .cache .sizes) (stateOf s) n long o e)
 
   pub call-page : long ≡ s .cache .sizes .S → s .cache .sizes .N * s .cache .sizes .K ≤ n
       → call storeFormat policyChoice s c ≡ unaltered (refused 5 vacant) s c
-  call-page e l = turned-down 5 (checked-page (s .cache .sizes) (stateOf s) n long o e l)
-
-  -- accepted, as far as these checks go
-  pub call-passed : long ≡ s .cache .sizes .S → n < s .cache .sizes .N * s .cache .sizes .K → (u′ : Buffers)
-      → Fits storeFormat (s .cache .sizes) u′
-      → (answer : Answer) (d′ : Directory) (page′ : Page)
-      → Carried o (memoryOf storeFormat (s .cache .sizes) (s .lent))
-      (callPages (chipFor (s .cache .sizes)) (zeroPage (s .cache .sizes)) policyChoice (s .cache .sizes) (stateOf s)
-      (memoryOf storeFormat (s .cache .sizes) (s .lent)) c) answer d′ (u′ .wear) (memoryOf storeFormat (s .cache .sizes) u′)
-      → page′ ≡ bufferAfter policyChoice s c o
-      → record {
-        answer = answer;
-        mends = 0;
-        store = record { cache = record { sizes = s .cache .sizes; directory = d′ }; lent = u′ };
-        page = page′;
-      }
-      ≡ call storeFormat policyChoice s c
-  call-passed e l u′ f′ answer d′ page′ h p =
-      let q : decide policyChoice (s .cache .sizes) (stateOf s) (told c) ≡ o = is
-      ∙ checked-passed (s .cache .sizes) (stateOf s) n long o e l in
-      carried-call policyChoice s c (sound-facts (s .cache .sizes) (s .cache .directory) a .limits)
-      (fits-of storeFormat (s .cache .sizes) (s .lent) b) u′ f′ answer d′ page′ (rw q h) (rw q p)
-      ∙ sym (call-carried policyChoice s c a b)
+  call-page e l = call-down policyChoice s c a b 5 vacant (is ∙ checked-page (s .cache .sizes) (stateOf s) n long o e l)
 
 same-either : (x : Page) (t : Bool) → x ≡ cond t x x
 same-either x true = refl
 same-either x false = refl
+
+-- ---- a read and a write
 
 module _ (s : Store) (n : ℕ) (x : Page) where
   pub read-checked : decide policyChoice (s .cache .sizes) (stateOf s) (told (read n x))
@@ -182,6 +215,15 @@ module _ (s : Store) (n : ℕ) (x : Page) where
   unfolding decide
   write-checked = refl
 
+  read-reads : (i : ℕ) → reading policyChoice s (read n x) i ≡ readsPage (s .cache .sizes) (s .cache .directory) n i
+  unfolding readsAll readsFlash
+  read-reads i = or-false (readsPage (s .cache .sizes) (s .cache .directory) n i)
+
+  write-reads : (i : ℕ) → reading policyChoice s (write n x) i ≡ writeReads (s .cache .sizes) (s .cache .directory)
+      (plan policyChoice (s .cache .sizes) (s .cache .directory) (s .lent .wear) n) (λ i. false) i
+  unfolding readsAll readsFlash
+  write-reads i = refl
+
   module _ (a : sound (s .cache .sizes) (s .cache .directory) ≡ true) (b : lentOk storeFormat (s .cache .sizes) (s .lent) ≡ true)
       (e : length x ≡ s .cache .sizes .S) (l : n < s .cache .sizes .N * s .cache .sizes .K) where
     pub readable : Readable (s .cache .sizes) (s .lent .flash) (s .lent .codes) (s .lent .marks) (s .lent .pspace) (s .lent .bspace) n x
@@ -193,7 +235,7 @@ module _ (s : Store) (n : ℕ) (x : Page) where
       page-length = e;
     }
 
-    pub writable : Writable (s .cache .sizes) (s .cache .directory) (s .lent) n x
+    pub writable : Writable (s .cache .sizes) (s .cache .directory) (s .lent) n x (record { fault = 0; mends = 0 })
     writable = record {
       ready = record {
         sound = sound-facts (s .cache .sizes) (s .cache .directory) a;
@@ -201,42 +243,106 @@ module _ (s : Store) (n : ℕ) (x : Page) where
       };
       page-lt = l;
       page-length = e;
+      few = omega arith;
     }
 
-    pub read-done : (r : Answered) (d′ : Directory) (page′ : Page) → ReadOut (s .cache .sizes) (s .cache .directory) (s .lent .flash)
-        (s .lent .codes) (s .lent .marks) (s .lent .pspace) (s .lent .bspace) n x r d′ page′
-        → record {
-          answer = readDone (r .way);
-          mends = 0;
-          store = record { cache = record { sizes = s .cache .sizes; directory = d′ }; lent = s .lent };
-          page = page′;
-        } ≡ call storeFormat policyChoice s (read n x)
-    unfolding readOutcome callPages memoryOf flashCells
-    read-done r d′ page′ h =
-        let sz : Sizes = s .cache .sizes in
-        let q = sound-facts (s .cache .sizes) (s .cache .directory) a .limits in
-        let z : r .fault ≡ 0 = h .fault-is ∙ nothing-met sz q (s .cache .directory) _ _ _ (s .lent .pspace) (s .lent .bspace) n in
-        call-passed s (read n x) n (length x) (readOutcome (s .cache .sizes) (stateOf s) n) read-checked a b e l
-        (s .lent) (fits-of storeFormat (s .cache .sizes) (s .lent) b) (readDone (r .way)) d′ page′
-        (record { answer-is = ap readDone (h .way-is); directory-is = h .directory-is; wear-is = refl; pages-are = refl })
-        (h .page-is ∙ rw z)
+    module _ (r : Answered) (d′ : Directory) (page′ : Page) (h : ReadOut (s .cache .sizes) (s .cache .directory) (s .lent .flash)
+        (s .lent .codes) (s .lent .marks) (s .lent .pspace) (s .lent .bspace) n x r d′ page′) where
+      abbrev says : Outcome
+      says = readOutcome (s .cache .sizes) (stateOf s) n
 
-    pub write-done : (u′ : Buffers) → Fits storeFormat (s .cache .sizes) u′ → (answer : Answer) (d′ : Directory)
+      abbrev reads : ℕ → Bool
+      reads = readsPage (s .cache .sizes) (s .cache .directory) n
+
+      decided-is : decide policyChoice (s .cache .sizes) (stateOf s) (told (read n x)) ≡ says
+      decided-is = read-checked ∙ checked-passed (s .cache .sizes) (stateOf s) n (length x) says e l
+
+      accepted : isRefused (says .answer) ≡ false
+      unfolding readOutcome
+      accepted = refl
+
+      -- flash has it, and it can be read; or it is not in flash
+      pub read-done : r .fault ≡ 0 → record {
+        answer = readDone (r .way);
+        mends = r .mends;
+        store = record { cache = record { sizes = s .cache .sizes; directory = d′ }; lent = s .lent };
+        page = page′;
+      } ≡ call storeFormat policyChoice s (read n x)
+      unfolding readOutcome callPages memoryOf flashCells
+      read-done z =
+          let none : faultIn (s .cache .sizes) (s .lent) reads ≡ 0 = sym (h .fault-is) ∙ z in
+          let stands = heeds-rule (stateOf s) (faultIn (s .cache .sizes) (s .lent) reads) says .2 accepted none in
+          call-done policyChoice s (read n x) a b (s .lent) (fits-of storeFormat (s .cache .sizes) (s .lent) b) (readDone (r .way))
+          (r .mends) d′ page′ reads read-reads says decided-is
+          (rw stands (record {
+            answer-is = ap readDone (h .way-is);
+            mends-are = h .mends-are;
+            directory-is = h .directory-is;
+            wear-is = refl;
+            pages-are = refl;
+          })) (rw stands (h .page-is ∙ rw z))
+
+      -- a page that is not in flash meets nothing there
+      from-flash : r .fault ≢ 0 → readWay (s .cache .sizes) (s .cache .directory) n ≡ 3
+      unfolding readsPage
+      from-flash ne = by-test (eqb (readWay (s .cache .sizes) (s .cache .directory) n) 3) (λ t. eqb-true _ 3 t)
+          (λ t. absurd (ne (h .fault-is ∙ fault-none (s .cache .sizes) (s .lent .flash) (s .lent .codes) (s .lent .marks) reads
+          (λ i. rw t (and-f (eqb i n))))))
+
+      directory-stays : r .fault ≢ 0 → d′ ≡ s .cache .directory
+      unfolding readDirectory
+      directory-stays ne = h .directory-is ∙ rw (from-flash ne, readDirectory)
+
+      -- the page meets a refusal
+      pub read-late : r .fault ≢ 0 → record {
+        answer = refused (cond (eqb (r .fault) 7) 7 14) vacant;
+        mends = 0;
+        store = record { cache = record { sizes = s .cache .sizes; directory = d′ }; lent = s .lent };
+        page = page′;
+      } ≡ call storeFormat policyChoice s (read n x)
+      read-late ne =
+          let sz : Sizes = s .cache .sizes in
+          let some : faultIn sz (s .lent) reads ≢ 0 = λ z. ne (h .fault-is ∙ z) in
+          let is : cond (eqb (r .fault) 7) 7 14 ≡ faultIn sz (s .lent) reads =
+          (rw (h .fault-is) (met-late sz (faultOn sz (s .lent .flash) (s .lent .codes) (s .lent .marks)) reads some)) in
+          let down = heeds-rule (stateOf s) (faultIn sz (s .lent) reads) says .1 accepted some in
+          let same : page′ ≡ x = h .page-is ∙ rw (ne-eqb (r .fault) 0 ne) in
+          call-done policyChoice s (read n x) a b (s .lent) (fits-of storeFormat sz (s .lent) b)
+          (refused (cond (eqb (r .fault) 7) 7 14) vacant) 0 d′ page′ reads read-reads says decided-is
+          (record {
+            answer-is = ap (λ (m : ℕ). refused m vacant) is ∙ sym (down .0);
+            mends-are = rw (down .0);
+            directory-is = directory-stays ne ∙ ap (λ (k : State). k .directory) (sym (down .1));
+            wear-is = ap (λ (k : State). k .wear) (sym (down .1));
+            pages-are = rw (down .0);
+          }) (rw (down .0) same)
+
+    pub write-done : (u′ : Buffers) → Fits storeFormat (s .cache .sizes) u′ → (answer : Answer) (mended : ℕ) (d′ : Directory) (ops : ℕ)
+        → suc (s .cache .sizes .K) ≤ ops
         → Wrote (s .cache .sizes) (s .cache .directory) (s .lent) n x
-        (plan policyChoice (s .cache .sizes) (s .cache .directory) (s .lent .wear) n) answer d′ u′
+        (plan policyChoice (s .cache .sizes) (s .cache .directory) (s .lent .wear) n) (record { fault = 0; mends = 0 }) ops answer mended
+        d′ u′
         → record {
           answer = answer;
-          mends = 0;
+          mends = mended;
           store = record { cache = record { sizes = s .cache .sizes; directory = d′ }; lent = u′ };
           page = x;
         }
         ≡ call storeFormat policyChoice s (write n x)
     unfolding callPages
-    write-done u′ f′ answer d′ h = call-passed s (write n x) n (length x)
-        (writeOutcome (s .cache .sizes) (stateOf s) n (plan policyChoice (s .cache .sizes) (s .cache .directory) (s .lent .wear) n))
-        write-checked a b e l u′ f′ answer d′ x h (same-either x (isRefused
-        (writeOutcome (s .cache .sizes) (stateOf s) n (plan policyChoice (s .cache .sizes) (s .cache .directory) (s .lent .wear)
-        n) .answer)))
+    write-done u′ f′ answer mended d′ ops enough h =
+        let sz : Sizes = s .cache .sizes in
+        let q = plan policyChoice sz (s .cache .directory) (s .lent .wear) n in
+        let o : Outcome = writeOutcome sz (stateOf s) n q in
+        let beside : Beside sz (s .cache .directory) (s .lent) n (λ i. false) (record { fault = 0; mends = 0 }) = record {
+          within = λ i t. clash t refl;
+          fault-is = sym (fault-none sz (s .lent .flash) (s .lent .codes) (s .lent .marks) (λ i. false) (λ i. refl));
+          mends-are = sym (mends-none sz (s .lent .flash) (s .lent .codes) (s .lent .marks) (λ i. false) (λ i. refl));
+        } in
+        call-done policyChoice s (write n x) a b u′ f′ answer mended d′ x (writeReads sz (s .cache .directory) q (λ i. false)) write-reads o
+        (write-checked ∙ checked-passed sz (stateOf s) n (length x) o e l) (h (λ i. false) beside .whole enough)
+        (same-either x (isRefused (heeding (stateOf s)
+        (faultIn sz (s .lent) (writeReads sz (s .cache .directory) q (λ i. false))) o .answer)))
 
 -- ---- a part write
 
@@ -255,39 +361,62 @@ module _ (sz : Sizes) (k : State) (first many : ℕ) (w : Outcome) where
   part-some e q = rw (e, partOutcome) (rw q)
 
 module _ (s : Store) (n first : ℕ) (x page : Page) where
+  abbrev planned : Plan
+  planned = plan policyChoice (s .cache .sizes) (s .cache .directory) (s .lent .wear) n
+
   abbrev asWrite : Outcome
-  asWrite = writeOutcome (s .cache .sizes) (stateOf s) n (plan policyChoice (s .cache .sizes) (s .cache .directory) (s .lent .wear) n)
+  asWrite = writeOutcome (s .cache .sizes) (stateOf s) n planned
 
   pub part-checked : decide policyChoice (s .cache .sizes) (stateOf s) (told (part n first x page))
       ≡ checked (s .cache .sizes) (stateOf s) n (length page) (partOutcome (s .cache .sizes) (stateOf s) first (length x) asWrite)
   unfolding decide
   part-checked = refl
 
+  -- with no bytes nothing is read
+  none-read : noBytes x ≡ true → (i : ℕ) → reading policyChoice s (part n first x page) i ≡ false
+  unfolding readsAll readsFlash
+  none-read q i = rw q
+
+  -- else page n, and what the write merges
+  part-reads : noBytes x ≡ false → (i : ℕ) → reading policyChoice s (part n first x page) i
+      ≡ writeReads (s .cache .sizes) (s .cache .directory) planned (readsPage (s .cache .sizes) (s .cache .directory) n) i
+  unfolding readsAll readsFlash
+  part-reads q i = rw q (or-false _ ∙ or-swap (readsPage (s .cache .sizes) (s .cache .directory) n i)
+      (writeMerges (s .cache .sizes) (s .cache .directory) planned i))
+
   module _ (a : sound (s .cache .sizes) (s .cache .directory) ≡ true) (b : lentOk storeFormat (s .cache .sizes) (s .lent) ≡ true)
       (e : length page ≡ s .cache .sizes .S) (l : n < s .cache .sizes .N * s .cache .sizes .K) where
     -- the checks passed, the outcome is o
     passed-as : (o : Outcome) → partOutcome (s .cache .sizes) (stateOf s) first (length x) asWrite ≡ o
-        → decide policyChoice (s .cache .sizes) (stateOf s) (told (part n first x page))
-        ≡ checked (s .cache .sizes) (stateOf s) n (length page) o
+        → decide policyChoice (s .cache .sizes) (stateOf s) (told (part n first x page)) ≡ o
     passed-as o h = part-checked ∙ ap (checked (s .cache .sizes) (stateOf s) n (length page)) h
+        ∙ checked-passed (s .cache .sizes) (stateOf s) n (length page) o e l
 
     pub call-reach : leb (first + length x) (s .cache .sizes .S) ≡ false
         → call storeFormat policyChoice s (part n first x page) ≡ unaltered (refused 2 vacant) s (part n first x page)
-    call-reach h = let o : Outcome = turnedDown (stateOf s) 2 vacant in
-        turned-down s (part n first x page) n (length page) o (passed-as o
-        (part-past (s .cache .sizes) (stateOf s) first (length x) asWrite h)) a b 2
-        (checked-passed (s .cache .sizes) (stateOf s) n (length page) o e l)
+    call-reach h = call-down policyChoice s (part n first x page) a b 2 vacant
+        (passed-as (turnedDown (stateOf s) 2 vacant) (part-past (s .cache .sizes) (stateOf s) first (length x) asWrite h))
 
     module _ (r : leb (first + length x) (s .cache .sizes .S) ≡ true) where
       -- way 0
       pub nothing-done : noBytes x ≡ true → record { answer = writeDone 0 vacant 0; mends = 0; store = s; page = page }
           ≡ call storeFormat policyChoice s (part n first x page)
       unfolding callPages
-      nothing-done q = let o : Outcome = record { answer = writeDone 0 vacant 0; state = stateOf s } in
-          call-passed s (part n first x page) n (length page) o (passed-as o
-          (part-nothing (s .cache .sizes) (stateOf s) first (length x) asWrite r q)) a b e l (s .lent)
-          (fits-of storeFormat (s .cache .sizes) (s .lent) b) (writeDone 0 vacant 0) (s .cache .directory) page
-          (record { answer-is = refl; directory-is = refl; wear-is = refl; pages-are = rw (q, callPages) }) (rw q)
+      nothing-done q =
+          let sz : Sizes = s .cache .sizes in
+          let o : Outcome = record { answer = writeDone 0 vacant 0; state = stateOf s } in
+          let none = fault-none sz (s .lent .flash) (s .lent .codes) (s .lent .marks) (λ i. false) (λ i. refl) in
+          let stands = heeds-rule (stateOf s) (faultIn sz (s .lent) (λ i. false)) o .2 refl none in
+          call-done policyChoice s (part n first x page) a b (s .lent) (fits-of storeFormat sz (s .lent) b) (writeDone 0 vacant 0) 0
+          (s .cache .directory) page (λ i. false) (none-read q) o
+          (passed-as o (part-nothing sz (stateOf s) first (length x) asWrite r q))
+          (rw stands (record {
+            answer-is = refl;
+            mends-are = sym (mends-none sz (s .lent .flash) (s .lent .codes) (s .lent .marks) (λ i. false) (λ i. refl));
+            directory-is = refl;
+            wear-is = refl;
+            pages-are = rw (q, callPages);
+          })) (rw stands (rw q))
 
       pub part-ready : PartReady (s .cache .sizes) (s .cache .directory) (s .lent) n first x page
       part-ready = record {
@@ -301,56 +430,79 @@ module _ (s : Store) (n first : ℕ) (x page : Page) where
       }
 
       pub part-done : noBytes x ≡ false → (u′ : Buffers) → Fits storeFormat (s .cache .sizes) u′
-          → (answer : Answer) (d′ : Directory) (page′ : Page)
-          → PartWrote (s .cache .sizes) (s .cache .directory) (s .lent) n first x page answer d′ u′ page′
+          → (answer : Answer) (mended : ℕ) (d′ : Directory) (page′ : Page) (ops : ℕ) → suc (s .cache .sizes .K) ≤ ops
+          → PartWrote (s .cache .sizes) (s .cache .directory) (s .lent) n first x page ops answer mended d′ u′ page′
           → record {
             answer = answer;
-            mends = 0;
+            mends = mended;
             store = record { cache = record { sizes = s .cache .sizes; directory = d′ }; lent = u′ };
             page = page′;
           } ≡ call storeFormat policyChoice s (part n first x page)
       unfolding callPages
-      part-done q u′ f′ answer d′ page′ h =
-          let y : Page = combinedOf (s .cache .sizes) (s .cache .directory) (s .lent) n first x in
-          let p : page′ ≡ cond (isRefused (asWrite .answer)) page y = h .page-is
-          ∙ ap (λ (t : Answer). cond (isRefused t) page y) (h .wrote .answer-is) in
-          call-passed s (part n first x page) n (length page) asWrite
-          (passed-as asWrite (part-some (s .cache .sizes) (stateOf s) first (length x) asWrite r q)) a b e l u′ f′ answer d′ page′
-          (rw (q, callPages) (h .wrote)) (rw q p)
+      part-done q u′ f′ answer mended d′ page′ ops enough h =
+          let sz : Sizes = s .cache .sizes in
+          let y : Page = combinedOf sz (s .cache .directory) (s .lent) n first x in
+          let k = h .wrote .whole enough in
+          let o : Outcome = heeding (stateOf s) (faultIn sz (s .lent) (writeReads sz (s .cache .directory) planned
+          (readsPage sz (s .cache .directory) n))) asWrite in
+          let p : page′ ≡ cond (isRefused (o .answer)) page y = h .page-is
+          ∙ ap (λ (t : Answer). cond (isRefused t) page y) (k .answer-is) in
+          call-done policyChoice s (part n first x page) a b u′ f′ answer mended d′ page′
+          (writeReads sz (s .cache .directory) planned (readsPage sz (s .cache .directory) n)) (part-reads q) asWrite
+          (passed-as asWrite (part-some sz (stateOf s) first (length x) asWrite r q)) (rw (q, callPages) k) (rw q p)
 
 -- ---- the calls without a page buffer
 
-module _ (s : Store) (a : sound (s .cache .sizes) (s .cache .directory) ≡ true) (b : lentOk storeFormat (s .cache .sizes) (s .lent) ≡ true)
-  where
+-- the operations that a flush may have
+pub operations-small : (sz : Sizes) → InLimits sz → sz .N * suc (sz .K) ≤ 266240
+operations-small sz h = let l : suc (sz .K) ≤ 65 = (let k = h .K-high in omega arith) in
+    let a : sz .N * suc (sz .K) ≤ 4096 * 65 = mul-le-mul (h .N-high) l in omega arith
+
+module _ (s : Store) where
+  step-reads : (i : ℕ) → reading policyChoice s step i
+      ≡ stepMerges (s .cache .sizes) (s .cache .directory) (dueOf policyChoice (s .cache .sizes) (s .cache .directory)) i
+  unfolding readsAll readsFlash
+  step-reads i = or-false _
+
+  flush-reads : (i : ℕ) → reading policyChoice s flush i
+      ≡ stepsMerge policyChoice (s .cache .sizes) (s .cache .sizes .N) (s .cache .directory) i
+  unfolding readsAll readsFlash
+  flush-reads i = or-false _
+
+  module _ (a : sound (s .cache .sizes) (s .cache .directory) ≡ true) (b : lentOk storeFormat (s .cache .sizes) (s .lent) ≡ true) where
     pub ready : Ready (s .cache .sizes) (s .cache .directory) (s .lent)
     ready = record {
       sound = sound-facts (s .cache .sizes) (s .cache .directory) a;
       fits = fits-of storeFormat (s .cache .sizes) (s .lent) b;
     }
 
-    module _ (u′ : Buffers) (f′ : Fits storeFormat (s .cache .sizes) u′) (answer : Answer) (d′ : Directory) where
-      pub step-done : StepCarried (s .cache .sizes) (s .cache .directory) (s .lent) answer d′ u′
+    module _ (u′ : Buffers) (f′ : Fits storeFormat (s .cache .sizes) u′) (answer : Answer) (mended : ℕ) (d′ : Directory) (ops : ℕ) where
+      pub step-done : suc (s .cache .sizes .K) ≤ ops
+          → StepCarried (s .cache .sizes) (s .cache .directory) (s .lent) ops answer mended d′ u′
           → record {
             answer = answer;
-            mends = 0;
+            mends = mended;
             store = record { cache = record { sizes = s .cache .sizes; directory = d′ }; lent = u′ };
             page = [];
           }
           ≡ call storeFormat policyChoice s step
       unfolding decide callPages
-      step-done h = carried-call policyChoice s step (ready .sound .limits) (ready .fits) u′ f′ answer d′ [] h
-          (same-either [] (isRefused (stepOutcome (s .cache .sizes) (stateOf s)
-          (dueOf policyChoice (s .cache .sizes) (s .cache .directory)) .answer))) ∙ sym (call-carried policyChoice s step a b)
+      step-done enough h = let sz : Sizes = s .cache .sizes in let q = dueOf policyChoice sz (s .cache .directory) in
+          call-done policyChoice s step a b u′ f′ answer mended d′ [] (stepMerges sz (s .cache .directory) q) step-reads
+          (stepOutcome sz (stateOf s) q) refl (h .whole enough) (same-either [] (isRefused (heeding (stateOf s)
+          (faultIn sz (s .lent) (stepMerges sz (s .cache .directory) q)) (stepOutcome sz (stateOf s) q) .answer)))
 
-      pub flush-done : FlushCarried (s .cache .sizes) (s .cache .directory) (s .lent) answer d′ u′
+      pub flush-done : s .cache .sizes .N * suc (s .cache .sizes .K) ≤ ops
+          → FlushCarried (s .cache .sizes) (s .cache .directory) (s .lent) ops answer mended d′ u′
           → record {
             answer = answer;
-            mends = 0;
+            mends = mended;
             store = record { cache = record { sizes = s .cache .sizes; directory = d′ }; lent = u′ };
             page = [];
           }
           ≡ call storeFormat policyChoice s flush
       unfolding decide callPages
-      flush-done h = carried-call policyChoice s flush (ready .sound .limits) (ready .fits) u′ f′ answer d′ [] h
-          (same-either [] (isRefused (flushOutcome policyChoice (s .cache .sizes) (stateOf s) .answer)))
-          ∙ sym (call-carried policyChoice s flush a b)
+      flush-done enough h = let sz : Sizes = s .cache .sizes in
+          call-done policyChoice s flush a b u′ f′ answer mended d′ [] (flushMerges sz (s .cache .directory)) flush-reads
+          (flushOutcome policyChoice sz (stateOf s)) refl (h .whole enough) (same-either [] (isRefused (heeding (stateOf s)
+          (faultIn sz (s .lent) (flushMerges sz (s .cache .directory))) (flushOutcome policyChoice sz (stateOf s)) .answer)))

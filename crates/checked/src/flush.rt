@@ -11,7 +11,7 @@ ghost use Rattle.model.specs.Soundness.{Shape};
 ghost use Rattle.model.specs.Formats.{storeFormat};
 ghost use Rattle.model.specs.Calls.{step, flush, call};
 ghost use Rattle.cache.specs.View.{numbers};
-ghost use Rattle.answer.specs.Numbers.{stepOf, flushOf};
+ghost use Rattle.answer.specs.Numbers.{stepOf, flushOf, mendsOfStep, mendsOfFlush};
 ghost use Rattle.answer.specs.Carried.{buffers};
 ghost use Rattle.checked.specs.Lists.{storeWith, resultWith};
 
@@ -38,7 +38,7 @@ pub fn step(
         let d′ = numbers (now (slots .exit)) (now (frames .exit)) (now (valid .exit)) (now (recency .entry)) (now (uses .exit)) in
         let u′ = buffers (now (flash .exit)) (now (codes .exit)) (now (marks .exit))
         (now (wear .exit)) (now (pspace .entry)) (now (bspace .exit)) in
-        resultWith (stepOf r) z d′ u′ [] ≡ call storeFormat policyChoice (storeWith z d u) step) ⌝ }
+        resultWith (stepOf r) (mendsOfStep r) z d′ u′ [] ≡ call storeFormat policyChoice (storeWith z d u) step) ⌝ }
 {
     if !lists_sound(z, slots, frames, valid, recency, uses) {
         return Step::Refused(Refusal::Record);
@@ -67,6 +67,7 @@ pub fn step(
         wear,
         pspace,
         bspace,
+        crate::UNCUT,
     )
 }
 
@@ -93,7 +94,7 @@ pub fn flush(
         let d′ = numbers (now (slots .exit)) (now (frames .exit)) (now (valid .exit)) (now (recency .entry)) (now (uses .exit)) in
         let u′ = buffers (now (flash .exit)) (now (codes .exit)) (now (marks .exit))
         (now (wear .exit)) (now (pspace .entry)) (now (bspace .exit)) in
-        resultWith (flushOf r) z d′ u′ [] ≡ call storeFormat policyChoice (storeWith z d u) flush) ⌝ }
+        resultWith (flushOf r) (mendsOfFlush r) z d′ u′ [] ≡ call storeFormat policyChoice (storeWith z d u) flush) ⌝ }
 {
     if !lists_sound(z, slots, frames, valid, recency, uses) {
         return Flush::Refused(Refusal::Record);
@@ -122,5 +123,6 @@ pub fn flush(
         wear,
         pspace,
         bspace,
+        crate::UNCUT,
     )
 }

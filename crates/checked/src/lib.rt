@@ -4,3 +4,6 @@ pub mod flush; // flush.rt: a flush step, and a flush
 pub mod part; // part.rt: writing part of a page
 pub mod read; // read.rt: reading a page
 pub mod write; // write.rt: writing a page
+
+// The operations of the chip that a call may do where it is not cut off: more than any call has.
+const UNCUT: u32 = 4294967295;

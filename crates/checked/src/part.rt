@@ -10,7 +10,7 @@ ghost use Rattle.model.specs.Soundness.{Shape};
 ghost use Rattle.model.specs.Formats.{storeFormat};
 ghost use Rattle.model.specs.Calls.{part, call};
 ghost use Rattle.cache.specs.View.{numbers};
-ghost use Rattle.answer.specs.Numbers.{writeOf};
+ghost use Rattle.answer.specs.Numbers.{writeOf, mendsOfWrite};
 ghost use Rattle.answer.specs.Carried.{buffers};
 ghost use Rattle.checked.specs.Lists.{storeWith, resultWith};
 
@@ -41,7 +41,7 @@ pub fn write(
         let d′ = numbers (now (slots .exit)) (now (frames .exit)) (now (valid .exit)) (now (recency .exit)) (now (uses .exit)) in
         let u′ = buffers (now (flash .exit)) (now (codes .exit)) (now (marks .exit))
         (now (wear .exit)) (now (pspace .exit)) (now (bspace .exit)) in
-        resultWith (writeOf r) z d′ u′ (now (page .exit)) ≡ call storeFormat policyChoice (storeWith z d u)
+        resultWith (writeOf r) (mendsOfWrite r) z d′ u′ (now (page .exit)) ≡ call storeFormat policyChoice (storeWith z d u)
         (part (n .0) first (now (bytes .entry)) (now (page .entry)))) ⌝ }
 {
     if !lists_sound(z, slots, frames, valid, recency, uses) {
@@ -68,7 +68,7 @@ pub fn write(
         return Write::Refused(Refusal::Buffer);
     }
     if bytes.len() == 0 {
-        return Write::Done { way: 0 };
+        return Write::Done { way: 0, mends: 0 };
     }
     parts::write(
         z,
@@ -87,5 +87,6 @@ pub fn write(
         first,
         bytes,
         page,
+        crate::UNCUT,
     )
 }

@@ -10,7 +10,7 @@ ghost use Rattle.model.specs.Soundness.{Shape};
 ghost use Rattle.model.specs.Formats.{storeFormat};
 ghost use Rattle.model.specs.Calls.{read, call};
 ghost use Rattle.cache.specs.View.{numbers};
-ghost use Rattle.answer.specs.Numbers.{readOf};
+ghost use Rattle.answer.specs.Numbers.{readOf, mendsOfRead};
 ghost use Rattle.answer.specs.Carried.{buffers};
 ghost use Rattle.checked.specs.Lists.{storeWith, resultWith};
 
@@ -37,7 +37,7 @@ pub fn read(
         (now (wear .entry)) (now (pspace .entry)) (now (bspace .entry)) in
         let d = numbers (now (slots .entry)) (now (frames .entry)) (now (valid .entry)) (now (recency .entry)) (now (uses .entry)) in
         let d′ = numbers (now (slots .entry)) (now (frames .entry)) (now (valid .entry)) (now (recency .exit)) (now (uses .exit)) in
-        resultWith (readOf r) z d′ u (now (page .exit))
+        resultWith (readOf r) (mendsOfRead r) z d′ u (now (page .exit))
         ≡ call storeFormat policyChoice (storeWith z d u) (read (n .0) (now (page .entry)))) ⌝ }
 {
     if !lists_sound(z, slots, frames, valid, recency, uses) {
@@ -75,5 +75,11 @@ pub fn read(
         n,
         page,
     );
-    Read::Done { way: done.way }
+    if done.fault != 0 {
+        return Read::Refused(answer::late(done.fault));
+    }
+    Read::Done {
+        way: done.way,
+        mends: done.mends,
+    }
 }

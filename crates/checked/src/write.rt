@@ -3,6 +3,7 @@ use address::PageNo;
 use answer::Refusal;
 use answer::Write;
 use cache::Sizes;
+use chip::Seen;
 use sound::lists_sound;
 ghost use mathlib.Core.Path.{_≡_};
 ghost use Rattle.model.specs.Policy.{policyChoice};
@@ -10,7 +11,7 @@ ghost use Rattle.model.specs.Soundness.{Shape};
 ghost use Rattle.model.specs.Formats.{storeFormat};
 ghost use Rattle.model.specs.Calls.{write, call};
 ghost use Rattle.cache.specs.View.{numbers};
-ghost use Rattle.answer.specs.Numbers.{writeOf};
+ghost use Rattle.answer.specs.Numbers.{writeOf, mendsOfWrite};
 ghost use Rattle.answer.specs.Carried.{buffers};
 ghost use Rattle.checked.specs.Lists.{storeWith, resultWith};
 
@@ -39,7 +40,7 @@ pub fn write(
         let d′ = numbers (now (slots .exit)) (now (frames .exit)) (now (valid .exit)) (now (recency .exit)) (now (uses .exit)) in
         let u′ = buffers (now (flash .exit)) (now (codes .exit)) (now (marks .exit))
         (now (wear .exit)) (now (pspace .exit)) (now (bspace .exit)) in
-        resultWith (writeOf r) z d′ u′ (now (page .entry))
+        resultWith (writeOf r) (mendsOfWrite r) z d′ u′ (now (page .entry))
         ≡ call storeFormat policyChoice (storeWith z d u) (write (n .0) (now (page .entry)))) ⌝ }
 {
     if !lists_sound(z, slots, frames, valid, recency, uses) {
@@ -77,5 +78,7 @@ pub fn write(
         bspace,
         n,
         page,
+        Seen { fault: 0, mends: 0 },
+        crate::UNCUT,
     )
 }

@@ -18,7 +18,6 @@ use Rattle.model.specs.Moves.{cellAt}
 use Rattle.model.specs.Calls.{Page, Cell, Buffers, Fits, zeroPage, flashCells}
 use Rattle.model.specs.Lists.{noCell}
 use Rattle.model.specs.Formats.{formatOf, torn, storeFormat}
-use Rattle.model.proofs.Formats.{whole-chunks}
 use Rattle.codes.specs.Reading.{pageLegible}
 use Rattle.codes.proofs.Pages.{length-codes, length-read}
 use Rattle.codes.proofs.Pages.{none-mended}
@@ -219,7 +218,7 @@ pub lent-of : (sz : Sizes) (u : Buffers) → InLimits sz → Fits storeFormat sz
 lent-of sz u l h = record {
   codes-lent = record {
     limits = l;
-    whole = whole-chunks sz l;
+    whole = l .whole;
     flash-length = h .flash-length;
     codes-length = h .codes-length;
   };

@@ -4,7 +4,7 @@ use mathlib.Core.Logic.{_≢_, ⊎-elim}
 use mathlib.Core.Bool.{Bool, true, false, not, cond, _&&_, _||_}
 use mathlib.Core.List.{List, []}
 use Prim.Native.Nat.{ℕ, zero, suc, _+_, _*_, _/_, _%_, _^_, _≤_, _<_}
-use native.Mathlib.Nat.{add-assoc}
+use native.Mathlib.Nat.{add-assoc, suc-mul, mul-le-mul}
 use native.Mathlib.Numerals.{add-one}
 use native.Mathlib.Omega.{arith}
 use lib.Dec.{ltb, eqb}
@@ -18,12 +18,13 @@ use Rattle.prelude.proofs.Scan.{first-hit, first-at, count-le}
 use Rattle.prelude.proofs.Bits.{mask-lt, bit-none, with-new}
 use Rattle.model.specs.Sizes.{Sizes, InLimits, isCoded, isMarked}
 use Rattle.model.specs.Calls.{Page, somePage, faultMet, sum, mendsMet}
+use Rattle.model.proofs.Merges.{sum-or}
 use Rattle.model.proofs.Lookup.{page-div, page-mod, page-lt, page-split, offset-lt}
 use Rattle.codes.specs.Reading.{codeAt, differs, pageLegible, pageMends}
 use Rattle.chip.specs.declared.Seen.{Seen}
 use Rattle.model.specs.Formats.{pageCode, codeFor, codeLong}
 use Rattle.chip.specs.Formats.{unreadableAt, mendsAt}
-use Rattle.chip.specs.Chip.{Lent, Looked, faultOn, mendsOn, tornAt, blockReads, mendSet, BlockLooked}
+use Rattle.chip.specs.Chip.{Lent, Looked, faultOn, mendsOn, tornAt, blockReads, mendSet, BlockLooked, worseOf, mostMends}
 use Rattle.chip.proofs.Cells.{fault-is, mends-is}
 
 and-f : (a : Bool) → (a && false) ≡ false
@@ -358,6 +359,17 @@ some-same n p q h = same-test
 abbrev worstOf : Bool → Bool → ℕ
 worstOf bad torn = cond bad 7 (cond torn 14 0)
 
+-- a refusal that is met is 7 or 14
+late-is : (a b : Bool) → (worstOf a b ≡ 0 → ⊥) → cond (eqb (worstOf a b) 7) 7 14 ≡ worstOf a b
+late-is true b h = refl
+late-is false true h = refl
+late-is false false h = absurd (h refl)
+
+pub met-late : (sz : Sizes) (fault : ℕ → ℕ) (reads : ℕ → Bool) → (faultMet sz fault reads ≡ 0 → ⊥)
+    → cond (eqb (faultMet sz fault reads) 7) 7 14 ≡ faultMet sz fault reads
+unfolding faultMet
+met-late sz fault reads h = late-is (somePage sz (λ i. reads i && eqb (fault i) 7)) (somePage sz (λ i. reads i && eqb (fault i) 14)) h
+
 worst-or : (a b c d : Bool) → worstOf (a || c) (b || d) ≡ worstOf (eqb (worstOf a b) 7 || eqb (worstOf c d) 7)
     (eqb (worstOf a b) 14 || eqb (worstOf c d) 14)
 worst-or true b c d = refl
@@ -373,9 +385,21 @@ and-or true b true = refl
 and-or true b false = sym (rw (and-f b))
 and-or false b c = refl
 
+-- where the worse of two is none, none is met
+least-worst : (a b : Bool) (x : ℕ) → worseOf (worstOf a b) x ≡ 0 → worstOf a b ≡ 0
+least-worst true b x h = h
+least-worst false true x h = by-test (eqb x 7) (λ e. absurd (let z : _≡_ {A = ℕ} 7 0 = (rw e at h) in omega arith))
+    (λ e. absurd (let z : _≡_ {A = ℕ} 14 0 = (rw e at h) in omega arith))
+least-worst false false x h = refl
+
+pub none-worse : (sz : Sizes) (fault : ℕ → ℕ) (reads : ℕ → Bool) (x : ℕ) → worseOf (faultMet sz fault reads) x ≡ 0
+    → faultMet sz fault reads ≡ 0
+unfolding faultMet
+none-worse sz fault reads x h = least-worst (somePage sz (λ i. reads i && eqb (fault i) 7)) (somePage sz (λ i. reads i && eqb (fault i) 14))
+    x h
+
 pub fault-or : (sz : Sizes) (fault : ℕ → ℕ) (p q : ℕ → Bool) → faultMet sz fault (λ i. p i || q i)
-    ≡ cond (eqb (faultMet sz fault p) 7 || eqb (faultMet sz fault q) 7) 7
-    (cond (eqb (faultMet sz fault p) 14 || eqb (faultMet sz fault q) 14) 14 0)
+    ≡ worseOf (faultMet sz fault p) (faultMet sz fault q)
 unfolding faultMet somePage some
 fault-or sz fault p q =
     let n : ℕ = sz .N * sz .K in
@@ -385,3 +409,82 @@ fault-or sz fault p q =
     ∙ some-or n (λ i. p i && eqb (fault i) r) (λ i. q i && eqb (fault i) r)) in
     ap₂ worstOf (each 7) (each 14) ∙ worst-or (some n (λ i. p i && eqb (fault i) 7)) (some n (λ i. p i && eqb (fault i) 14))
     (some n (λ i. q i && eqb (fault i) 7)) (some n (λ i. q i && eqb (fault i) 14))
+
+-- nothing is met on two sets: nothing is on either
+least-worst-2 : (x : ℕ) (a b : Bool) → worseOf x (worstOf a b) ≡ 0 → worstOf a b ≡ 0
+least-worst-2 x true b h = by-test (eqb x 7) (λ e. absurd (let z : _≡_ {A = ℕ} 7 0 = (rw e at h) in omega arith))
+    (λ e. absurd (let z : _≡_ {A = ℕ} 7 0 = (rw e at h) in omega arith))
+least-worst-2 x false true h = by-test (eqb x 7) (λ e. absurd (let z : _≡_ {A = ℕ} 7 0 = (rw e at h) in omega arith))
+    (λ e. by-test (eqb x 14) (λ t. absurd (let z : _≡_ {A = ℕ} 14 0 = (rw (e, t) at h) in omega arith))
+    (λ t. absurd (let z : _≡_ {A = ℕ} 14 0 = (rw (e, t) at h) in omega arith)))
+least-worst-2 x false false h = refl
+
+pub none-either : (sz : Sizes) (fault : ℕ → ℕ) (p q : ℕ → Bool) → faultMet sz fault (λ i. p i || q i) ≡ 0
+    → (faultMet sz fault p ≡ 0) × (faultMet sz fault q ≡ 0)
+unfolding faultMet
+none-either sz fault p q h = let e = sym (fault-or sz fault p q) ∙ h in (
+  none-worse sz fault p (faultMet sz fault q) e,
+  least-worst-2 (faultMet sz fault p) (somePage sz (λ i. q i && eqb (fault i) 7)) (somePage sz (λ i. q i && eqb (fault i) 14)) e,
+)
+
+-- ---- pages that are read alike
+
+module _ (sz : Sizes) where
+  pub met-ext : (fault fault′ : ℕ → ℕ) (reads reads′ : ℕ → Bool)
+      → ((i : ℕ) → i < sz .N * sz .K → (r : ℕ) → (reads i && eqb (fault i) r) ≡ (reads′ i && eqb (fault′ i) r))
+      → faultMet sz fault reads ≡ faultMet sz fault′ reads′
+  unfolding faultMet somePage some
+  met-ext fault fault′ reads reads′ h = ap₂ worstOf (some-same (sz .N * sz .K) _ _ (λ i l. h i l 7))
+      (some-same (sz .N * sz .K) _ _ (λ i l. h i l 14))
+
+  -- the same pages
+  pub met-set : (fault : ℕ → ℕ) (reads reads′ : ℕ → Bool) → ((i : ℕ) → i < sz .N * sz .K → reads i ≡ reads′ i)
+      → faultMet sz fault reads ≡ faultMet sz fault reads′
+  met-set fault reads reads′ h = met-ext fault fault reads reads′ (λ i l r. ap (λ (x : Bool). x && eqb (fault i) r) (h i l))
+
+  -- pages that have not changed
+  pub met-cells : (fault fault′ : ℕ → ℕ) (reads : ℕ → Bool) → ((i : ℕ) → i < sz .N * sz .K → reads i ≡ true → fault i ≡ fault′ i)
+      → faultMet sz fault reads ≡ faultMet sz fault′ reads
+  met-cells fault fault′ reads h = met-ext fault fault′ reads reads (λ i l r. by-test (reads i)
+      (λ e. rw e (ap (λ (x : ℕ). eqb x r) (h i l e))) (λ e. rw e))
+
+  sum-ext : (n : ℕ) (g g′ : ℕ → ℕ) → ((i : ℕ) → i < n → g i ≡ g′ i) → sum n g ≡ sum n g′
+  unfolding sum
+  sum-ext zero g g′ h = refl
+  sum-ext (suc n) g g′ h = let a = sum-ext n g g′ (λ i l. h i (omega arith)) in let b = h n (omega arith) in omega arith
+
+  pub mends-set : (mends : ℕ → ℕ) (reads reads′ : ℕ → Bool) → ((i : ℕ) → i < sz .N * sz .K → reads i ≡ reads′ i)
+      → mendsMet sz mends reads ≡ mendsMet sz mends reads′
+  unfolding mendsMet
+  mends-set mends reads reads′ h = sum-ext (sz .N * sz .K) _ _ (λ i l. ap (λ (x : Bool). cond x (mends i) 0) (h i l))
+
+  pub mends-cells : (mends mends′ : ℕ → ℕ) (reads : ℕ → Bool) → ((i : ℕ) → i < sz .N * sz .K → reads i ≡ true → mends i ≡ mends′ i)
+      → mendsMet sz mends reads ≡ mendsMet sz mends′ reads
+  unfolding mendsMet
+  mends-cells mends mends′ reads h = sum-ext (sz .N * sz .K) _ _ (λ i l. by-test (reads i) (λ e. rw e (h i l e)) (λ e. rw e))
+
+-- ---- mends over sets of pages
+
+-- no number below n is in both sets
+pub mends-or : (sz : Sizes) (mends : ℕ → ℕ) (p q : ℕ → Bool) → ((i : ℕ) → i < sz .N * sz .K → p i ≡ true → q i ≡ true → ⊥)
+    → mendsMet sz mends (λ i. p i || q i) ≡ mendsMet sz mends p + mendsMet sz mends q
+unfolding mendsMet
+mends-or sz mends p q apart = sum-or (sz .N * sz .K) mends p q apart
+
+sum-high : (n k : ℕ) (g : ℕ → ℕ) → ((i : ℕ) → i < n → g i ≤ k) → sum n g ≤ n * k
+unfolding sum
+sum-high zero k g h = omega arith
+sum-high (suc n) k g h = let a = sum-high n k g (λ i l. h i (omega arith)) in
+    let b = h n (omega arith) in
+    let e = suc-mul n k in
+    omega arith
+
+-- however many pages are read, their mends are few
+pub mends-few : (sz : Sizes) → InLimits sz → (flash codes marks : List ℕ) (reads : ℕ → Bool)
+    → mendsMet sz (mendsOn sz flash codes marks) reads ≤ mostMends
+unfolding mendsMet
+mends-few sz limits flash codes marks reads =
+    let a = sum-high (sz .N * sz .K) 8 (λ i. cond (reads i) (mendsOn sz flash codes marks i) 0) (λ i l. by-test (reads i)
+    (λ e. rw (e, mends-is sz flash codes marks i l) (mends-high (isCoded sz) sz limits (pageAt (sz .S) flash i)
+    (pageAt (codeLong sz) codes i))) (λ e. rw e (omega arith))) in
+    let b : sz .N * sz .K ≤ 4096 * 64 = mul-le-mul (limits .N-high) (limits .K-high) in omega arith

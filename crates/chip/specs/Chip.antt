@@ -1,6 +1,6 @@
 -- What the operations of the chip and a rewrite ask and give. A primed list is the buffer afterwards.
 use mathlib.Core.Path.{_≡_}
-use mathlib.Core.Bool.{Bool, true, false, not, cond, _&&_}
+use mathlib.Core.Bool.{Bool, true, false, not, cond, _&&_, _||_}
 use mathlib.Core.List.{List, []}
 use Prim.Native.Nat.{ℕ, suc, _+_, _-_, _*_, _/_, _%_, _^_, _≤_, _<_}
 use lib.Dec.{eqb, ltb}
@@ -12,7 +12,7 @@ use Rattle.model.specs.Sizes.{Sizes, InLimits, isCoded, isMarked}
 use Rattle.model.specs.Directory.{Directory, validAt}
 use Rattle.model.specs.Policy.{mergeReads}
 use Rattle.model.specs.Moves.{Memory, programmedTo, worn, merged, rewrittenPages}
-use Rattle.model.specs.Calls.{Page, Cell, zeroPage, framePages, faultMet, mendsMet}
+use Rattle.model.specs.Calls.{Page, Cell, Buffers, zeroPage, framePages, faultMet, mendsMet}
 use Rattle.chip.specs.declared.Seen.{Seen}
 use Rattle.chip.specs.declared.BlockSeen.{BlockSeen}
 use Rattle.chip.specs.declared.Rewrote.{Rewrote}
@@ -55,6 +55,21 @@ faultOn sz flash codes marks n = chipFor sz .fault (cellOn sz flash codes marks 
 
 abbrev pub mendsOn : Sizes → List ℕ → List ℕ → List ℕ → ℕ → ℕ
 mendsOn sz flash codes marks n = chipFor sz .mends (cellOn sz flash codes marks n)
+
+-- the same over the pages that a call reads: unreadable before torn, and each page's mends once
+abbrev pub faultIn : Sizes → Buffers → (ℕ → Bool) → ℕ
+faultIn sz u reads = faultMet sz (faultOn sz (u .flash) (u .codes) (u .marks)) reads
+
+abbrev pub mendsIn : Sizes → Buffers → (ℕ → Bool) → ℕ
+mendsIn sz u reads = mendsMet sz (mendsOn sz (u .flash) (u .codes) (u .marks)) reads
+
+-- no call mends more: 8 chunks of 64 pages of 4,096 blocks
+abbrev pub mostMends : ℕ
+mostMends = 2097152
+
+-- of two refusals met the one that stands: 7 before 14 (0: none)
+abbrev pub worseOf : ℕ → ℕ → ℕ
+worseOf a b = cond (eqb a 7 || eqb b 7) 7 (cond (eqb a 14 || eqb b 14) 14 0)
 
 pub record Looked (sz : Sizes) (flash codes marks : List ℕ) (n : ℕ) (r : Seen) : Type 0 where
   pub fault-is : r .fault ≡ faultOn sz flash codes marks n

@@ -19,7 +19,7 @@ ghost use Rattle.chip.specs.Formats.{readAt};
 ghost use Rattle.chip.specs.Chip.{CodesLent, Lent, PageLent, Looked, ReadOut, CodeLooked, tornAt, Legible, Facing, CodesFacing};
 ghost use Rattle.chip.specs.Chip.{stretchPages, mergedPages, rawMerged, mendedPages, Mendable, Settled, BlockLooked, Erasable};
 ghost use Rattle.chip.specs.Chip.{Erased, PagesProgrammable, PagesProgrammed, Programmable, Programmed, BlockProgrammed};
-ghost use Rattle.chip.specs.Chip.{Rewritable, Rewritten};
+ghost use Rattle.chip.specs.Chip.{Rewritable, Rewritten, worseOf};
 
 // What a flash page was found to be: the refusal that reading it meets (0 none, 7 unreadable, 14 torn), and how many of its chunks
 // the code mends.
@@ -42,7 +42,7 @@ pub struct Rewrote {
 }
 
 // The bytes of a page's code.
-fn code_size(z: Sizes) -> usize
+pub fn code_size(z: Sizes) -> usize
     requires { ⌜ InLimits (sizesOf z) ⌝ }
     ensures { λ r. ⌜ r ≡ codeLong (sizesOf z) ⌝ }
 {
@@ -54,7 +54,7 @@ fn code_size(z: Sizes) -> usize
 }
 
 // The bytes of a page's mark.
-fn mark_size(z: Sizes) -> usize
+pub fn mark_size(z: Sizes) -> usize
     ensures { λ r. ⌜ r ≡ markLong (sizesOf z) ⌝ }
 {
     if z.marked == 1 { 1 } else { 0 }
@@ -219,6 +219,13 @@ pub fn look_block(
         mends: mends,
         mend: mend,
     }
+}
+
+// Of two refusals met on flash pages, the one that stands: 7 before 14 (0: none).
+pub fn worse(a: u32, b: u32) -> u32
+    ensures { λ r. ⌜ r ≡ worseOf a b ⌝ }
+{
+    worst((a == 7) | (b == 7), (a == 14) | (b == 14))
 }
 
 // Unreadable goes before torn.

@@ -1,33 +1,34 @@
--- Demand 3 for what a program links, from the model's.
-use mathlib.Core.Path.{_≡_, sym, ap, _∙_, subst}
+-- Demand 3 for what a program links, and what holds of it with page codes, from the model's.
+use mathlib.Core.Path.{_≡_, refl, sym, ap, _∙_, subst}
 use mathlib.Core.Bool.{false}
 use mathlib.Core.List.{List, [], _∷_}
-use Prim.Native.Nat.{ℕ, _≤_}
+use Prim.Native.Nat.{ℕ}
 use native.Mathlib.Omega.{arith}
 use Rattle.model.specs.Sizes as model
 use Rattle.model.specs.Sizes.{vacant}
-use Rattle.model.specs.Directory as cached
 use Rattle.model.specs.Policy.{policyChoice}
-use Rattle.model.specs.Calls.{isRefused, refused, Page, Outcome, flashCells, openStore, openDone}
-use Rattle.model.specs.Formats.{storeFormat, StoreMatches, StoreNear}
+use Rattle.model.specs.Calls.{Answer, readDone, writeDone, stepDone, stepClean, flushDone, isRefused, refused, Page, Outcome, flashCells}
+use Rattle.model.specs.Calls.{openDone}
+use Rattle.model.specs.Formats.{storeFormat, StoreNear}
 use Rattle.model.specs.Lists.{Borne}
-use Rattle.model.specs.Shelf.{noEntries, plainly, ShelfOpened, ShelfStore, ShelfResult, ShelfReference, ShelfChosen, storeOpen, storeCall}
+use Rattle.model.specs.Shelf.{plainly, ShelfStore, ShelfResult, ShelfReference, ShelfChosen, storeOpen}
 use Rattle.model.specs.Shelf.{shelfCall, shelfBookSays, shelfFed, ShelfGives, ShelfClaim}
+use Rattle.model.specs.Legible.{ShelfLegible}
 use Rattle.model.proofs.Plan.{policyChoice-picks}
-use Rattle.model.proofs.Soundness.{limits-of}
-use Rattle.model.proofs.Opening.{open-accepted}
-use Rattle.model.proofs.Formats.{store-bears, whole-chunks}
-use Rattle.model.proofs.Shelf.{AllShelfPick, sizes-stay, demand-3-shelf}
-use Rattle.model.proofs.Unshelved.{opened-shelf}
+use Rattle.model.proofs.Shelf.{AllShelfPick, sizes-stay}
+use Rattle.cache.specs.declared.Sizes.{Sizes}
 use Rattle.cache.specs.View.{sizesOf}
 use Rattle.replies.specs.declared.Answer as replies
 use Rattle.replies.specs.Numbers.{numbersOf}
 use Rattle.store.specs.declared.Cache.{Cache}
 use Rattle.store.specs.View.{Lent, storeOf}
 use Rattle.store.specs.Histories.{begun}
+use Rattle.store.proofs.Demand3.{beginning, begins, begins-sizes, claimed, legible}
+use Rattle.clash_c.specs.declared.Reply.{Reply}
 use Rattle.clash_c.specs.Replies.{OpeningReply, CallReply, replied, inNumbers}
 use Rattle.clash_c.specs.Histories.{Made, read, write, part, step, flush, callOf, replyOf, lentAfter, pageAfter, Turn, lentTo}
 use Rattle.clash_c.specs.Histories.{AsContracted, byPolicy, saidBy, fedBy, ReadGives, Claim, Demand3}
+use Rattle.clash_c.specs.Histories.{Contract, OpeningContract, Legible, NeverUnreadable}
 use Rattle.clash_c.proofs.Numbered.{Numbered, book-numbered, said-same, opening-numbered}
 
 -- the calls of a list, each by the least recently used block
@@ -48,16 +49,54 @@ gives a (part n first y page r u′ page′) x g p t = λ h. p ∙ g (t h)
 gives a (step r flash′ codes′ marks′ wear′ bspace′) x g p t = tt
 gives a (flush r flash′ codes′ marks′ wear′ bspace′) x g p t = tt
 
+-- an answer in numbers has the mends that it was given, where it has any
+own-mends : (a : Answer) (mended : ℕ) → numbersOf a mended ≡ numbersOf a (numbersOf a mended .mended)
+own-mends openDone mended = refl
+own-mends (readDone way) mended = refl
+own-mends (writeDone way b m) mended = refl
+own-mends (stepDone b m) mended = refl
+own-mends stepClean mended = refl
+own-mends (flushDone r m) mended = refl
+own-mends (refused n b) mended = refl
+
+alike : (a : Answer) (mended : ℕ) (y : replies.Answer) → y ≡ numbersOf a mended → numbersOf a mended ≡ numbersOf a (y .mended)
+alike a mended y e = own-mends a mended ∙ ap (λ (z : replies.Answer). numbersOf a (z .mended)) (sym e)
+
+-- one call of a store with sizes sz, by its contract
+module _ (sz : model.Sizes) (c : Cache) (v : Lent) (m : Made) (e : sizesOf (c .sizes) ≡ sz) (h : Contract c v m) where
+  -- what the model gives
+  abbrev given : ShelfResult
+  given = shelfCall storeFormat (sz .shelfPages) policyChoice (storeOf c v) (plainly (callOf m))
+
+  called : replied (replyOf m) (lentAfter v m) (pageAfter m) ≡ inNumbers given
+  called = h ∙ ap (λ (w : model.Sizes). inNumbers (shelfCall storeFormat (w .shelfPages) policyChoice (storeOf c v) (plainly (callOf m)))) e
+
+  given-answer : replyOf m .answer ≡ numbersOf (given .answer) (given .mends)
+  given-answer = ap (λ (y : CallReply). y .answer) called
+
+  given-store : given .store ≡ storeOf (replyOf m .cache) (lentAfter v m)
+  given-store = sym (ap (λ (y : CallReply). y .store) called)
+
+  same-sizes : sizesOf (replyOf m .cache .sizes) ≡ sz
+  same-sizes = ap (λ (s : ShelfStore). s .store .cache .sizes) (sym given-store)
+      ∙ sizes-stay storeFormat policyChoice (sz .shelfPages) (storeOf c v) (plainly (callOf m)) ∙ e
+
+  -- the book says the same by the number of the answer
+  said : (r : ShelfReference) → shelfBookSays sz (sz .shelfPages) r (byPolicy m) (given .answer) ≡ saidBy sz r m
+  said r = sym
+      (ap (λ (y : replies.Answer). shelfBookSays sz (sz .shelfPages) r (byPolicy m) (refused (y .refusal) vacant)) given-answer
+      ∙ said-same sz (sz .shelfPages) r policyChoice (callOf m) (given .answer) (given .mends))
+
+-- what the reference is fed, when the book says o and the call m leaves the store s
+abbrev fedWith : model.Sizes → ShelfReference → Made → Outcome → ShelfStore → ShelfReference
+fedWith sz r m o s = shelfFed sz (sz .shelfPages) r (byPolicy m) o (flashCells storeFormat sz (s .store .lent))
+
 module _ (sz : model.Sizes) (u₀ : Lent) where
   abbrev Left : List Turn → ShelfStore → ShelfReference → Type 0
   Left ts s r = ShelfClaim storeFormat StoreNear sz (sz .shelfPages) (u₀ .below) (chosen ts) s r
 
-  -- what the reference is fed, when the book says o and the call m leaves the store s
-  abbrev fedWith : ShelfReference → Made → Outcome → ShelfStore → ShelfReference
-  fedWith r m o s = shelfFed sz (sz .shelfPages) r (byPolicy m) o (flashCells storeFormat sz (s .store .lent))
-
   abbrev Near : ShelfReference → Made → Outcome → ShelfStore → Type 0
-  Near r m o s = Borne storeFormat StoreNear sz (fedWith r m o s .reference) (s .store .lent)
+  Near r m o s = Borne storeFormat StoreNear sz (fedWith sz r m o s .reference) (s .store .lent)
 
   from-model : (ts : List Turn) (c : Cache) (u : Lent) (r : ShelfReference) → sizesOf (c .sizes) ≡ sz → AsContracted c u ts
       → Left ts (storeOf c u) r → Claim sz u₀ c u r ts
@@ -65,54 +104,93 @@ module _ (sz : model.Sizes) (u₀ : Lent) where
   from-model (t ∷ ts) c u r e h a = λ near.
       let m : Made = t .made in
       let v : Lent = lentTo u t in
-      let x : ShelfResult = shelfCall storeFormat (sz .shelfPages) policyChoice (storeOf c v) (plainly (callOf m)) in
-      let k : replied (replyOf m) (lentAfter v m) (pageAfter m) ≡ inNumbers x = h .0
-      ∙ ap (λ (w : model.Sizes). inNumbers (shelfCall storeFormat (w .shelfPages) policyChoice (storeOf c v) (plainly (callOf m)))) e in
+      let x : ShelfResult = given sz c v m e (h .0) in
       let b = a (t .flash) (t .codes) near in
-      let answer : replyOf m .answer ≡ numbersOf (x .answer) = ap (λ (y : CallReply). y .answer) k in
-      let store : x .store ≡ storeOf (replyOf m .cache) (lentAfter v m) = sym (ap (λ (y : CallReply). y .store) k) in
-      let said : shelfBookSays sz (sz .shelfPages) r (byPolicy m) (x .answer) ≡ saidBy sz r m = sym
-      (ap (λ (y : replies.Answer). shelfBookSays sz (sz .shelfPages) r (byPolicy m) (refused (y .refusal) vacant)) answer
-      ∙ said-same sz (sz .shelfPages) r policyChoice (callOf m) (x .answer)) in
+      let answer = given-answer sz c v m e (h .0) in
+      let store = given-store sz c v m e (h .0) in
+      let says = said sz c v m e (h .0) r in
       let numbered : Numbered (x .answer) = subst Numbered (sym (b .answers))
       (book-numbered sz (sz .shelfPages) r policyChoice (callOf m) (x .answer)) in
-      let same : sizesOf (replyOf m .cache .sizes) ≡ sz = ap (λ (s : ShelfStore). s .store .cache .sizes) (sym store)
-      ∙ sizes-stay storeFormat policyChoice (sz .shelfPages) (storeOf c v) (plainly (callOf m)) ∙ e in
       record {
-        answers = answer ∙ ap numbersOf (b .answers) ∙ ap (λ (o : Outcome). numbersOf (o .answer)) said;
-        reads = gives (r .reference .array) m x (b .reads) (ap (λ (y : CallReply). y .page) k)
-            (λ q. numbered (sym (ap (λ (y : replies.Answer). y .refusal) answer) ∙ q));
-        near = subst (Near r m (saidBy sz r m)) store (subst (λ (o : Outcome). Near r m o (x .store)) said (b .borne));
-        then = from-model ts (replyOf m .cache) (lentAfter v m) (fedBy sz r v m) same (h .1)
-            (subst (λ (s : ShelfStore). Left ts s (fedWith r m (saidBy sz r m) s)) store
-            (subst (λ (o : Outcome). Left ts (x .store) (fedWith r m o (x .store))) said (b .then)));
+        answers = answer ∙ alike (x .answer) (x .mends) (replyOf m .answer) answer
+            ∙ ap (λ (a : Answer). numbersOf a (replyOf m .answer .mended)) (b .answers)
+            ∙ ap (λ (o : Outcome). numbersOf (o .answer) (replyOf m .answer .mended)) says;
+        reads = gives (r .reference .array) m x (b .reads) (ap (λ (y : CallReply). y .page) (called sz c v m e (h .0)))
+            (λ q. numbered (x .mends) (sym (ap (λ (y : replies.Answer). y .refusal) answer) ∙ q));
+        near = subst (Near r m (saidBy sz r m)) store (subst (λ (o : Outcome). Near r m o (x .store)) says (b .borne));
+        then = from-model ts (replyOf m .cache) (lentAfter v m) (fedBy sz r v m) (same-sizes sz c v m e (h .0)) (h .1)
+            (subst (λ (s : ShelfStore). Left ts s (fedWith sz r m (saidBy sz r m) s)) store
+            (subst (λ (o : Outcome). Left ts (x .store) (fedWith sz r m o (x .store))) says (b .then)));
       }
 
+-- an accepted opening, and the store that it begins with
+module _ (z : Sizes) (u : Lent) (o : Reply) (is : OpeningContract z u o) (done : o .answer .refusal ≡ 0) where
+  open-done : storeOpen (sizesOf z) (u .below) (u .shelf) .answer ≡ openDone
+  open-done = opening-numbered (sizesOf z) (u .below) (u .shelf) (ap (λ (x : OpeningReply). x .answer .refusal) (sym is) ∙ done)
+
+  start : storeOf (o .cache) u ≡ beginning (sizesOf z) u open-done
+  start = ap (λ (x : OpeningReply). record {
+    store = record { cache = x .cache; lent = u .below };
+    entries = x .entries;
+    shelf = u .shelf;
+  }) is ∙ begins (sizesOf z) u open-done (storeOpen (sizesOf z) (u .below) (u .shelf)) refl
+
+  start-sizes : sizesOf (o .cache .sizes) ≡ sizesOf z
+  start-sizes = ap (λ (s : ShelfStore). s .store .cache .sizes) start ∙ begins-sizes (sizesOf z) u open-done
+
 pub demand-3 : Demand3
-demand-3 z u o is done match ts h =
-    let sz : model.Sizes = sizesOf z in
-    let answer : o .answer ≡ numbersOf (storeOpen sz (u .below) (u .shelf) .answer) = ap (λ (x : OpeningReply). x .answer) is in
-    let acc = opening-numbered sz (u .below) (u .shelf) (sym (ap (λ (x : replies.Answer). x .refusal) answer) ∙ done) in
-    let os = opened-shelf sz (u .below) (u .shelf) acc in
-    let a : openStore storeFormat sz (u .below) .answer ≡ openDone = ap (λ (x : ShelfOpened). x .answer) (sym (os .0)) ∙ acc in
-    let l = open-accepted storeFormat sz (u .below) a in
-    let limits = limits-of sz (l .sizes-ok) in
-    let few : sz .shelfPages ≤ 8 = let q = limits .shelf-is in omega arith in
-    let begins : storeOf (o .cache) u ≡ record {
-      store = record { cache = openStore storeFormat sz (u .below) .cache; lent = u .below };
-      entries = noEntries;
-      shelf = u .shelf;
-    } = ap (λ (x : OpeningReply). record {
-      store = record { cache = x .cache; lent = u .below };
-      entries = x .entries;
-      shelf = u .shelf;
-    }) is ∙ ap (λ (x : ShelfOpened). record {
-      store = record { cache = x .cache; lent = u .below };
-      entries = x .entries;
-      shelf = u .shelf;
-    }) (os .0) in
-    from-model sz u ts (o .cache) u (begun sz u)
-    (ap (λ (s : ShelfStore). s .store .cache .sizes) begins ∙ ap (λ (x : cached.Cache). x .sizes) (l .cache-is)) h
-    (subst (λ (s : ShelfStore). Left sz u ts s (begun sz u)) (sym begins)
-    (demand-3-shelf storeFormat StoreMatches StoreNear sz (store-bears sz (whole-chunks sz limits)) (u .below) a match (sz .shelfPages) few
-    (u .shelf) (os .1) (chosen ts) (chosen-pick ts)))
+demand-3 z u o is done match ts h = let sz : model.Sizes = sizesOf z in
+    from-model sz u ts (o .cache) u (begun sz u) (start-sizes z u o is done) h
+    (subst (λ (s : ShelfStore). Left sz u ts s (begun sz u)) (sym (start z u o is done))
+    (claimed sz u (open-done z u o is done) match (chosen ts) (chosen-pick ts)))
+
+-- ---- no call is refused 7, and an undisturbed store mends nothing
+
+-- an answer has the number 7 where it is refusal 7 alone
+seven : (a : Answer) (mended : ℕ) → ((b : ℕ) → a ≡ refused 7 b → ⊥) → numbersOf a mended .refusal ≡ 7 → ⊥
+seven openDone mended h e = absurd (omega arith)
+seven (readDone way) mended h e = absurd (omega arith)
+seven (writeDone way b m) mended h e = absurd (omega arith)
+seven (stepDone b m) mended h e = absurd (omega arith)
+seven stepClean mended h e = absurd (omega arith)
+seven (flushDone r m) mended h e = absurd (omega arith)
+seven (refused n b) mended h e = h b (ap (λ (i : ℕ). refused i b) e)
+
+-- no mends are none in the numbers
+mendless : (a : Answer) → numbersOf a 0 .mended ≡ 0
+mendless openDone = refl
+mendless (readDone way) = refl
+mendless (writeDone way b m) = refl
+mendless (stepDone b m) = refl
+mendless stepClean = refl
+mendless (flushDone r m) = refl
+mendless (refused n b) = refl
+
+module _ (sz : model.Sizes) where
+  abbrev Readable : List Turn → ShelfStore → ShelfReference → Type 0
+  Readable ts s r = ShelfLegible storeFormat StoreNear sz (sz .shelfPages) (chosen ts) s r
+
+  legible-from : (ts : List Turn) (c : Cache) (u : Lent) (r : ShelfReference) → sizesOf (c .sizes) ≡ sz → AsContracted c u ts
+      → Readable ts (storeOf c u) r → Legible sz u r ts
+  legible-from [] c u r e h a = tt
+  legible-from (t ∷ ts) c u r e h a = λ near.
+      let m : Made = t .made in
+      let v : Lent = lentTo u t in
+      let x : ShelfResult = given sz c v m e (h .0) in
+      let b = a (t .flash) (t .codes) near in
+      let answer = given-answer sz c v m e (h .0) in
+      let store = given-store sz c v m e (h .0) in
+      record {
+        readable = λ q. seven (x .answer) (x .mends) (b .readable) (sym (ap (λ (y : replies.Answer). y .refusal) answer) ∙ q);
+        mendless = λ q. ap (λ (y : replies.Answer). y .mended) answer
+            ∙ ap (λ (i : ℕ). numbersOf (x .answer) i .mended) (b .mendless q) ∙ mendless (x .answer);
+        then = legible-from ts (replyOf m .cache) (lentAfter v m) (fedBy sz r v m) (same-sizes sz c v m e (h .0)) (h .1)
+            (subst (λ (s : ShelfStore). Readable ts s (fedWith sz r m (saidBy sz r m) s)) store
+            (subst (λ (o : Outcome). Readable ts (x .store) (fedWith sz r m o (x .store))) (said sz c v m e (h .0) r) (b .then)));
+      }
+
+pub never-unreadable : NeverUnreadable
+never-unreadable z u o is done match ts h = let sz : model.Sizes = sizesOf z in
+    legible-from sz ts (o .cache) u (begun sz u) (start-sizes z u o is done) h
+    (subst (λ (s : ShelfStore). Readable sz ts s (begun sz u)) (sym (start z u o is done))
+    (legible sz u (open-done z u o is done) match (chosen ts) (chosen-pick ts)))

@@ -22,7 +22,7 @@ use Rattle.replies.specs.Numbers.{numbersOf}
 
 -- the number says whether the call is refused
 abbrev pub Numbered : Answer → Type 0
-Numbered a = numbersOf a .refusal ≡ 0 → isRefused a ≡ false
+Numbered a = (mended : ℕ) → numbersOf a mended .refusal ≡ 0 → isRefused a ≡ false
 
 not-0 : {A : Type 0} (n : ℕ) → suc n ≡ 0 → A
 not-0 n e = absurd (omega arith)
@@ -31,34 +31,34 @@ module _ (sz : Sizes) (k : State) where
   checked-numbered : (n long : ℕ) (o : Outcome) → Numbered (o .answer) → Numbered (checked sz k n long o .answer)
   unfolding checked
   checked-numbered n long o g = by-test (eqb long (sz .S))
-      (λ e. rw (e, checked) (by-test (ltb n (sz .N * sz .K)) (λ e′. rw e′ g) (λ e′. rw e′ (not-0 4))))
-      (λ e. rw (e, checked) (not-0 1))
+      (λ e. rw (e, checked) (by-test (ltb n (sz .N * sz .K)) (λ e′. rw e′ g) (λ e′. rw e′ (λ m. not-0 4))))
+      (λ e. rw (e, checked) (λ m. not-0 1))
 
   write-numbered : (n : ℕ) (p : Plan) → Numbered (writeOutcome sz k n p .answer)
   unfolding writeOutcome
   write-numbered n p = by-test (isWorn sz (k .wear) (erasedBy (k .directory) p))
-      (λ e. rw (e, writeOutcome) (not-0 5)) (λ e. rw (e, writeOutcome) (λ q. refl))
+      (λ e. rw (e, writeOutcome) (λ m. not-0 5)) (λ e. rw (e, writeOutcome) (λ m q. refl))
 
   part-numbered : (first many : ℕ) (w : Outcome) → Numbered (w .answer) → Numbered (partOutcome sz k first many w .answer)
   unfolding partOutcome
   part-numbered first many w g = by-test (leb (first + many) (sz .S))
-      (λ e. rw (e, partOutcome) (by-test (eqb many 0) (λ e′. rw e′ (λ q. refl)) (λ e′. rw e′ g)))
-      (λ e. rw (e, partOutcome) (not-0 1))
+      (λ e. rw (e, partOutcome) (by-test (eqb many 0) (λ e′. rw e′ (λ m q. refl)) (λ e′. rw e′ g)))
+      (λ e. rw (e, partOutcome) (λ m. not-0 1))
 
   step-numbered : (d : Due) → Numbered (stepOutcome sz k d .answer)
   unfolding stepOutcome
-  step-numbered clean = λ q. refl
+  step-numbered clean = λ m q. refl
   step-numbered (due b f) = by-test (isWorn sz (k .wear) b)
-      (λ e. rw (e, stepOutcome) (not-0 5)) (λ e. rw (e, stepOutcome) (λ q. refl))
+      (λ e. rw (e, stepOutcome) (λ m. not-0 5)) (λ e. rw (e, stepOutcome) (λ m q. refl))
 
   flush-numbered : (pick : Choice) → Numbered (flushOutcome pick sz k .answer)
   unfolding flushOutcome
   flush-numbered pick = by-test (ltb (lowestWorn sz (k .directory) (k .wear)) (sz .N))
-      (λ e. rw (e, flushOutcome) (not-0 5)) (λ e. rw (e, flushOutcome) (λ q. refl))
+      (λ e. rw (e, flushOutcome) (λ m. not-0 5)) (λ e. rw (e, flushOutcome) (λ m q. refl))
 
   pub decide-numbered : (pick : Choice) (c : Call ℕ) → Numbered (decide pick sz k c .answer)
   unfolding decide readOutcome
-  decide-numbered pick (read n long) = checked-numbered n long (readOutcome sz k n) (λ q. refl)
+  decide-numbered pick (read n long) = checked-numbered n long (readOutcome sz k n) (λ m q. refl)
   decide-numbered pick (write n long) = checked-numbered n long _ (write-numbered n _)
   decide-numbered pick (part n first many long) = checked-numbered n long _ (part-numbered first many _ (write-numbered n _))
   decide-numbered pick step = step-numbered (dueOf pick sz (k .directory))
@@ -67,7 +67,7 @@ module _ (sz : Sizes) (k : State) where
 pub heeding-numbered : (k : State) (late : ℕ) (o : Outcome) → Numbered (o .answer) → Numbered (heeding k late o .answer)
 unfolding heeding
 heeding-numbered k late o g = by-test (isRefused (o .answer)) (λ e. rw (e, heeding) g)
-    (λ e. rw (e, heeding) (by-test (eqb late 0) (λ t. rw t g) (λ t. rw t (λ q. absurd (eqb-false late 0 t q)))))
+    (λ e. rw (e, heeding) (by-test (eqb late 0) (λ t. rw t g) (λ t. rw t (λ m q. absurd (eqb-false late 0 t q)))))
 
 -- what the book says of a call of the store below
 pub book-numbered : (sz : Sizes) (h : ℕ) (r : ShelfReference) (pick : Choice) (c : Call Page) (a : Answer)
@@ -77,22 +77,23 @@ book-numbered sz h r pick c a = heeding-numbered (r .reference .book) (addedCaus
     (decide-numbered sz (r .reference .book) pick (told c))
 
 -- the number of a refusal tells the book as much as the answer
-told-same : (a : Answer) → addedCause (refused (numbersOf a .refusal) vacant) ≡ addedCause a
-told-same openDone = refl
-told-same (readDone way) = refl
-told-same (writeDone way b m) = refl
-told-same (stepDone b m) = refl
-told-same stepClean = refl
-told-same (flushDone r m) = refl
-told-same (refused n b) = refl
+told-same : (a : Answer) (mended : ℕ) → addedCause (refused (numbersOf a mended .refusal) vacant) ≡ addedCause a
+told-same openDone mended = refl
+told-same (readDone way) mended = refl
+told-same (writeDone way b m) mended = refl
+told-same (stepDone b m) mended = refl
+told-same stepClean mended = refl
+told-same (flushDone r m) mended = refl
+told-same (refused n b) mended = refl
 
-pub said-same : (sz : Sizes) (h : ℕ) (r : ShelfReference) (pick : Choice) (c : Call Page) (a : Answer)
-    → shelfBookSays sz h r (record { choice = pick; call = plainly c }) (refused (numbersOf a .refusal) vacant)
+pub said-same : (sz : Sizes) (h : ℕ) (r : ShelfReference) (pick : Choice) (c : Call Page) (a : Answer) (mended : ℕ)
+    → shelfBookSays sz h r (record { choice = pick; call = plainly c }) (refused (numbersOf a mended .refusal) vacant)
     ≡ shelfBookSays sz h r (record { choice = pick; call = plainly c }) a
 unfolding shelfBookSays
-said-same sz h r pick c a = ap (λ (n : ℕ). heeding (r .reference .book) n (decide pick sz (r .reference .book) (told c))) (told-same a)
+said-same sz h r pick c a mended = ap (λ (n : ℕ). heeding (r .reference .book) n (decide pick sz (r .reference .book) (told c)))
+    (told-same a mended)
 
-below-numbered : (sz : Sizes) (u : Buffers) → numbersOf (openStore storeFormat sz u .answer) .refusal ≡ 0
+below-numbered : (sz : Sizes) (u : Buffers) → numbersOf (openStore storeFormat sz u .answer) 0 .refusal ≡ 0
     → openStore storeFormat sz u .answer ≡ openDone
 unfolding openStore
 below-numbered sz u = by-test (sizesOk sz)
@@ -101,7 +102,7 @@ below-numbered sz u = by-test (sizesOk sz)
     (λ e′. rw e′ (not-0 1))))
     (λ e. rw (e, openStore) (not-0 0))
 
-pub opening-numbered : (sz : Sizes) (u : Buffers) (shelf : List ℕ) → numbersOf (storeOpen sz u shelf .answer) .refusal ≡ 0
+pub opening-numbered : (sz : Sizes) (u : Buffers) (shelf : List ℕ) → numbersOf (storeOpen sz u shelf .answer) 0 .refusal ≡ 0
     → storeOpen sz u shelf .answer ≡ openDone
 unfolding openShelf
 opening-numbered sz u shelf = by-test (sizesOk sz && not (eqb (length shelf) (sz .shelfPages * sz .S)))

@@ -1,9 +1,10 @@
 -- Demand 3 for C on document 01's script A: the store's calls with their answers in numbers are calls for C, and as contracted.
 use mathlib.Core.Path.{_≡_, refl, ap, subst}
 use mathlib.Core.List.{List, [], _∷_}
+use Prim.Native.Nat.{ℕ}
 use Rattle.model.specs.Calls.{Answer, openDone}
 use Rattle.cache.specs.View.{sizesOf}
-use Rattle.answer.specs.Numbers.{readOf, writeOf, stepOf, flushOf}
+use Rattle.answer.specs.Numbers.{readOf, writeOf, stepOf, flushOf, mendsOfRead, mendsOfWrite, mendsOfStep, mendsOfFlush}
 use Rattle.replies.specs.Numbers.{numbersOf}
 use Rattle.store.specs.declared.Cache.{Cache}
 use Rattle.store.specs.View.{Lent}
@@ -15,18 +16,19 @@ use Rattle.clash_c.specs.Replies.{openedInNumbers, inNumbers}
 use Rattle.clash_c.specs.Histories.{Made, read, write, part, step, flush, replyOf, lentAfter, Contract, Turn, AsContracted, Claim}
 use Rattle.clash_c.proofs.Demand3.{demand-3}
 
-abbrev reply : Cache → Answer → Reply
-reply c a = record { cache = c; answer = numbersOf a }
+abbrev reply : Cache → Answer → ℕ → Reply
+reply c a mends = record { cache = c; answer = numbersOf a mends }
 
 -- a call of the store as a call for C
 abbrev forC : store.Made → Made
-forC (store.read n page out page′) = read (n .0) page (reply (out .cache) (readOf (out .answer))) page′
-forC (store.write n page out u′) = write (n .0) page (reply (out .cache) (writeOf (out .answer))) u′
-forC (store.part n first x page out u′ page′) = part (n .0) first x page (reply (out .cache) (writeOf (out .answer))) u′ page′
-forC (store.step out flash′ codes′ marks′ wear′ bspace′) = step (reply (out .cache) (stepOf
-    (out .answer))) flash′ codes′ marks′ wear′ bspace′
-forC (store.flush out flash′ codes′ marks′ wear′ bspace′) = flush (reply (out .cache) (flushOf
-    (out .answer))) flash′ codes′ marks′ wear′ bspace′
+forC (store.read n page out page′) = read (n .0) page (reply (out .cache) (readOf (out .answer)) (mendsOfRead (out .answer))) page′
+forC (store.write n page out u′) = write (n .0) page (reply (out .cache) (writeOf (out .answer)) (mendsOfWrite (out .answer))) u′
+forC (store.part n first x page out u′ page′) = part (n .0) first x page
+    (reply (out .cache) (writeOf (out .answer)) (mendsOfWrite (out .answer))) u′ page′
+forC (store.step out flash′ codes′ marks′ wear′ bspace′) = step (reply (out .cache) (stepOf (out .answer))
+    (mendsOfStep (out .answer))) flash′ codes′ marks′ wear′ bspace′
+forC (store.flush out flash′ codes′ marks′ wear′ bspace′) = flush (reply (out .cache) (flushOf (out .answer))
+    (mendsOfFlush (out .answer))) flash′ codes′ marks′ wear′ bspace′
 
 abbrev allForC : List store.Turn → List Turn
 allForC [] = []
@@ -65,5 +67,5 @@ contracted c u (t ∷ ts) h = let v : Lent = store.lentTo u t in (
 
 -- what demand 3 says of script A's calls for C
 pub claim : Claim (sizesOf sizes) lentA (opening .cache) lentA (store.begun (sizesOf sizes) lentA) (allForC turns)
-claim = demand-3 sizes lentA (reply (opening .cache) openDone) (ap openedInNumbers accepted) refl
-    (codes-match (sizesOf sizes) lentA accepted-answer) (allForC turns) (contracted (opening .cache) lentA turns as-contracted)
+claim = demand-3 sizes lentA (reply (opening .cache) openDone 0) (ap openedInNumbers accepted) refl
+    (codes-match (sizesOf sizes) lentA refl accepted-answer) (allForC turns) (contracted (opening .cache) lentA turns as-contracted)

@@ -12,6 +12,7 @@ use Rattle.model.specs.Calls as calls
 use Rattle.model.specs.Calls.{Call, Page, Outcome, refused, noBytes, flashCells}
 use Rattle.model.specs.Formats.{storeFormat, StoreNear}
 use Rattle.model.specs.Lists.{After}
+use Rattle.model.specs.Legible.{AsProgrammed}
 use Rattle.model.specs.Shelf.{plainly, ShelfReference, ShelfChosen, storeOpen, storeCall, shelfBookSays, shelfFed}
 use Rattle.cache.specs.declared.Sizes.{Sizes}
 use Rattle.cache.specs.View.{sizesOf}
@@ -123,12 +124,12 @@ ReadGives a (step r flash′ codes′ marks′ wear′ bspace′) = Unit {0}
 ReadGives a (flush r flash′ codes′ marks′ wear′ bspace′) = Unit {0}
 
 -- The model's claim, with what came out of these calls, as long as no more bits flip than the store has to bear: the answers are the
--- book's in numbers, and the reads the page array's.
+-- book's in numbers, but for the chunks mended, of which the book is not told, and the reads the page array's.
 abbrev pub Claim : model.Sizes → Lent → Cache → Lent → ShelfReference → List Turn → Type 0
 Claim sz u₀ c u r [] = (flash codes : List ℕ) → StillNear sz r (flippedTo u flash codes)
     → After storeFormat StoreNear sz (u₀ .below) (storeOf c (flippedTo u flash codes) .store) (r .reference)
 Claim sz u₀ c u r (t ∷ ts) = StillNear sz r (lentTo u t) → record {
-  answers : replyOf (t .made) .answer ≡ numbersOf (saidBy sz r (t .made) .answer);
+  answers : replyOf (t .made) .answer ≡ numbersOf (saidBy sz r (t .made) .answer) (replyOf (t .made) .answer .mended);
   reads : ReadGives (r .reference .array) (t .made);
   -- where no further bit flips, every cell is near still
   near : StillNear sz (fedBy sz r (lentTo u t) (t .made)) (lentAfter (lentTo u t) (t .made));
@@ -139,3 +140,20 @@ Claim sz u₀ c u r (t ∷ ts) = StillNear sz r (lentTo u t) → record {
 abbrev pub Demand3 : Type 0
 Demand3 = (z : Sizes) (u : Lent) (o : Reply) → OpeningContract z u o → o .answer .refusal ≡ 0 → CodesMatch (sizesOf z) u
     → (ts : List Turn) → AsContracted (o .cache) u ts → Claim (sizesOf z) u (o .cache) u (begun (sizesOf z) u) ts
+
+-- ---- requests A6 and A7
+
+-- Of every call of a list, as long as no more bits flip than the store has to bear: it is not refused 7, and where it finds each cell as it
+-- was programmed, or as it was at opening, it mends nothing.
+abbrev pub Legible : model.Sizes → Lent → ShelfReference → List Turn → Type 0
+Legible sz u r [] = Unit {0}
+Legible sz u r (t ∷ ts) = StillNear sz r (lentTo u t) → record {
+  readable : replyOf (t .made) .answer .refusal ≡ 7 → ⊥;
+  mendless : AsProgrammed storeFormat sz (r .reference) (lentTo u t .below) → replyOf (t .made) .answer .mended ≡ 0;
+  then : Legible sz (lentAfter (lentTo u t) (t .made)) (fedBy sz r (lentTo u t) (t .made)) ts;
+}
+
+-- after one accepted opening of a store whose codes match, for every list of calls
+abbrev pub NeverUnreadable : Type 0
+NeverUnreadable = (z : Sizes) (u : Lent) (o : Reply) → OpeningContract z u o → o .answer .refusal ≡ 0 → CodesMatch (sizesOf z) u
+    → (ts : List Turn) → AsContracted (o .cache) u ts → Legible (sizesOf z) u (begun (sizesOf z) u) ts

@@ -18,7 +18,7 @@ abbrev pub openedReply : Reply → OpeningReply
 openedReply r = record { answer = r .answer; cache = cacheOf (r .cache); entries = r .cache .entries }
 
 abbrev pub openedInNumbers : ShelfOpened → OpeningReply
-openedInNumbers o = record { answer = numbersOf (o .answer); cache = o .cache; entries = o .entries }
+openedInNumbers o = record { answer = numbersOf (o .answer) 0; cache = o .cache; entries = o .entries }
 
 -- the answer, the record handed back with the lent buffers, and the page buffer
 pub record CallReply : Type 0 where
@@ -30,4 +30,4 @@ abbrev pub replied : Reply → Lent → Page → CallReply
 replied r u page = record { answer = r .answer; store = storeOf (r .cache) u; page = page }
 
 abbrev pub inNumbers : ShelfResult → CallReply
-inNumbers r = record { answer = numbersOf (r .answer); store = r .store; page = r .page }
+inNumbers r = record { answer = numbersOf (r .answer) (r .mends); store = r .store; page = r .page }

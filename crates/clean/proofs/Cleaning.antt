@@ -5,19 +5,19 @@ use mathlib.Core.List.{List, []}
 use Prim.Native.Nat.{ℕ, suc, _≤_, _<_}
 use native.Mathlib.Omega.{arith}
 use lib.Dec.{ltb}
-use lib.ListN.{length, getD}
-use lib.Seq.{getD-set-same}
-use Rattle.model.specs.Sizes.{Sizes}
-use Rattle.model.specs.Directory.{Directory, validAt}
+use lib.ListN.{length, getD, set}
+use lib.Seq.{getD-set-same, set-set}
+use Rattle.model.specs.Sizes.{Sizes, vacant}
+use Rattle.model.specs.Directory.{Directory, validAt, usesAt}
 use Rattle.model.specs.Soundness.{Sound}
-use Rattle.model.specs.Policy.{due, inSlots, slotOf}
+use Rattle.model.specs.Policy.{due, inBlock, inSlots, slotOf}
 use Rattle.model.specs.Moves.{Memory, flashPage, joined, filled, joinedPages, vacated, merged, rewrittenPages, stepped, steppedPages}
 use Rattle.model.specs.Calls.{Page, Cell, zeroPage, slotPages, mergesPage, faultMet, mendsMet}
 use Rattle.model.specs.Cut.{cutRewrite}
 use Rattle.model.proofs.Kept.{joined-sound}
 use Rattle.model.proofs.Steps.{wornBy-is}
 use Rattle.model.proofs.Plan.{valid-low}
-use Rattle.moves.specs.Numbers.{offsetsOf}
+use Rattle.moves.specs.Numbers.{offsetsOf, vacatedSlots}
 use Rattle.moves.specs.Spaces.{spaces, Joined}
 use Rattle.cache.specs.View.{numbers}
 use Rattle.chip.specs.declared.BlockSeen.{BlockSeen}
@@ -104,3 +104,16 @@ module _ {sz : Sizes} {d : Directory} {flash codes marks wear pspace bspace : Li
       chip-is = λ i. record { flash = flash-is i; wear = worn-is i };
       pages-are = pages-are;
     }
+
+-- ---- the directory alone
+
+module _ (sz : Sizes) (d : Directory) (b f : ℕ) where
+  -- the slots of the block are vacant, and so is the frame
+  pub forgotten : (slots : List ℕ) → slots ≡ vacatedSlots sz (numbers (d .slots) [] [] [] []) b
+      → numbers slots (set (d .frames) f vacant) (set (d .valid) f 0) (d .recency) (set (d .uses) f 0) ≡ stepped sz d (due b f)
+  unfolding stepped vacated joined vacatedSlots offsetsOf inBlock
+  forgotten slots e =
+      let frames = sym (set-set (d .frames) f b vacant) in
+      let valid = sym (set-set (d .valid) f (offsetsOf sz d b (validAt d f)) 0) in
+      let uses = sym (set-set (d .uses) f (cond (ltb 0 (usesAt d f)) (usesAt d f) 1) 0) in
+      λ i. numbers (e i) (frames i) (valid i) (d .recency) (uses i)

@@ -23,6 +23,11 @@ pub record Lookable (sz : Sizes) (d : Directory) (flash codes marks : List ℕ) 
   pub lent : Lent sz flash codes marks
   pub block : steps.Ready sz d b f
 
+-- the same, of which the directory alone is asked
+pub record Forgettable (sz : Sizes) (d : Directory) (b f : ℕ) : Type 0 where
+  pub sound : Sound sz d
+  pub block : steps.Ready sz d b f
+
 -- the refusal that its merge reads meet, their mends, and the pages that want mending
 pub record MergesLooked (sz : Sizes) (d : Directory) (flash codes marks : List ℕ) (b f : ℕ) (r : BlockSeen) : Type 0 where
   pub fault-is : r .fault ≡ faultMet sz (faultOn sz flash codes marks) (mergesPage sz d b f)

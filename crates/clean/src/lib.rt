@@ -5,11 +5,12 @@ use cache::VACANT;
 use chip::BlockSeen;
 use chip::Rewrote;
 use moves::join;
+ghost use mathlib.Core.Path.{_≡_};
 ghost use mathlib.Core.List.{[]};
+ghost use Rattle.model.specs.Policy.{due};
+ghost use Rattle.model.specs.Moves.{stepped};
 ghost use Rattle.cache.specs.View.{sizesOf, numbers};
-ghost use Rattle.answer.specs.Carried.{buffers};
-ghost use Rattle.clean.specs.Plain as plain;
-ghost use Rattle.clean.specs.Clean.{Lookable, MergesLooked, Cleanable, BlockCleaned};
+ghost use Rattle.clean.specs.Clean.{Lookable, MergesLooked, Cleanable, BlockCleaned, Forgettable};
 
 // The check beforehand: what the merge reads of a cleaning of block b through frame f meet in flash. Nothing is changed.
 pub fn look(
@@ -82,53 +83,27 @@ pub fn clean_block(
     chip::rewrite(z, v, mend, flash, codes, marks, wear, bspace, b, f, ops)
 }
 
-// The same in a store without codes and marks, and whole. Answers the number of merge reads.
-pub fn clean_plain(
+// What a cleaning of block b through frame f leaves of the directory, without any page moved: for a look at the blocks that come after it.
+pub fn forget(
     z: Sizes,
     slots: &mut [u32; 128],
     frames: &mut [u32; 8],
     valid: &mut [u64; 8],
     recency: &[u8; 8],
     uses: &mut [u32; 8],
-    flash: &mut [u8],
-    codes: &mut [u8],
-    marks: &mut [u8],
-    wear: &mut [u32],
-    pspace: &[u8],
-    bspace: &mut [u8],
     b: BlockNo,
     f: usize,
-) -> u32
+)
     requires { ⌜ (
         let d = numbers (now slots) (now frames) (now valid) (now recency) (now uses) in
-        let u = buffers (now flash) (now codes) (now marks) (now wear) (now pspace) (now bspace) in
-        plain.Cleanable (sizesOf z) d u (b .0) f) ⌝ }
-    ensures { λ r. ⌜ (
+        Forgettable (sizesOf z) d (b .0) f) ⌝ }
+    ensures { λ _. ⌜ (
         let d = numbers (now (slots .entry)) (now (frames .entry)) (now (valid .entry)) (now (recency .entry)) (now (uses .entry)) in
-        let u = buffers (now (flash .entry)) (now (codes .entry)) (now (marks .entry)) (now (wear .entry)) (now (pspace .entry))
-        (now (bspace .entry)) in
         let d′ = numbers (now (slots .exit)) (now (frames .exit)) (now (valid .exit)) (now (recency .entry)) (now (uses .exit)) in
-        let u′ = buffers (now (flash .exit)) (now (codes .exit)) (now (marks .exit)) (now (wear .exit)) (now (pspace .entry))
-        (now (bspace .exit)) in
-        plain.BlockCleaned (sizesOf z) d u (b .0) f d′ r u′) ⌝ }
+        d′ ≡ stepped (sizesOf z) d (due (b .0) f)) ⌝ }
 {
-    let r = clean_block(
-        z,
-        slots,
-        frames,
-        valid,
-        recency,
-        uses,
-        flash,
-        codes,
-        marks,
-        wear,
-        pspace,
-        bspace,
-        b,
-        f,
-        0,
-        4294967295,
-    );
-    r.reads
+    join::vacate(z, slots, b);
+    frames[f] = VACANT;
+    valid[f] = 0;
+    uses[f] = 0;
 }

@@ -14,7 +14,6 @@ use Rattle.model.specs.Policy.{policyChoice}
 use Rattle.model.specs.Calls.{Call, Page, Fits}
 use Rattle.model.specs.Formats.{storeFormat}
 use Rattle.model.specs.Shelf.{plainly, ShelfStore}
-use Rattle.model.proofs.Plain.{uncoded, unmarked}
 use Rattle.model.proofs.Shelf.{sizes-stay}
 use Rattle.model.proofs.Soundness.{limits-of}
 use Rattle.print.specs.Print.{lineRoom, wearRoom}
@@ -31,7 +30,7 @@ use Rattle.interpret.specs.declared.parts.Parts.{Parts}
 use Rattle.perform.specs.declared.Lined.{Lined}
 use Rattle.perform.specs.Effects.{Effect, opened, written, wasRead, stepped, flushed}
 use Rattle.perform.specs.View.{Carries}
-use Rattle.perform.proofs.Opening.{opened-done, opened-sizes, opened-refused}
+use Rattle.perform.proofs.Opening.{none-asked, opened-done, opened-sizes, opened-refused}
 use Rattle.interpret.specs.Lines.{carried, sizesAfter}
 use Rattle.interpret.specs.View.{Held, PartsOf, front, Sized, InSizes, CarriedOut}
 
@@ -52,13 +51,13 @@ module _ (old : model.Sizes) (u : Lent) (page out : List ℕ) (f : Form) (l : In
 
 -- ---- the sizes after a line
 
-held-open : (sz : model.Sizes) → sizesOk sz ≡ true → buffersFit sz ≡ true → Held sz
+held-open : (sz : model.Sizes) → Sized (form.opens sz) → sizesOk sz ≡ true → Held sz
 unfolding buffersFit
-held-open sz ok b =
-    let h = limits-of sz ok in let q = each _ b in
+held-open sz k ok =
+    let h = limits-of sz ok in let q = each _ (k .2 ok) in
     record {
-      no-codes = uncoded sz h;
-      no-marks = unmarked sz h;
+      no-codes = k .0;
+      no-marks = k .1;
       S-high = h .S-high;
       K-high = h .K-high;
       N-high = h .N-high;
@@ -69,7 +68,7 @@ held-open sz ok b =
     }
 
 pub held-after : (old : model.Sizes) (f : form.Form) → Held old → Sized f → Held (sizesAfter old f)
-held-after old (form.opens sz) h k = by-test (sizesOk sz) (λ t. rw t (held-open sz t (k t))) (λ t. rw t h)
+held-after old (form.opens sz) h k = by-test (sizesOk sz) (λ t. rw t (held-open sz k t)) (λ t. rw t h)
 held-after old (form.writes n b) h k = h
 held-after old (form.reads n) h k = h
 held-after old form.steps h k = h
@@ -80,36 +79,39 @@ held-after old form.bad h k = h
 pub held-as : (old sz : model.Sizes) (f : form.Form) → sz ≡ sizesAfter old f → Held old → Sized f → Held sz
 held-as old sz f e h k = subst Held (sym e) (held-after old f h k)
 
-opened-keeps : (s : ShelfStore) (sz : model.Sizes) → opened s sz .store .store .cache .sizes ≡ sizesAfter (s .store .cache .sizes)
-    (form.opens sz)
-opened-keeps s sz = by-test (sizesOk sz) (λ t. ap (λ (e : Effect). e .store .store .cache .sizes) (opened-done sz s t)
-    ∙ opened-sizes sz t ∙ rw t)
+opened-keeps : (s : ShelfStore) (sz : model.Sizes) → Sized (form.opens sz) → opened s sz .store .store .cache .sizes
+    ≡ sizesAfter (s .store .cache .sizes) (form.opens sz)
+opened-keeps s sz k = let none = none-asked sz (k .0) (k .1) in
+    by-test (sizesOk sz) (λ t. ap (λ (e : Effect). e .store .store .cache .sizes) (opened-done sz s none t)
+    ∙ opened-sizes sz none t ∙ rw t)
     (λ t. ap (λ (e : Effect). e .store .store .cache .sizes) (opened-refused sz s t) ∙ rw t)
 
-carried-sizes : (s : ShelfStore) (f : form.Form) (n : ℕ) → carried s f n .store .store .cache .sizes ≡ sizesAfter (s .store .cache .sizes) f
+carried-sizes : (s : ShelfStore) (f : form.Form) (n : ℕ) → Sized f
+    → carried s f n .store .store .cache .sizes ≡ sizesAfter (s .store .cache .sizes) f
 unfolding written wasRead stepped flushed
-carried-sizes s (form.opens sz) n = opened-keeps s sz
-carried-sizes s (form.writes m b) n = sizes-stay storeFormat policyChoice _ s _
-carried-sizes s (form.reads m) n = sizes-stay storeFormat policyChoice _ s _
-carried-sizes s form.steps n = sizes-stay storeFormat policyChoice _ s _
-carried-sizes s form.flushes n = sizes-stay storeFormat policyChoice _ s _
-carried-sizes s form.wears n = refl
-carried-sizes s form.bad n = refl
+carried-sizes s (form.opens sz) n k = opened-keeps s sz k
+carried-sizes s (form.writes m b) n k = sizes-stay storeFormat policyChoice _ s _
+carried-sizes s (form.reads m) n k = sizes-stay storeFormat policyChoice _ s _
+carried-sizes s form.steps n k = sizes-stay storeFormat policyChoice _ s _
+carried-sizes s form.flushes n k = sizes-stay storeFormat policyChoice _ s _
+carried-sizes s form.wears n k = refl
+carried-sizes s form.bad n k = refl
 
 -- ---- the buffers in the memory
 
 -- an accepted opening does not ask what was there
-carried-front : (c : Cache) (f : form.Form) (n : ℕ) (flash wear pspace bspace : List ℕ)
+carried-front : (c : Cache) (f : form.Form) (n : ℕ) → Sized f → (flash wear pspace bspace : List ℕ)
     → carried (storeOf c (front (sizesAfter (sizesOf (c .sizes)) f) flash wear pspace bspace)) f n
     ≡ carried (storeOf c (front (sizesOf (c .sizes)) flash wear pspace bspace)) f n
-carried-front c (form.opens sz) n flash wear pspace bspace = by-test (sizesOk sz) (λ t. opened-done sz _ t ∙ sym (opened-done sz _ t))
+carried-front c (form.opens sz) n k flash wear pspace bspace =
+    let none = none-asked sz (k .0) (k .1) in by-test (sizesOk sz) (λ t. opened-done sz _ none t ∙ sym (opened-done sz _ none t))
     (λ t. rw t)
-carried-front c (form.writes m b) n flash wear pspace bspace = refl
-carried-front c (form.reads m) n flash wear pspace bspace = refl
-carried-front c form.steps n flash wear pspace bspace = refl
-carried-front c form.flushes n flash wear pspace bspace = refl
-carried-front c form.wears n flash wear pspace bspace = refl
-carried-front c form.bad n flash wear pspace bspace = refl
+carried-front c (form.writes m b) n k flash wear pspace bspace = refl
+carried-front c (form.reads m) n k flash wear pspace bspace = refl
+carried-front c form.steps n k flash wear pspace bspace = refl
+carried-front c form.flushes n k flash wear pspace bspace = refl
+carried-front c form.wears n k flash wear pspace bspace = refl
+carried-front c form.bad n k flash wear pspace bspace = refl
 
 pub front-le : {A : Type 0} (k n : ℕ) (l : List A) → length l ≡ n → k ≤ n → k ≤ length l
 front-le k n l e h = omega arith
@@ -174,21 +176,21 @@ module _ (sz : model.Sizes) (p : Parts) (q : PartsOf sz p) where
           λ i. plainLent (f i) (g i) (h i) (k i)
 
       -- what was done to the parts is done to the memory
-      pub line-carried : (c : Cache) (f : form.Form) (n : ℕ) → sz ≡ sizesAfter (sizesOf (c .sizes)) f → Held sz
+      pub line-carried : (c : Cache) (f : form.Form) (n : ℕ) → Sized f → sz ≡ sizesAfter (sizesOf (c .sizes)) f → Held sz
           → (a b d e : List ℕ) (r : Lined) (out : List ℕ)
           → Carries (carried (storeOf c (plainLent (take (p .flash) flash) (take (p .wear) wear) (take (p .pspace) pspace)
           (take (p .bspace) bspace))) f n) r (plainLent x y v w) out
           → CarriedOut (carried (storeOf c (front (sizesOf (c .sizes)) flash wear pspace bspace)) f n) r (x ++ a) (y ++ b) (v ++ d)
           (w ++ e) out
-      line-carried c f n z held a b d e r out h =
+      line-carried c f n k z held a b d e r out h =
           let effect : carried (storeOf c (plainLent (take (p .flash) flash) (take (p .wear) wear) (take (p .pspace) pspace)
           (take (p .bspace) bspace))) f n ≡ carried (storeOf c (front (sizesOf (c .sizes)) flash wear pspace bspace)) f n =
           ap (λ (u : Lent). carried (storeOf c u) f n) parts-front
           ∙ ap (λ (m : model.Sizes). carried (storeOf c (front m flash wear pspace bspace)) f n) z
-          ∙ carried-front c f n flash wear pspace bspace in
+          ∙ carried-front c f n k flash wear pspace bspace in
           let sizes : sizesOf (r .cache .sizes) ≡ sz =
           ap (λ (m : Effect). m .store .store .cache .sizes) (h .effect) ∙ carried-sizes
-          (storeOf c (plainLent (take (p .flash) flash) (take (p .wear) wear) (take (p .pspace) pspace) (take (p .bspace) bspace))) f n
+          (storeOf c (plainLent (take (p .flash) flash) (take (p .wear) wear) (take (p .pspace) pspace) (take (p .bspace) bspace))) f n k
           ∙ sym z in
           let back : front (sizesOf (r .cache .sizes)) (x ++ a) (y ++ b) (v ++ d) (w ++ e) ≡ plainLent x y v w =
           ap (λ (m : model.Sizes). front m (x ++ a) (y ++ b) (v ++ d) (w ++ e)) sizes ∙ put-back a b d e in

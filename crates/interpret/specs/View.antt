@@ -45,9 +45,9 @@ front sz flash wear pspace bspace = plainLent (take (sz .N * sz .K * sz .S) flas
 
 -- ---- what is asked, and what a line leaves
 
--- an opening with sizes within limits has buffers that fit: the form of every line is such
+-- an opening asks for no codes and no marks, and with sizes within limits it has buffers that fit: the form of every line is such
 abbrev pub Sized : Form → Type 0
-Sized (opens sz) = sizesOk sz ≡ true → buffersFit sz ≡ true
+Sized (opens sz) = (isCoded sz ≡ false) × (isMarked sz ≡ false) × (sizesOk sz ≡ true → buffersFit sz ≡ true)
 Sized (writes n b) = Unit {0}
 Sized (reads n) = Unit {0}
 Sized steps = Unit {0}

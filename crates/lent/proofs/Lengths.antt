@@ -1,18 +1,17 @@
 -- The tests of lengths.
 use mathlib.Core.Path.{_≡_, sym, _∙_}
-use mathlib.Core.Bool.{and-true}
+use mathlib.Core.Bool.{Bool, true, false, cond, and-true}
 use mathlib.Core.List.{List}
 use Prim.Native.Nat.{ℕ, _+_, _-_, _*_, _≤_}
 use native.Mathlib.Omega.{arith}
-use native.Mathlib.Nat.{mul-zero}
+use native.Mathlib.Nat.{mul-le-mul}
 use lib.Dec.{leb, eqb}
 use lib.ListN.{length}
 use borrow.Author.Tests.{leb-true, leb-false, le-leb, lt-leb}
 use Rattle.prelude.specs.Tests.{every}
 use Rattle.prelude.proofs.Tests.{by-test}
-use Rattle.model.specs.Sizes.{Sizes, InLimits}
-use Rattle.model.specs.Formats.{storeFormat, codeLong, markLong}
-use Rattle.model.proofs.Plain.{uncoded, unmarked}
+use Rattle.model.specs.Sizes.{Sizes, InLimits, isCoded, isMarked}
+use Rattle.model.specs.Formats.{pageCode, codeFor, storeFormat, codeLong, markLong}
 use Rattle.model.specs.Calls.{lentOk}
 use Rattle.answer.specs.Carried.{buffers}
 use Rattle.lent.specs.Lengths.{lengthsOk}
@@ -24,13 +23,24 @@ pub lengths-lent : (sz : Sizes) (flash codes marks wear pspace bspace : List ℕ
 unfolding lengthsOk lentOk every
 lengths-lent sz flash codes marks wear pspace bspace = rw (and-true (eqb (length bspace) (sz .B * sz .K * sz .S)))
 
--- a store without codes and marks lends none
-module _ (sz : Sizes) (l : InLimits sz) where
-  pub no-codes : sz .N * sz .K * codeLong sz ≡ 0
-  no-codes = rw (codeLong, uncoded sz l) (mul-zero (sz .N * sz .K))
+-- codes and marks are short
+code-short : (coded : Bool) (sz : Sizes) → InLimits sz → codeFor coded .long sz ≤ 24
+unfolding pageCode
+code-short true sz l = let s = l .S-high in omega arith
+code-short false sz l = omega arith
 
-  pub no-marks : sz .N * sz .K * markLong sz ≡ 0
-  no-marks = rw (markLong, unmarked sz l) (mul-zero (sz .N * sz .K))
+mark-short : (marked : Bool) → _≤_ (cond marked 1 0) 1
+mark-short true = omega arith
+mark-short false = omega arith
+
+module _ (sz : Sizes) (l : InLimits sz) where
+  pub codes-small : sz .N * sz .K * codeLong sz ≤ 6291456
+  codes-small = let a : sz .N * sz .K ≤ 4096 * 64 = mul-le-mul (l .N-high) (l .K-high) in
+      let b : sz .N * sz .K * codeLong sz ≤ 4096 * 64 * 24 = mul-le-mul a (code-short (isCoded sz) sz l) in omega arith
+
+  pub marks-small : sz .N * sz .K * markLong sz ≤ 262144
+  marks-small = let a : sz .N * sz .K ≤ 4096 * 64 = mul-le-mul (l .N-high) (l .K-high) in
+      let b : sz .N * sz .K * markLong sz ≤ 4096 * 64 * 1 = mul-le-mul a (mark-short (isMarked sz)) in omega arith
 
 -- bytes that end within what is left of a page from its first byte on
 pub reach-test : (s first many : ℕ) → first ≤ s → leb many (s - first) ≡ leb (first + many) s

@@ -9,8 +9,8 @@ ghost use Rattle.model.specs.Sizes.{InLimits};
 ghost use Rattle.cache.specs.View.{sizesOf};
 ghost use Rattle.lent.specs.Lengths.{lengthsOk};
 
-// The lengths are N*K*S bytes of flash, N wear entries, P*S bytes of p-space and B*K*S bytes of b-space; a store has no codes and no
-// marks yet.
+// The lengths are N*K*S bytes of flash, codes and marks of N*K pages as the options have them, N wear entries, P*S bytes of p-space and
+// B*K*S bytes of b-space.
 pub fn lengths_ok(
     z: Sizes,
     flash: usize,
@@ -28,9 +28,13 @@ pub fn lengths_ok(
     let n = z.blocks as usize;
     let p = z.slots as usize;
     let b = z.frames as usize;
-    (flash == n * k * s)
-        & ((codes == 0)
-            & ((marks == 0) & ((wear == n) & ((pspace == p * s) & (bspace == b * k * s)))))
+    let code = chip::code_size(z);
+    let mark = chip::mark_size(z);
+    let pages = n * k;
+    (flash == pages * s)
+        & ((codes == pages * code)
+            & ((marks == pages * mark)
+                & ((wear == n) & ((pspace == p * s) & (bspace == b * k * s)))))
 }
 
 // So many bytes, from byte `first` of a page on, end within it.

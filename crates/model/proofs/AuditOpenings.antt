@@ -268,6 +268,10 @@ withOptions policy coded shelfPages marked = record {
   marked = marked;
 }
 
+-- coded, with pages of so many bytes
+abbrev coded : ℕ → Sizes
+coded s = record { S = s; K = 2; N = 3; P = 2; B = 1; W = 9; policy = 0; coded = 1; shelfPages = 0; marked = 0 }
+
 -- buffers for them, as long as a plain store's; with codes of 3 bytes and marks of 1 for each page
 abbrev plainly : Buffers
 plainly = lengths 1536 (0 ∷ 0 ∷ 0 ∷ []) 512 512
@@ -275,9 +279,10 @@ plainly = lengths 1536 (0 ∷ 0 ∷ 0 ∷ []) 512 512
 abbrev codesAndMarks : ℕ → ℕ → Buffers
 codesAndMarks codes marks = allLengths 1536 codes marks (0 ∷ 0 ∷ 0 ∷ []) 512 512
 
--- The three policies open, on buffers as for LRU; another number is refused 1. An opening with another option is refused 1, also lent what
--- the option would ask for. Both come before the buffers are looked at. A store without options is lent no codes and no marks, else it is
--- refused 2, before the wear is looked at.
+-- The three policies open, on buffers as for LRU; another number is refused 1. Coded opens, at a multiple of 256 and lent 3 bytes of code
+-- for each chunk, else it is refused 1 or 2. An opening with another option is refused 1, also lent what the option would ask for, and
+-- before the buffers are looked at. A store without options is lent no codes and no marks, else it is refused 2, before the wear is looked
+-- at.
 abbrev pub options : List Opens
 options =
     -- LRU, FIFO, LFU, and two numbers that are no policy
@@ -289,12 +294,25 @@ options =
     -- a policy, and buffers that fit no store
     ∷ refusesLent (withOptions 2 0 0 0) (lengths 0 [] 0 0) 2
     ∷ refusesLent (withOptions 3 0 0 0) (lengths 0 [] 0 0) 1
-    -- a policy, and another option
-    ∷ refusesLent (withOptions 1 1 0 0) plainly 1
-    -- coded, without codes and with them, and a number that is no choice
-    ∷ refusesLent (withOptions 0 1 0 0) plainly 1
-    ∷ refusesLent (withOptions 0 1 0 0) (codesAndMarks 18 0) 1
+    -- a policy, and codes, without and with their buffer
+    ∷ refusesLent (withOptions 1 1 0 0) plainly 2
+    ∷ opensLent (withOptions 1 1 0 0) (codesAndMarks 18 0)
+    -- coded, without codes, with one byte too few and one too many, with marks and as it should be; wear above W then
+    ∷ refusesLent (withOptions 0 1 0 0) plainly 2
+    ∷ refusesLent (withOptions 0 1 0 0) (codesAndMarks 17 0) 2
+    ∷ refusesLent (withOptions 0 1 0 0) (codesAndMarks 19 0) 2
+    ∷ refusesLent (withOptions 0 1 0 0) (codesAndMarks 18 6) 2
+    ∷ opensLent (withOptions 0 1 0 0) (codesAndMarks 18 0)
+    ∷ refusesLent (withOptions 0 1 0 0) (allLengths 1536 18 0 (10 ∷ 0 ∷ 0 ∷ []) 512 512) 3
+    -- two chunks a page; pages that are not whole chunks, with codes for the chunks there are; a number that is no choice
+    ∷ opensLent (coded 512) (allLengths 3072 36 0 (0 ∷ 0 ∷ 0 ∷ []) 1024 1024)
+    ∷ refusesLent (coded 512) (allLengths 3072 18 0 (0 ∷ 0 ∷ 0 ∷ []) 1024 1024) 2
+    ∷ refusesLent (coded 255) (allLengths 1530 0 0 (0 ∷ 0 ∷ 0 ∷ []) 510 510) 1
+    ∷ refusesLent (coded 257) (allLengths 1542 18 0 (0 ∷ 0 ∷ 0 ∷ []) 514 514) 1
+    ∷ refusesLent (coded 1) (allLengths 6 0 0 (0 ∷ 0 ∷ 0 ∷ []) 2 2) 1
+    ∷ refusesLent (coded 128) (allLengths 768 18 0 (0 ∷ 0 ∷ 0 ∷ []) 256 256) 1
     ∷ refusesLent (withOptions 0 2 0 0) plainly 1
+    ∷ refusesLent (withOptions 0 2 0 0) (codesAndMarks 18 0) 1
     -- shelf pages: one, and one more than there will be
     ∷ refusesLent (withOptions 0 0 1 0) plainly 1
     ∷ refusesLent (withOptions 0 0 9 0) plainly 1
@@ -302,7 +320,7 @@ options =
     ∷ refusesLent (withOptions 0 0 0 1) plainly 1
     ∷ refusesLent (withOptions 0 0 0 1) (codesAndMarks 0 6) 1
     -- an option, and buffers that fit no store
-    ∷ refusesLent (withOptions 0 1 0 0) (lengths 0 [] 0 0) 1
+    ∷ refusesLent (withOptions 0 0 0 1) (lengths 0 [] 0 0) 1
     -- no option, and codes of one page or of all, marks of one or of all
     ∷ refusesLent (withOptions 0 0 0 0) (codesAndMarks 3 0) 2
     ∷ refusesLent (withOptions 0 0 0 0) (codesAndMarks 18 0) 2

@@ -63,10 +63,10 @@ highest = record {
 abbrev withSizes : Sizes → Store
 withSizes sz = recordOf sz (0 ∷ vacant ∷ 9 ∷ []) (1 ∷ 2 ∷ []) (5 ∷ 1 ∷ []) (1 ∷ 0 ∷ []) (3 ∷ 1 ∷ [])
 
--- with options: policy, coded, shelf pages, marked
-abbrev withOptions : ℕ → ℕ → ℕ → ℕ → Store
-withOptions policy coded shelfPages marked = withSizes (record {
-  S = 1;
+-- with options: policy, coded, shelf pages, marked; and with pages of so many bytes
+abbrev withOptionsAt : ℕ → ℕ → ℕ → ℕ → ℕ → Store
+withOptionsAt s policy coded shelfPages marked = withSizes (record {
+  S = s;
   K = 4;
   N = 3;
   P = 3;
@@ -77,6 +77,9 @@ withOptions policy coded shelfPages marked = withSizes (record {
   shelfPages = shelfPages;
   marked = marked;
 })
+
+abbrev withOptions : ℕ → ℕ → ℕ → ℕ → Store
+withOptions policy coded shelfPages marked = withOptionsAt 1 policy coded shelfPages marked
 
 -- the first of them under FIFO and LFU
 abbrev pub heldBy : ℕ → Unspoilt
@@ -144,9 +147,13 @@ spoilt =
     -- the policy is 3, 4294967295
     ∷ withOptions 3 0 0 0
     ∷ withOptions 4294967295 0 0 0
-    -- coded is 1, 2
+    -- coded is 1, and S no multiple of 256
     ∷ withOptions 0 1 0 0
+    ∷ withOptionsAt 255 0 1 0 0
+    ∷ withOptionsAt 384 0 1 0 0
+    -- coded is 2
     ∷ withOptions 0 2 0 0
+    ∷ withOptionsAt 256 0 2 0 0
     -- there is 1 shelf page, there are 9
     ∷ withOptions 0 0 1 0
     ∷ withOptions 0 0 9 0

@@ -23,7 +23,7 @@ use Rattle.model.specs.Calls.{combined, callPages, lentOk, openStore, ze
 use Rattle.model.specs.Calls.{flashCells, callReading, readsAll, heeding, faultOf, faultMet, somePage, mendsOf, mendsMet, sum}
 use Rattle.model.specs.Calls.{readsFlash}
 use Rattle.model.specs.Calls.{readsPage, stepsMerge, mergesPage}
-use Rattle.model.specs.Formats.{formatOf, torn}
+use Rattle.model.specs.Formats.{formatOf, torn, pageCode}
 use Rattle.model.proofs.AuditRows.{given, listed}
 use Rattle.model.proofs.AuditPaper.{paper}
 use Rattle.model.proofs.AuditWays.{ways}
@@ -44,11 +44,11 @@ pub rows : (map given paper ≡ map listed paper) × (map given ways ≡ map lis
 unfolding openStore call carriedOut memoryOf buffersOf zeroPage lentOk callPages stepsPages decide flushOutcome steps stepOutcome
     partOutcome writeOutcome readOutcome checked combined laid steppedPages writtenPages readPage stepped written readDirectory
     rewrittenPages merged vacated exchangedPages exchanged givenSlot taken spare unmet joinedPages filled joined putFramePage putSlotPage
-    entered putSlot touched recencyAfter oneMore wornBy worn programmed flashPage formatOf torn flashCells callReading readsAll heeding
-    faultOf faultMet somePage mendsOf mendsMet sum readsFlash readsPage stepsMerge mergesPage cellAt isCoded isMarked lowestWorn isWorn
-    cached dueOf lowestInSlots occupied plan evictionPlan evictFrame anyEvictable evictable fewestValid victim policyChoice fewestUses
-    leastRecent readWay slotCount validCount frameOf frameWith inSlots slotOf inBlock inFrame sound usesOk framePast slotPast listedOnce
-    cachedOnce framesDiffer slotsDiffer frameOk slotOk shapeOk sizesOk vacantDirectory blankCache every first firstFrom count all allPairs
+    entered putSlot touched recencyAfter oneMore wornBy worn programmed flashPage formatOf torn pageCode flashCells callReading readsAll
+    heeding faultOf faultMet somePage mendsOf mendsMet sum readsFlash readsPage stepsMerge mergesPage cellAt isCoded isMarked
+    lowestWorn isWorn cached dueOf lowestInSlots occupied plan evictionPlan evictFrame anyEvictable evictable fewestValid victim
+    policyChoice fewestUses leastRecent readWay slotCount validCount frameOf frameWith inSlots slotOf inBlock inFrame sound usesOk
+    framePast slotPast listedOnce cachedOnce framesDiffer slotsDiffer frameOk slotOk shapeOk sizesOk vacantDirectory blankCache every first firstFrom count all allPairs
     tab tabFrom bit mask nth argmax least pageAt pagesOf flat
 rows = (refl, refl, refl, refl, refl, refl, refl, refl, refl, refl, refl, refl)
 

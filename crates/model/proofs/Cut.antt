@@ -34,7 +34,8 @@ module _ {C A : Type 0} (chip : Chip C A) (filler : A) (sz : Sizes) where
   unfolding steppedPages rewrittenPages programmed joinedPages cellAt
   stepped-at d m b f n l = getD-tab (sz .N * sz .K) _ (chip .cell filler) n l
 
-  stepped-other : (d : Directory) (m : Memory C A) (b f n : ℕ) → n < sz .N * sz .K → (n / sz .K ≡ b → ⊥)
+  -- cells of other blocks stay
+  pub stepped-other : (d : Directory) (m : Memory C A) (b f n : ℕ) → n < sz .N * sz .K → (n / sz .K ≡ b → ⊥)
       → at (steppedPages chip filler sz d m (due b f) .flash) n ≡ at (m .flash) n
   stepped-other d m b f n l ne = stepped-at d m b f n l ∙ rw (ne-eqb _ b ne)
 

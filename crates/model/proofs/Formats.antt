@@ -17,7 +17,6 @@ use Rattle.model.specs.Calls.{Page, Cell, Format, CellFits, Buffers, Fit
 use Rattle.model.specs.Lists.{Chosen, AllPick, noCell, Reference, flipped, Borne, Quiet, opened, flashPages, Bears, Demand3}
 use Rattle.model.specs.Formats.{Code, noCode, formatOf, plain, Matches, NearBy, NoFlips, Corrects}
 use Rattle.model.specs.Formats.{pageCode, codeFor, storeFormat, PageFlips, flipsFor, StoreMatches, StoreNear}
-use Rattle.model.proofs.Soundness.{coded-off}
 use Rattle.model.proofs.Buffers.{map-tab}
 use Rattle.model.proofs.Demand3.{demand-3, demand-3-quiet, Holds, cells-fit}
 
@@ -135,10 +134,6 @@ store-bears sz whole =
       page-near = h .page-near;
     }
 
--- an opening sees to it that a coded store has whole chunks
-pub whole-chunks : (sz : Sizes) → InLimits sz → isCoded sz ≡ true → sz .S / 256 * 256 ≡ sz .S
-whole-chunks sz l e = absurd (false≢true (sym (coded-off sz (λ u. let c = l .coded-is in omega arith)) ∙ e))
-
 -- demand 3 for the store, with its options
 pub demand-3-store : (sz : Sizes) → InLimits sz → Demand3 storeFormat StoreMatches StoreNear sz
-demand-3-store sz l = demand-3 storeFormat StoreMatches StoreNear sz (store-bears sz (whole-chunks sz l))
+demand-3-store sz l = demand-3 storeFormat StoreMatches StoreNear sz (store-bears sz (l .whole))

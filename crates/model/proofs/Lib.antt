@@ -46,3 +46,4 @@ pub mod RulesBytes
 pub mod RulesLists
 pub mod RulesDemand3
 pub mod Unshelved
+pub mod Legible

@@ -14,12 +14,12 @@ use Rattle.prelude.proofs.Scan.{count-past, count-le}
 use Rattle.model.specs.Sizes.{Sizes, vacant}
 use Rattle.model.specs.Directory.{Directory, slotAt, frameAt, validAt, inFrame}
 use Rattle.model.specs.Soundness.{Sound}
-use Rattle.model.specs.Policy.{Choice, inBlock, inSlots, clean, due, dueOf, cached}
+use Rattle.model.specs.Policy.{Choice, inBlock, inSlots, frameWith, readWay, clean, due, dueOf, cached}
 use Rattle.model.specs.Moves.{joined, vacated, stepped}
 use Rattle.model.specs.Calls.{mergesPage, stepsMerge, sum, mendsMet}
 use Rattle.model.specs.Lists.{Picks}
 use Rattle.model.proofs.Lookup.{NoSlot, NoFrame, block-lt, offset-lt, page-split, found-slot, not-in-slots, frame-has, has-frame}
-use Rattle.model.proofs.Lookup.{block-of, own-block}
+use Rattle.model.proofs.Lookup.{block-of, own-block, no-frame-with}
 use Rattle.model.proofs.Reflects.{joined-bits, joined-bits′, vacated-bits′}
 use Rattle.model.proofs.Steps.{Ready, Empty, due-elim, stepped-sound, stepped-frame′, cached-now, cached-back, cached-on}
 use Rattle.model.proofs.Steps.{cached-less, empty-count, none-empty, stepped-absent, after-slot, joined-ready}
@@ -58,6 +58,21 @@ module _ (sz : Sizes) (d : Directory) (s : Sound sz d) (b f : ℕ) (y : Ready sz
       (λ t. absurd (u .frame f (y .f-lt) (has-frame sz d n f (own-block sz d b f (y .own) _ t ∙ sym e) t)))
       (λ t. rw t (by-test (inSlots sz d n) (λ w. let k = found-slot sz d n w in absurd (u .slot _ (k .0) (k .1))) (λ w. w)))))
 
+  -- a page of the block that a read would find in flash is among them
+  pub reads-merged : readWay sz d n ≡ 3 → n / sz .K ≡ b → mergesPage sz d b f n ≡ true
+  unfolding readWay
+  reads-merged h e = step-out (record {
+    block = rw e (cached-now sz d s b f y);
+    slot = not-in-slots sz d n (by-test (inSlots sz d n)
+        (λ t. let w : readWay sz d n ≡ 1 = rw (t, readWay) in absurd (omega arith))
+        (λ t. t));
+    frame = by-test (inSlots sz d n)
+        (λ t. let w : readWay sz d n ≡ 1 = rw (t, readWay) in absurd (omega arith))
+        (λ t. by-test (ltb (frameWith sz d n) (sz .B))
+        (λ u. let w : readWay sz d n ≡ 2 = rw (t, readWay) (rw u) in absurd (omega arith))
+        (λ u. no-frame-with sz d n (ltb-false _ (sz .B) u)));
+  }) e
+
   -- and those left to later steps
   later-in : Uncached sz after n → Uncached sz d n
   unfolding stepped
@@ -77,7 +92,8 @@ module _ (sz : Sizes) (d : Directory) (s : Sound sz d) (b f : ℕ) (y : Ready sz
   later-out u ne = let a = stepped-absent sz d s b f y n l (u .slot) (u .frame) in
       record { block = cached-on sz d s b f y (n / sz .K) (block-lt sz (s .limits) n l) (u .block) ne; slot = a .0; frame = a .1 }
 
-merges-block : (sz : Sizes) (d : Directory) (b f n : ℕ) → mergesPage sz d b f n ≡ true → n / sz .K ≡ b
+-- what a rewrite merges is of its block
+pub merges-block : (sz : Sizes) (d : Directory) (b f n : ℕ) → mergesPage sz d b f n ≡ true → n / sz .K ≡ b
 unfolding mergesPage
 merges-block sz d b f n h = eqb-true (n / sz .K) b (and-l (eqb (n / sz .K) b) _ h)
 
@@ -117,7 +133,8 @@ stepsMend pick sz mends (suc c) d = elim (dueOf pick sz d) [
       mendsMet sz mends (mergesPage sz d b f) + stepsMend pick sz mends c (stepped sz d (due b f))
 ]
 
-sum-or : (n : ℕ) (g : ℕ → ℕ) (p q : ℕ → Bool) → ((i : ℕ) → i < n → p i ≡ true → q i ≡ true → ⊥)
+-- over two sets that have no page in common
+pub sum-or : (n : ℕ) (g : ℕ → ℕ) (p q : ℕ → Bool) → ((i : ℕ) → i < n → p i ≡ true → q i ≡ true → ⊥)
     → sum n (λ i. cond (p i || q i) (g i) 0) ≡ sum n (λ i. cond (p i) (g i) 0) + sum n (λ i. cond (q i) (g i) 0)
 unfolding sum
 sum-or zero g p q h = refl

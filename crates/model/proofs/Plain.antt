@@ -15,12 +15,12 @@ use Rattle.model.specs.Calls.{Cell, State, Outcome, isRefused, somePage,
 use Rattle.model.specs.Formats.{torn, formatOf, codeFor, chipFor, storeFormat}
 use Rattle.model.proofs.Soundness.{coded-off, marked-off}
 
--- no option is in force
-pub uncoded : (sz : Sizes) → InLimits sz → isCoded sz ≡ false
-uncoded sz l = coded-off sz (λ e. let c = l .coded-is in omega arith)
+-- without the options
+pub uncoded : (sz : Sizes) → sz .coded ≡ 0 → isCoded sz ≡ false
+uncoded sz c = coded-off sz (λ e. omega arith)
 
-pub unmarked : (sz : Sizes) → InLimits sz → isMarked sz ≡ false
-unmarked sz l = marked-off sz (λ e. let c = l .marked-is in omega arith)
+pub unmarked : (sz : Sizes) → sz .marked ≡ 0 → isMarked sz ≡ false
+unmarked sz m = marked-off sz (λ e. omega arith)
 
 and-f : (b : Bool) → (b && false) ≡ false
 and-f true = refl
@@ -40,14 +40,14 @@ module _ (sz : Sizes) where
     none-passes (λ i. reads i && eqb (fault i) 14) (λ i. rw (h i) (and-f (reads i))),
   )
 
-  nothing : (n : ℕ) (g : ℕ → ℕ) → ((i : ℕ) → g i ≡ 0) → sum n g ≡ 0
+  pub nothing : (n : ℕ) (g : ℕ → ℕ) → ((i : ℕ) → i < n → g i ≡ 0) → sum n g ≡ 0
   unfolding sum
   nothing zero g h = refl
-  nothing (suc n) g h = let a = h n in let b = nothing n g h in omega arith
+  nothing (suc n) g h = let a = h n (omega arith) in let b = nothing n g (λ i l. h i (omega arith)) in omega arith
 
   pub no-mends : (mends : ℕ → ℕ) (reads : ℕ → Bool) → ((i : ℕ) → mends i ≡ 0) → mendsMet sz mends reads ≡ 0
   unfolding mendsMet
-  no-mends mends reads h = nothing (sz .N * sz .K) _ (λ i. by-test (reads i) (λ e. rw e (h i)) (λ e. rw e))
+  no-mends mends reads h = nothing (sz .N * sz .K) _ (λ i l. by-test (reads i) (λ e. rw e (h i)) (λ e. rw e))
 
   module _ (c : isCoded sz ≡ false) (m : isMarked sz ≡ false) where
     pub plain-fault : (x : Cell) → chipFor sz .fault x ≡ 0

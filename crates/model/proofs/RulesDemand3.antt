@@ -26,12 +26,12 @@ use Rattle.model.proofs.Plan.{leastRecent-picks}
 use Rattle.model.proofs.Buffers.{fits-of}
 use Rattle.model.proofs.Opening.{open-accepted}
 use Rattle.model.proofs.Demand3.{demand-3}
-use Rattle.model.proofs.Formats.{store-bears, whole-chunks}
+use Rattle.model.proofs.Formats.{store-bears}
 use Rattle.model.proofs.RulesRecord.{sizes-rule}
 use Rattle.model.proofs.RulesLists.{flash-read-rule, times-cached-rule, block-pages-rule}
 
 pub store-bears-rule : StoreBears
-store-bears-rule sz l = store-bears sz (whole-chunks sz (limits-of sz (sizes-rule sz .1 l)))
+store-bears-rule sz l = store-bears sz (limits-of sz (sizes-rule sz .1 l) .whole)
 
 -- ---- the claim at the store that is reached
 

@@ -15,12 +15,12 @@ use Rattle.model.specs.Soundness.{sound, Sound}
 use Rattle.model.specs.Policy.{inSlots, frameWith, readWay, Plan, slotHit, frameHit, freeSlot, join, fill, exchange, evict, plan}
 use Rattle.model.specs.Moves.{joined}
 use Rattle.model.specs.Calls.{mergesPage, readsPage, writeMerges, readsFlash, sum, told, readsAll}
-use Rattle.model.specs.Formats.{formatOf, torn}
+use Rattle.model.specs.Formats.{formatOf, torn, pageCode}
 use Rattle.model.specs.RulesWords.{_⇔_, ValidIn, Uncached}
 use Rattle.model.specs.RulesReads.{Merged, ReadsAllRule, SumRule, ReadsReadRule, ReadsWriteNoneRule, ReadsWriteRule}
 use Rattle.model.specs.RulesReads.{ReadsPartNoneRule}
-use Rattle.model.specs.RulesReads.{ReadsPartRule, ReadsStepRule, ReadsCleanRule, ReadsFlushRule, NoOptionRule}
-use Rattle.model.proofs.Soundness.{coded-off, marked-off, sound-facts}
+use Rattle.model.specs.RulesReads.{ReadsPartRule, ReadsStepRule, ReadsCleanRule, ReadsFlushRule, NoOptionRule, CodedRule}
+use Rattle.model.proofs.Soundness.{coded-on, coded-off, marked-off, sound-facts}
 use Rattle.model.proofs.Lookup.{NoFrame, in-slots, page-div, page-mod, page-split, offset-lt, frame-has}
 use Rattle.model.proofs.Merges.{flush-in, flush-out}
 use Rattle.model.proofs.RulesWords.{absent, frame-found, unfound, valid-found, found-cached}
@@ -141,6 +141,10 @@ reads-flush-rule pick sz k ok i i-lt picks b o bl ol q = let d = k .directory in
 
 pub no-option-rule : NoOptionRule
 unfolding formatOf torn
-no-option-rule sz l = let o = l .options-are in
-    let c = coded-off sz (λ e. let z = o .0 in omega arith) in let m = marked-off sz (λ e. let z = o .2 in omega arith) in
+no-option-rule sz a b = let c = coded-off sz (λ e. omega arith) in let m = marked-off sz (λ e. omega arith) in
     rw (c, m) ((λ x. (refl, refl, refl)), (λ x. refl))
+
+pub coded-rule : CodedRule
+unfolding formatOf torn pageCode
+coded-rule sz m a b s = let c = coded-on sz a in let u = marked-off sz (λ e. omega arith) in let e : sz .S / 256 ≡ m = omega arith in
+    rw (c, u) (rw (e, s) ((λ x. (refl, refl, (λ l. rw l), (λ l. rw l))), (λ x. refl), refl))

@@ -1,7 +1,7 @@
 -- The laws of the record and of opening hold: each test is turned into facts and back, and the refusals follow the tests' order.
 use mathlib.Core.Path.{_≡_, refl, sym, ap, _∙_}
 use mathlib.Core.Logic.{_⊎_, inl, inr}
-use mathlib.Core.Bool.{false}
+use mathlib.Core.Bool.{true, false}
 use Prim.Native.Nat.{ℕ, zero, suc, _+_, _-_, _*_, _/_, _%_, _^_, _≤_, _<_}
 use native.Mathlib.Nat.{pow-suc, mod-lt, div-add-mod'}
 use native.Mathlib.Omega.{arith}
@@ -14,14 +14,15 @@ use Rattle.prelude.proofs.Tests.{by-test, clash, fails, every-of}
 use Rattle.prelude.proofs.Scan.{all-of, all-fails, listed-at, listed-once}
 use Rattle.prelude.proofs.Tab.{length-tab, getD-tab}
 use Rattle.prelude.proofs.Bits.{bit-zero, bit-pos, bits-some, bit-high}
-use Rattle.model.specs.Sizes.{Sizes, vacant, sizesOk}
+use Rattle.model.specs.Sizes.{Sizes, vacant, sizesOk, isCoded}
 use Rattle.model.specs.Directory.{Directory, slotAt, frameAt, validAt, recencyAt, vacantDirectory, blankCache}
 use Rattle.model.specs.Soundness.{sound, Sound}
 use Rattle.model.specs.Calls.{lentOk, openStore}
-use Rattle.model.specs.RulesRecord.{VacantRule, SizesRule, LengthsRule, NoCodesRule, SoundBy, SoundRule}
+use Rattle.model.specs.Formats.{pageCode}
+use Rattle.model.specs.RulesRecord.{VacantRule, SizesRule, LengthsRule, NoCodesRule, CodesRule, SoundBy, SoundRule}
 use Rattle.model.specs.RulesRecord.{StartRule, BlankRule, BlankUnsoundRule, OpeningSizeRule, OpeningBufferRule, OpeningOverwornRule}
 use Rattle.model.specs.RulesRecord.{OpeningDoneRule}
-use Rattle.model.proofs.Soundness.{coded-off, marked-off, limits-of, limits-test, sound-facts, facts-sound, pages-small}
+use Rattle.model.proofs.Soundness.{coded-on, coded-off, marked-off, limits-of, limits-test, sound-facts, facts-sound, pages-small}
 use Rattle.model.proofs.Buffers.{fits-of}
 use Rattle.model.proofs.Lookup.{page-div, page-mod, page-vacant, page-split, block-lt, offset-lt, frame-has, has-frame, block-vacant}
 
@@ -37,6 +38,11 @@ one-of-three p l = by-test (eqb p 0)
     (λ q. inl (eqb-true p 1 q))
     (λ q. let a = eqb-false p 0 e in let b = eqb-false p 1 q in inr (omega arith))))
 
+-- coded is 1
+coded-one : (sz : Sizes) → isCoded sz ≡ true → sz .coded ≡ 1
+unfolding isCoded
+coded-one sz e = eqb-true (sz .coded) 1 e
+
 pub sizes-rule : SizesRule
 sizes-rule sz = (
   (λ h. let l = limits-of sz h in record {
@@ -47,7 +53,8 @@ sizes-rule sz = (
     B-is = (l .B-low, l .B-high);
     W-is = (l .W-low, l .W-high);
     policy-is = one-of-three (sz .policy) (l .policy-high);
-    options-are = (l .coded-is, l .shelf-is, l .marked-is);
+    options-are = (l .coded-high, l .shelf-is, l .marked-is);
+    chunks-are = λ e. (sz .S / 256, sym (l .whole (coded-on sz e)));
   }),
   (λ l. limits-test sz (record {
     S-low = l .S-is .0;
@@ -63,9 +70,10 @@ sizes-rule sz = (
     W-low = l .W-is .0;
     W-high = l .W-is .1;
     policy-high = elim (l .policy-is) [ inl e ↦ omega arith | inr h ↦ elim h [ inl e ↦ omega arith | inr e ↦ omega arith ] ];
-    coded-is = l .options-are .0;
+    coded-high = l .options-are .0;
     shelf-is = l .options-are .1;
     marked-is = l .options-are .2;
+    whole = λ e. let m = l .chunks-are (coded-one sz e) in let q = m .1 in omega arith;
   })),
 )
 
@@ -93,11 +101,15 @@ lengths-rule fmt sz u = (
 )
 
 pub no-codes-rule : NoCodesRule
-no-codes-rule sz u l h = let o = l .options-are in
-    let c = coded-off sz (λ e. let z = o .0 in omega arith) in let m = marked-off sz (λ e. let z = o .2 in omega arith) in
+no-codes-rule sz u a b h = let c = coded-off sz (λ e. omega arith) in let m = marked-off sz (λ e. omega arith) in
     let codes : length (u .codes) ≡ sz .N * sz .K * 0 = (rw c at (h .codes-are)) in
     let marks : length (u .marks) ≡ sz .N * sz .K * 0 = (rw m at (h .marks-are)) in
     (omega arith, omega arith)
+
+pub codes-rule : CodesRule
+unfolding pageCode
+codes-rule sz u m a b h = let c = coded-on sz a in let e : sz .S / 256 ≡ m = omega arith in
+    (rw c at (h .codes-are)) ∙ ap (λ (x : ℕ). sz .N * sz .K * (x * 3)) e
 
 -- ---- when a record is sound
 

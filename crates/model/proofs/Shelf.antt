@@ -29,7 +29,7 @@ use Rattle.model.specs.Shelf.{ShelfStore, ShelfResult, pagesOfShelf, she
 use Rattle.model.specs.Shelf.{ShelfReference, ShelfChosen, taken, shelfBookSays, shelfFed, shelfFlipped, ShelfGives, ShelfStep}
 use Rattle.model.specs.Shelf.{noEntries, shelfOpened, ShelfClaim}
 use Rattle.model.proofs.Soundness.{pages-small, limits-of}
-use Rattle.model.proofs.Opening.{open-accepted}
+use Rattle.model.proofs.Opening.{Accept, open-accepted}
 use Rattle.model.proofs.Demand3.{Holds, holds-opened, holds-step, holds-refused, holds-long, holds-sound, holds-borne, holds-after}
 
 -- ---- entries
@@ -463,6 +463,29 @@ module _ (sz : Sizes) (limits : InLimits sz) (h : ℕ) (h-le : h ≤ 8) (h-pos :
 
 -- ---- demand 3 with the shelf, from an accepted opening; h is 0 to 8
 
+-- what holds as a list begins
+pub shelves-opened : (fmt : Format) (Matched : Sizes → Cell → Type 0) (Near : Sizes → Cell → Cell → Type 0) (sz : Sizes)
+    (laws : Bears fmt Matched Near sz) (u : Buffers) (limits : InLimits sz) (h : ℕ) (h-le : h ≤ 8) → Accept fmt sz u
+    → ((n : ℕ) → n < sz .N * sz .K → Matched sz (getD (flashCells fmt sz u) n noCell)) → (shelf : List ℕ) → length shelf ≡ h * sz .S
+    → Shelves fmt Matched Near sz laws u limits h h-le (record {
+      store = record { cache = openStore fmt sz u .cache; lent = u };
+      entries = noEntries;
+      shelf = shelf;
+    }) (shelfOpened fmt sz h u shelf)
+shelves-opened fmt Matched Near sz laws u limits h h-le a ok shelf sl = record {
+  holds = holds-opened fmt Matched Near sz laws u a ok;
+  count = 0;
+  run = record {
+    long = length-replicate 8 vacant;
+    k-le = omega arith;
+    used = λ i l. absurd (omega arith);
+    free = λ i l q. getD-replicate 8 i vacant vacant q;
+  };
+  entries-are = refl;
+  shelf-long = sl;
+  shelf-are = refl;
+}
+
 pub demand-3-shelf : (fmt : Format) (Matched : Sizes → Cell → Type 0) (Near : Sizes → Cell → Cell → Type 0) (sz : Sizes)
     → Bears fmt Matched Near sz → (u : Buffers) → openStore fmt sz u .answer ≡ openDone
     → ((n : ℕ) → n < sz .N * sz .K → Matched sz (getD (flashCells fmt sz u) n noCell))
@@ -475,16 +498,4 @@ pub demand-3-shelf : (fmt : Format) (Matched : Sizes → Cell → Type 0) (Near 
     (shelfOpened fmt sz h u shelf)
 demand-3-shelf fmt Matched Near sz laws u acc ok h hl shelf sl cs p = let a = open-accepted fmt sz u acc in
     let limits = limits-of sz (a .sizes-ok) in
-    shelf-claim fmt Matched Near sz laws u limits h hl cs p _ _ (record {
-      holds = holds-opened fmt Matched Near sz laws u a ok;
-      count = 0;
-      run = record {
-        long = length-replicate 8 vacant;
-        k-le = omega arith;
-        used = λ i l. absurd (omega arith);
-        free = λ i l q. getD-replicate 8 i vacant vacant q;
-      };
-      entries-are = refl;
-      shelf-long = sl;
-      shelf-are = refl;
-    })
+    shelf-claim fmt Matched Near sz laws u limits h hl cs p _ _ (shelves-opened fmt Matched Near sz laws u limits h hl a ok shelf sl)

@@ -6,7 +6,7 @@ use Rattle.model.proofs.AuditCells
 use mathlib.Core.Path.{_≡_, sym}
 use mathlib.Core.Logic.{_⊎_, inl, inr, _≢_}
 use mathlib.Core.Bool.{Bool, true, false, not, _&&_, _||_}
-use Prim.Native.Nat.{ℕ, _*_, _^_, _≤_, _<_}
+use Prim.Native.Nat.{ℕ, _*_, _/_, _%_, _^_, _≤_, _<_}
 use native.Mathlib.Nat.{mul-le-mul}
 use native.Mathlib.Omega.{arith}
 use lib.Dec.{ltb, eqb}
@@ -20,6 +20,17 @@ use Rattle.model.specs.Soundness.{shapeOk, slotOk, frameOk, slotsDiffer,
 use Rattle.model.specs.Soundness.{usesOk, sound, Shape, Entries, Listed, Counted, Sound}
 
 -- ---- sizes
+
+-- the test that a page with a code is whole chunks, as a fact and back
+whole-of : (sz : Sizes) → (eqb (sz .coded) 0 || eqb (sz .S % 256) 0) ≡ true → isCoded sz ≡ true → sz .S / 256 * 256 ≡ sz .S
+unfolding isCoded
+whole-of sz h e = let c = eqb-true (sz .coded) 1 e in let m = eqb-true (sz .S % 256) 0 (rw c at h) in omega arith
+
+whole-test : (sz : Sizes) → sz .coded ≤ 1 → (isCoded sz ≡ true → sz .S / 256 * 256 ≡ sz .S)
+    → (eqb (sz .coded) 0 || eqb (sz .S % 256) 0) ≡ true
+unfolding isCoded
+whole-test sz l h = by-test (eqb (sz .coded) 0) (λ e. or-l _ e) (λ e. or-r (eqb (sz .coded) 0)
+    (let c = eqb-false (sz .coded) 0 e in let w = h (eq-eqb (sz .coded) 1 (omega arith)) in eq-eqb (sz .S % 256) 0 (omega arith)))
 
 pub limits-of : (sz : Sizes) → sizesOk sz ≡ true → InLimits sz
 unfolding sizesOk
@@ -37,9 +48,10 @@ limits-of sz h = let e = each _ h in let e2 = e .1 .1 .1 .1 in let e3 = e2 .1 .1
   W-low = leb-true _ _ (e3 .1 .1 .0);
   W-high = leb-true _ _ (e3 .1 .1 .1 .0);
   policy-high = leb-true _ _ (e4 .0);
-  coded-is = eqb-true _ _ (e4 .1 .0);
+  coded-high = leb-true _ _ (e4 .1 .0);
   shelf-is = eqb-true _ _ (e4 .1 .1 .0);
   marked-is = eqb-true _ _ (e4 .1 .1 .1 .0);
+  whole = whole-of sz (e4 .1 .1 .1 .1 .0);
 }
 
 -- the options' tests
@@ -88,7 +100,10 @@ limits-test sz h = every-of _ (
                         le-leb _ _ (h .W-high),
                         (
                           le-leb _ _ (h .policy-high),
-                          (eq-eqb _ _ (h .coded-is), (eq-eqb _ _ (h .shelf-is), (eq-eqb _ _ (h .marked-is), tt))),
+                          (
+                            le-leb _ _ (h .coded-high),
+                            (eq-eqb _ _ (h .shelf-is), (eq-eqb _ _ (h .marked-is), (whole-test sz (h .coded-high) (h .whole), tt))),
+                          ),
                         ),
                       ),
                     ),

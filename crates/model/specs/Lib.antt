@@ -8,6 +8,7 @@ pub mod Lists
 pub mod Formats
 pub mod Cut
 pub mod Shelf
+pub mod Legible
 pub mod RulesWords
 pub mod RulesRecord
 pub mod RulesMoves

@@ -5,7 +5,10 @@ use mathlib.Core.Logic.{_⊎_}
 use mathlib.Core.Bool.{Bool, true, false}
 use mathlib.Core.List.{[]}
 use Prim.Native.Nat.{ℕ, suc, _+_, _*_, _<_}
+use lib.ListN.{replicate}
 use Rattle.prelude.specs.Bits.{bit}
+use Rattle.codes.specs.Code.{codesOf}
+use Rattle.codes.specs.Reading.{pageLegible, pageMended, pageMends}
 use Rattle.model.specs.Sizes.{Sizes}
 use Rattle.model.specs.Directory.{Directory, frameAt, validAt}
 use Rattle.model.specs.Soundness.{sound}
@@ -14,7 +17,6 @@ use Rattle.model.specs.Calls.{Call, read, write, part, step, flush, Stat
 use Rattle.model.specs.Formats.{chipFor}
 use Rattle.model.specs.Lists.{Picks}
 use Rattle.model.specs.RulesWords.{_⇔_, InSlot, Uncached, Cached}
-use Rattle.model.specs.RulesRecord.{WithinLimits}
 
 -- page n is one of block b at an offset that is not valid in frame f, and stands in no slot: a rewrite of b through f merges it
 abbrev pub Merged : Sizes → Directory → ℕ → ℕ → ℕ → Type 0
@@ -71,8 +73,18 @@ abbrev pub ReadsFlushRule : Type 0
 ReadsFlushRule = OfFlash (λ pick sz k i. Picks pick → (b o : ℕ) → b < sz .N → o < sz .K → b * sz .K + o ≡ i
     → (readsFlash pick sz k flush i ≡ true) ⇔ (Cached sz (k .directory) b × Uncached sz (k .directory) i))
 
--- With no option a flash page is read as its bytes, meets no refusal and mends nothing; it is programmed with no code and no mark.
+-- Without codes and marks a flash page is read as its bytes, meets no refusal and mends nothing; it is programmed with no code and no mark.
 abbrev pub NoOptionRule : Type 0
-NoOptionRule = (sz : Sizes) → WithinLimits sz
+NoOptionRule = (sz : Sizes) → sz .coded ≡ 0 → sz .marked ≡ 0
     → ((c : Cell) → (chipFor sz .page c ≡ c .bytes) × (chipFor sz .fault c ≡ 0) × (chipFor sz .mends c ≡ 0))
     × ((x : Page) → chipFor sz .cell x ≡ record { bytes = x; code = []; mark = [] })
+
+-- In a coded store whose pages are m chunks, without marks, a page is read by the rule of its codes, meets refusal 7 where that finds it
+-- unreadable, and mends as many chunks as that says; it is programmed with its codes, and an erased page has codes of 255.
+abbrev pub CodedRule : Type 0
+CodedRule = (sz : Sizes) (m : ℕ) → sz .coded ≡ 1 → sz .marked ≡ 0 → sz .S ≡ m * 256
+    → ((c : Cell) → (chipFor sz .page c ≡ pageMended m (c .bytes) (c .code)) × (chipFor sz .mends c ≡ pageMends m (c .bytes) (c .code))
+    × (pageLegible m (c .bytes) (c .code) ≡ true → chipFor sz .fault c ≡ 0)
+    × (pageLegible m (c .bytes) (c .code) ≡ false → chipFor sz .fault c ≡ 7))
+    × ((x : Page) → chipFor sz .cell x ≡ record { bytes = x; code = codesOf m x; mark = [] })
+    × (chipFor sz .erased ≡ record { bytes = replicate (m * 256) 255; code = replicate (m * 3) 255; mark = [] })

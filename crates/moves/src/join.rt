@@ -8,7 +8,7 @@ ghost use mathlib.Core.Path.{_≡_};
 ghost use mathlib.Core.List.{[]};
 ghost use Prim.Native.Nat.{_<_, _^_};
 ghost use Rattle.cache.specs.View.{sizesOf, numbers};
-ghost use Rattle.moves.specs.Numbers.{BlockOf, offsetsOf};
+ghost use Rattle.moves.specs.Numbers.{BlockOf, offsetsOf, vacatedSlots};
 ghost use Rattle.moves.specs.Spaces.{Fills, Took, Joins, Joined};
 
 // The pages of block b in slots go into frame f, which is b's or vacant, and their slots are vacant then. Only the frame's own
@@ -107,4 +107,20 @@ pub fn offsets(z: Sizes, slots: &[u32; 128], b: BlockNo, old: u64) -> u64
         }
     }
     v
+}
+
+// The slots that have pages of block b are vacant then: what a join does to the slots, where no page has to move.
+pub fn vacate(z: Sizes, slots: &mut [u32; 128], b: BlockNo)
+    requires { ⌜ BlockOf (sizesOf z) (now slots) (b .0) ⌝ }
+    ensures { λ _. ⌜ now (slots .exit) ≡ vacatedSlots (sizesOf z) (numbers (now (slots .entry)) [] [] [] []) (b .0) ⌝ }
+{
+    let p = z.slots as usize;
+    let mut i = 0;
+    while i < p {
+        i = numbers::next_of(z, slots, b, i);
+        if i < p {
+            slots[i] = VACANT;
+            i += 1;
+        }
+    }
 }

@@ -3,20 +3,21 @@
 use address::PageNo;
 use answer::Write;
 use cache::Sizes;
+use chip::Seen;
 ghost use mathlib.Core.Path.{_≡_};
 ghost use mathlib.Core.Bool.{cond};
 ghost use mathlib.Core.List.{[]};
 ghost use Prim.Native.Nat.{_+_, _≤_};
 ghost use lib.ListN.{length};
-ghost use Rattle.model.specs.Formats.{chipFor};
-ghost use Rattle.model.specs.Calls.{isRefused, zeroPage, combined};
+ghost use Rattle.model.specs.Calls.{isRefused};
 ghost use Rattle.cache.specs.View.{sizesOf, numbers};
-ghost use Rattle.answer.specs.Numbers.{writeOf};
+ghost use Rattle.answer.specs.Numbers.{writeOf, mendsOfWrite};
 ghost use Rattle.answer.specs.Carried.{buffers};
-ghost use Rattle.reads.specs.Reads.{Readable, pages};
-ghost use Rattle.parts.specs.Parts.{PartReady, PartWrote};
+ghost use Rattle.reads.specs.Reads.{Readable};
+ghost use Rattle.parts.specs.Parts.{PartReady, PartWrote, Combined};
 
-// Writes page n with the bytes laid in. The combined page is made in a page of its own, since a refused write leaves the page buffer alone.
+// Writes page n with the bytes laid in, with at most ops operations of the chip. The combined page is made in a page of its own, since a
+// refused write leaves the page buffer alone.
 pub fn write(
     z: Sizes,
     slots: &mut [u32; 128],
@@ -34,6 +35,7 @@ pub fn write(
     first: u32,
     bytes: &[u8],
     page: &mut [u8],
+    ops: u32,
 ) -> Write
     requires { ⌜ (
         let d = numbers (now slots) (now frames) (now valid) (now recency) (now uses) in
@@ -46,7 +48,8 @@ pub fn write(
         let d′ = numbers (now (slots .exit)) (now (frames .exit)) (now (valid .exit)) (now (recency .exit)) (now (uses .exit)) in
         let u′ = buffers (now (flash .exit)) (now (codes .exit)) (now (marks .exit))
         (now (wear .exit)) (now (pspace .exit)) (now (bspace .exit)) in
-        PartWrote (sizesOf z) d u (n .0) first (now (bytes .entry)) (now (page .entry)) (writeOf r) d′ u′ (now (page .exit))) ⌝ }
+        PartWrote (sizesOf z) d u (n .0) first (now (bytes .entry)) (now (page .entry)) ops (writeOf r) (mendsOfWrite r) d′ u′
+        (now (page .exit))) ⌝ }
 {
     let s = z.page_size as usize;
     let mut whole = [0u8; 2048];
@@ -68,10 +71,11 @@ pub fn write(
         bytes,
         page,
         &mut whole[..s],
+        ops,
     )
 }
 
-// Makes the combined page in `whole`, writes it, and hands it back.
+// Makes the combined page in `whole`, writes it, and hands it back. What the read met is looked at with what the write meets.
 fn write_combined(
     z: Sizes,
     slots: &mut [u32; 128],
@@ -90,6 +94,7 @@ fn write_combined(
     bytes: &[u8],
     page: &mut [u8],
     whole: &mut [u8],
+    ops: u32,
 ) -> Write
     requires { ⌜ (
         let d = numbers (now slots) (now frames) (now valid) (now recency) (now uses) in
@@ -102,9 +107,10 @@ fn write_combined(
         let d′ = numbers (now (slots .exit)) (now (frames .exit)) (now (valid .exit)) (now (recency .exit)) (now (uses .exit)) in
         let u′ = buffers (now (flash .exit)) (now (codes .exit)) (now (marks .exit))
         (now (wear .exit)) (now (pspace .exit)) (now (bspace .exit)) in
-        PartWrote (sizesOf z) d u (n .0) first (now (bytes .entry)) (now (page .entry)) (writeOf r) d′ u′ (now (page .exit))) ⌝ }
+        PartWrote (sizesOf z) d u (n .0) first (now (bytes .entry)) (now (page .entry)) ops (writeOf r) (mendsOfWrite r) d′ u′
+        (now (page .exit))) ⌝ }
 {
-    combine(
+    let seen = combine(
         z,
         slots,
         frames,
@@ -134,12 +140,15 @@ fn write_combined(
         bspace,
         n,
         whole,
+        seen,
+        ops,
     );
     deliver(answer, page, whole);
     answer
 }
 
-// Page n, read without counting as a use, with the bytes laid in.
+// Page n, read without counting as a use, with the bytes laid in. Answers what the read met in flash; where that is a refusal, which is
+// then the write's, the page is of no use.
 fn combine(
     z: Sizes,
     slots: &[u32; 128],
@@ -154,17 +163,16 @@ fn combine(
     first: u32,
     bytes: &[u8],
     whole: &mut [u8],
-)
+) -> Seen
     requires { ⌜ (
         Readable (sizesOf z) (now flash) (now codes) (now marks) (now pspace) (now bspace) (n .0) (now whole) × (first + length
         (now bytes) ≤ z .«page_size»)) ⌝ }
-    ensures { λ _. ⌜ (
+    ensures { λ r. ⌜ (
         let d = numbers (now (slots .entry)) (now (frames .entry)) (now (valid .entry)) [] [] in
-        let m = pages (sizesOf z) (now (flash .entry)) (now (codes .entry)) (now (marks .entry)) (now (pspace .entry))
-        (now (bspace .entry)) in
-        now (whole .exit) ≡ combined (chipFor (sizesOf z)) (zeroPage (sizesOf z)) (sizesOf z) d m (n .0) first (now (bytes .entry))) ⌝ }
+        Combined (sizesOf z) d (now (flash .entry)) (now (codes .entry)) (now (marks .entry)) (now (pspace .entry))
+        (now (bspace .entry)) (n .0) first (now (bytes .entry)) r (now (whole .exit))) ⌝ }
 {
-    reads::peek(
+    let given = reads::peek(
         z,
         slots,
         frames,
@@ -178,6 +186,10 @@ fn combine(
         whole,
     );
     page::lay(whole, first as usize, bytes);
+    Seen {
+        fault: given.fault,
+        mends: given.mends,
+    }
 }
 
 // The page buffer gets the page that was written, and stays as it is where the write was refused.

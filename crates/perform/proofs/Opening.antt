@@ -11,13 +11,12 @@ use Rattle.prelude.specs.Scan.{all}
 use Rattle.prelude.proofs.Scan.{all-of}
 use Rattle.prelude.proofs.Tests.{every-of}
 use Rattle.model.specs.Sizes as model
+use Rattle.model.specs.Sizes.{isCoded, isMarked}
 use Rattle.model.specs.Sizes.{vacant, sizesOk}
 use Rattle.model.specs.Directory.{vacantDirectory}
 use Rattle.model.specs.Calls.{openDone, refused, Fits, lentOk}
-use Rattle.model.specs.Formats.{storeFormat}
+use Rattle.model.specs.Formats.{storeFormat, codeLong, markLong}
 use Rattle.model.specs.Shelf.{noEntries, ShelfOpened, ShelfStore, storeOpen}
-use Rattle.model.proofs.Plain.{uncoded, unmarked}
-use Rattle.model.proofs.Soundness.{limits-of}
 use Rattle.answer.specs.Numbers.{openingOf}
 use Rattle.print.specs.Print.{Printed, lineRoom, openLine}
 use Rattle.print.proofs.Put.{printed-as}
@@ -30,17 +29,22 @@ use Rattle.perform.specs.View.{Carries}
 use Rattle.perform.proofs.Carrying.{carries}
 
 module _ (sz : model.Sizes) where
-  -- without options there are no codes and no marks
-  lent-fresh : sizesOk sz ≡ true → lentOk storeFormat sz (fresh sz .below) ≡ true
+  -- the sizes ask for no codes and no marks
+  abbrev pub NoneAsked : Type 0
+  NoneAsked = (0 ≡ sz .N * sz .K * codeLong sz) × (0 ≡ sz .N * sz .K * markLong sz)
+
+  pub none-asked : isCoded sz ≡ false → isMarked sz ≡ false → NoneAsked
+  none-asked c m = (rw (codeLong, c) (omega arith), rw (markLong, m) (omega arith))
+
+  lent-fresh : NoneAsked → lentOk storeFormat sz (fresh sz .below) ≡ true
   unfolding lentOk fresh
-  lent-fresh ok =
-      let l = limits-of sz ok in
+  lent-fresh none =
       every-of _ (
         eq-eqb _ _ (length-replicate {A = ℕ} (sz .N * sz .K * sz .S) 255),
         (
-          rw (uncoded sz l) (eq-eqb 0 (sz .N * sz .K * 0) (omega arith)),
+          eq-eqb 0 _ (none .0),
           (
-            rw (unmarked sz l) (eq-eqb 0 (sz .N * sz .K * 0) (omega arith)),
+            eq-eqb 0 _ (none .1),
             (
               eq-eqb _ _ (length-replicate {A = ℕ} (sz .N) 0),
               (
@@ -71,14 +75,14 @@ module _ (sz : model.Sizes) where
   opens = storeOpen sz (fresh sz .below) (fresh sz .shelf)
 
   -- within limits, the store opens
-  open-fresh : sizesOk sz ≡ true → opens ≡ record {
+  open-fresh : NoneAsked → sizesOk sz ≡ true → opens ≡ record {
     answer = openDone;
     cache = record { sizes = sz; directory = vacantDirectory };
     entries = noEntries;
   }
-  open-fresh ok = open-done sz (fresh sz .below) (fresh sz .shelf) ok (lent-fresh ok) no-shelf within-fresh
+  open-fresh none ok = open-done sz (fresh sz .below) (fresh sz .shelf) ok (lent-fresh none) no-shelf within-fresh
 
-  pub opened-done : (s : ShelfStore) → sizesOk sz ≡ true → opened s sz
+  pub opened-done : (s : ShelfStore) → NoneAsked → sizesOk sz ≡ true → opened s sz
       ≡ record {
         store = record {
           store = record { cache = opens .cache; lent = fresh sz .below };
@@ -88,10 +92,10 @@ module _ (sz : model.Sizes) where
         printed = openLine (opens .answer);
       }
   unfolding opened
-  opened-done s ok = rw (open-fresh ok)
+  opened-done s none ok = rw (open-fresh none ok)
 
-  pub opened-sizes : sizesOk sz ≡ true → opens .cache .sizes ≡ sz
-  opened-sizes ok = ap (λ (o : ShelfOpened). o .cache .sizes) (open-fresh ok)
+  pub opened-sizes : NoneAsked → sizesOk sz ≡ true → opens .cache .sizes ≡ sz
+  opened-sizes none ok = ap (λ (o : ShelfOpened). o .cache .sizes) (open-fresh none ok)
 
   -- beyond them, it is refused
   pub opened-refused : (s : ShelfStore) → sizesOk sz ≡ false → opened s sz ≡ only s (openLine (refused 1 vacant))
@@ -116,12 +120,12 @@ module _ (sz : model.Sizes) where
         → Carries (opened (storeOf c u) sz) (record { cache = c; printed = k }) u out
     refused-carries c e p = rw (opened-refused (storeOf c u) e) (carries {room = lineRoom} (omega arith) refl p)
 
-    pub open-carries : (s : ShelfStore) → sizesOk sz ≡ true → u ≡ fresh sz → (r : Opened)
+    pub open-carries : (s : ShelfStore) → NoneAsked → sizesOk sz ≡ true → u ≡ fresh sz → (r : Opened)
         → openedOf r ≡ storeOpen sz (u .below) (u .shelf)
         → Printed lineRoom (openLine (openingOf (r .answer))) old 0 out k
         → Carries (opened s sz) (record { cache = r .cache; printed = k }) u out
-    open-carries s ok f r e p =
+    open-carries s none ok f r e p =
         let e′ : openedOf r ≡ opens = e ∙ ap (λ (v : Lent). storeOpen sz (v .below) (v .shelf)) f in
-        rw (opened-done s ok) (carries {room = lineRoom} (omega arith)
+        rw (opened-done s none ok) (carries {room = lineRoom} (omega arith)
         (λ i. record { store = record { cache = e′ i .cache; lent = f i .below }; entries = e′ i .entries; shelf = f i .shelf })
         (printed-as {q = lineRoom} {r = lineRoom} (omega arith) (ap (λ (o : ShelfOpened). openLine (o .answer)) e′) p))

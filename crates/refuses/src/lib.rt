@@ -178,6 +178,8 @@ fn is_record(why: Refusal) -> bool {
         Refusal::Overworn => false,
         Refusal::Page => false,
         Refusal::Worn(_) => false,
+        Refusal::Unreadable => false,
+        Refusal::Torn => false,
     }
 }
 

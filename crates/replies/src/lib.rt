@@ -8,6 +8,7 @@ use answer::Write;
 use cache::VACANT;
 ghost use mathlib.Core.Path.{_≡_};
 ghost use Rattle.answer.specs.Numbers.{refusalOf, openingOf, readOf, writeOf, stepOf, flushOf};
+ghost use Rattle.answer.specs.Numbers.{mendsOfRead, mendsOfWrite, mendsOfStep, mendsOfFlush};
 ghost use Rattle.replies.specs.Numbers.{accepted, turnedDown, numbersOf};
 
 // `refusal` is document 01's number, and 0 where the call is accepted. What a call does not answer is 0, and `block` is VACANT where no
@@ -23,63 +24,77 @@ pub struct Answer {
     pub rewrites: u32,
     // merge reads
     pub merged: u32,
+    // chunks that the page codes mended
+    pub mended: u32,
 }
 
 // What an opening answers.
 pub fn of_opening(a: Opening) -> Answer
-    ensures { λ r. ⌜ r ≡ numbersOf (openingOf a) ⌝ }
+    ensures { λ r. ⌜ r ≡ numbersOf (openingOf a) 0 ⌝ }
 {
     match a {
-        Opening::Done => done(0, VACANT, 0, 0),
+        Opening::Done => done(0, VACANT, 0, 0, 0),
         Opening::Refused(why) => refused(why),
     }
 }
 
 // What a read answers.
 pub fn of_read(a: Read) -> Answer
-    ensures { λ r. ⌜ r ≡ numbersOf (readOf a) ⌝ }
+    ensures { λ r. ⌜ r ≡ numbersOf (readOf a) (mendsOfRead a) ⌝ }
 {
     match a {
-        Read::Done { way } => done(way, VACANT, 0, 0),
+        Read::Done { way, mends } => done(way, VACANT, 0, 0, mends),
         Read::Refused(why) => refused(why),
     }
 }
 
 // What a write answers, of a page or of part of one.
 pub fn of_write(a: Write) -> Answer
-    ensures { λ r. ⌜ r ≡ numbersOf (writeOf a) ⌝ }
+    ensures { λ r. ⌜ r ≡ numbersOf (writeOf a) (mendsOfWrite a) ⌝ }
 {
     match a {
-        Write::Done { way } => done(way, VACANT, 0, 0),
-        Write::Rewrote { block, merged } => done(7, block.0, 0, merged),
+        Write::Done { way, mends } => done(way, VACANT, 0, 0, mends),
+        Write::Rewrote {
+            block,
+            merged,
+            mends,
+        } => done(7, block.0, 0, merged, mends),
         Write::Refused(why) => refused(why),
     }
 }
 
 // What a flush step answers.
 pub fn of_step(a: Step) -> Answer
-    ensures { λ r. ⌜ r ≡ numbersOf (stepOf a) ⌝ }
+    ensures { λ r. ⌜ r ≡ numbersOf (stepOf a) (mendsOfStep a) ⌝ }
 {
     match a {
-        Step::Done { block, merged } => done(0, block.0, 1, merged),
-        Step::Clean => done(0, VACANT, 0, 0),
+        Step::Done {
+            block,
+            merged,
+            mends,
+        } => done(0, block.0, 1, merged, mends),
+        Step::Clean => done(0, VACANT, 0, 0, 0),
         Step::Refused(why) => refused(why),
     }
 }
 
 // What a flush answers.
 pub fn of_flush(a: Flush) -> Answer
-    ensures { λ r. ⌜ r ≡ numbersOf (flushOf a) ⌝ }
+    ensures { λ r. ⌜ r ≡ numbersOf (flushOf a) (mendsOfFlush a) ⌝ }
 {
     match a {
-        Flush::Done { rewrites, merged } => done(0, VACANT, rewrites, merged),
+        Flush::Done {
+            rewrites,
+            merged,
+            mends,
+        } => done(0, VACANT, rewrites, merged, mends),
         Flush::Refused(why) => refused(why),
     }
 }
 
 // An accepted call.
-fn done(way: u32, block: u32, rewrites: u32, merged: u32) -> Answer
-    ensures { λ r. ⌜ r ≡ accepted way block rewrites merged ⌝ }
+fn done(way: u32, block: u32, rewrites: u32, merged: u32, mended: u32) -> Answer
+    ensures { λ r. ⌜ r ≡ accepted way block rewrites merged mended ⌝ }
 {
     Answer {
         refusal: 0,
@@ -87,12 +102,13 @@ fn done(way: u32, block: u32, rewrites: u32, merged: u32) -> Answer
         block,
         rewrites,
         merged,
+        mended,
     }
 }
 
 // A refused one.
 fn refused(why: Refusal) -> Answer
-    ensures { λ r. ⌜ r ≡ numbersOf (refusalOf why) ⌝ }
+    ensures { λ r. ⌜ r ≡ numbersOf (refusalOf why) 0 ⌝ }
 {
     match why {
         Refusal::Size => turned_down(1, VACANT),
@@ -101,6 +117,8 @@ fn refused(why: Refusal) -> Answer
         Refusal::Record => turned_down(4, VACANT),
         Refusal::Page => turned_down(5, VACANT),
         Refusal::Worn(b) => turned_down(6, b.0),
+        Refusal::Unreadable => turned_down(7, VACANT),
+        Refusal::Torn => turned_down(14, VACANT),
     }
 }
 
@@ -114,5 +132,6 @@ fn turned_down(number: u32, block: u32) -> Answer
         block,
         rewrites: 0,
         merged: 0,
+        mended: 0,
     }
 }

@@ -31,8 +31,8 @@ pub fn write(out: &mut [u8], n: PageNo, answer: Write) -> usize
     ensures { λ r. ⌜ Printed lineRoom (writeLine (n .0) (writeOf answer)) (now (out .entry)) 0 (now (out .exit)) r ⌝ }
 {
     match answer {
-        Write::Done { way } => print::put_write(out, 0, n, way, VACANT, 0),
-        Write::Rewrote { block, merged } => print::put_write(out, 0, n, 7, block.0, merged),
+        Write::Done { way, .. } => print::put_write(out, 0, n, way, VACANT, 0),
+        Write::Rewrote { block, merged, .. } => print::put_write(out, 0, n, 7, block.0, merged),
         Write::Refused(why) => print::put_write_refused(out, 0, n, number(why)),
     }
 }
@@ -43,7 +43,7 @@ pub fn read(out: &mut [u8], n: PageNo, answer: Read, byte: u8) -> usize
     ensures { λ r. ⌜ Printed lineRoom (readLine (n .0) (readOf answer) byte) (now (out .entry)) 0 (now (out .exit)) r ⌝ }
 {
     match answer {
-        Read::Done { way } => print::put_read(out, 0, n, way, byte),
+        Read::Done { way, .. } => print::put_read(out, 0, n, way, byte),
         Read::Refused(why) => print::put_read_refused(out, 0, n, number(why)),
     }
 }
@@ -54,7 +54,7 @@ pub fn step(out: &mut [u8], answer: Step) -> usize
     ensures { λ r. ⌜ Printed lineRoom (stepLine (stepOf answer)) (now (out .entry)) 0 (now (out .exit)) r ⌝ }
 {
     match answer {
-        Step::Done { block, merged } => print::put_step(out, 0, block, merged),
+        Step::Done { block, merged, .. } => print::put_step(out, 0, block, merged),
         Step::Clean => print::put_clean(out, 0),
         Step::Refused(why) => print::put_step_refused(out, 0, number(why)),
     }
@@ -66,7 +66,11 @@ pub fn flush(out: &mut [u8], answer: Flush) -> usize
     ensures { λ r. ⌜ Printed lineRoom (flushLine (flushOf answer)) (now (out .entry)) 0 (now (out .exit)) r ⌝ }
 {
     match answer {
-        Flush::Done { rewrites, merged } => print::put_flush(out, 0, rewrites, merged),
+        Flush::Done {
+            rewrites,
+            merged,
+            ..
+        } => print::put_flush(out, 0, rewrites, merged),
         Flush::Refused(why) => print::put_flush_refused(out, 0, number(why)),
     }
 }
@@ -82,5 +86,7 @@ fn number(why: Refusal) -> u32
         Refusal::Record => 4,
         Refusal::Page => 5,
         Refusal::Worn(_) => 6,
+        Refusal::Unreadable => 7,
+        Refusal::Torn => 14,
     }
 }

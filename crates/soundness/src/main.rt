@@ -84,7 +84,12 @@ fn options() {
         with_options(s, 4294967295, 0, 0, 0),
         false,
     );
-    vacant(b"coded 1", with_options(s, 0, 1, 0, 0), false);
+    vacant(b"coded 1", with_options(s, 0, 1, 0, 0), true);
+    vacant(
+        b"coded 1, page of 2040 bytes",
+        with_options(sizes(2040, 64, 4096, 128, 8, 1000000), 0, 1, 0, 0),
+        false,
+    );
     vacant(b"coded 2", with_options(s, 0, 2, 0, 0), false);
     vacant(b"1 shelf page", with_options(s, 0, 0, 1, 0), false);
     vacant(b"9 shelf pages", with_options(s, 0, 0, 9, 0), false);

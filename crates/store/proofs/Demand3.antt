@@ -2,8 +2,9 @@
 use mathlib.Core.Path.{_≡_, refl, sym, ap, _∙_, subst}
 use mathlib.Core.Bool.{Bool}
 use mathlib.Core.List.{List, [], _∷_}
-use Prim.Native.Nat.{ℕ, _≤_}
+use Prim.Native.Nat.{ℕ, _*_, _≤_}
 use native.Mathlib.Omega.{arith}
+use lib.ListN.{length}
 use Rattle.model.specs.Sizes as model
 use Rattle.model.specs.Directory as cached
 use Rattle.model.specs.Policy.{policyChoice}
@@ -16,16 +17,21 @@ use Rattle.model.proofs.Plan.{policyChoice-picks}
 use Rattle.model.proofs.Demand3.{cells-fit}
 use Rattle.model.proofs.Soundness.{limits-of}
 use Rattle.model.proofs.Opening.{open-accepted}
-use Rattle.model.proofs.Formats.{store-bears, whole-chunks}
+use Rattle.model.proofs.Formats.{store-bears}
 use Rattle.model.proofs.Plain.{uncoded}
 use Rattle.model.proofs.Buffers.{fits-of}
 use Rattle.model.proofs.Shelf.{AllShelfPick, sizes-stay, demand-3-shelf}
 use Rattle.model.proofs.Unshelved.{empty-is, openedBelow, opened-shelf}
+use Rattle.model.specs.Legible.{ShelfLegible}
+use Rattle.model.proofs.Legible.{store-legible}
+use Rattle.cache.specs.declared.Sizes.{Sizes}
 use Rattle.cache.specs.View.{sizesOf}
 use Rattle.store.specs.declared.Cache.{Cache}
-use Rattle.store.specs.View.{Lent, storeOf}
+use Rattle.store.specs.declared.Opened.{Opened}
+use Rattle.store.specs.View.{Lent, storeOf, openedOf}
 use Rattle.store.specs.Histories.{Made, read, write, part, step, flush, callOf, cacheAfter, lentAfter, resultOf, Turn, lentTo}
 use Rattle.store.specs.Histories.{AsContracted, byPolicy, saidBy, fedBy, StillNear, Claim, CodesMatch, begun, Demand3}
+use Rattle.store.specs.Histories.{Contract, OpeningContract, Legible, NeverUnreadable}
 
 -- the calls of a list, each by the least recently used block
 abbrev chosen : List Turn → List ShelfChosen
@@ -44,6 +50,16 @@ store-after u (part n first x page out u′ page′) = refl
 store-after u (step out flash′ codes′ marks′ wear′ bspace′) = refl
 store-after u (flush out flash′ codes′ marks′ wear′ bspace′) = refl
 
+-- one call of a store with sizes sz, by its contract
+module _ (sz : model.Sizes) (c : Cache) (v : Lent) (m : Made) (e : sizesOf (c .sizes) ≡ sz) (h : Contract c v m) where
+  called : resultOf v m ≡ shelfCall storeFormat (sz .shelfPages) policyChoice (storeOf c v) (plainly (callOf m))
+  called = h ∙ ap (λ (w : model.Sizes). shelfCall storeFormat (w .shelfPages) policyChoice (storeOf c v) (plainly (callOf m))) e
+
+  same-sizes : sizesOf (cacheAfter m .sizes) ≡ sz
+  same-sizes = ap (λ (s : ShelfStore). s .store .cache .sizes) (sym (store-after v m))
+      ∙ ap (λ (x : ShelfResult). x .store .store .cache .sizes) called
+      ∙ sizes-stay storeFormat policyChoice (sz .shelfPages) (storeOf c v) (plainly (callOf m)) ∙ e
+
 module _ (sz : model.Sizes) (u₀ : Lent) where
   abbrev Left : List Turn → ShelfStore → ShelfReference → Type 0
   Left ts s r = ShelfClaim storeFormat StoreNear sz (sz .shelfPages) (u₀ .below) (chosen ts) s r
@@ -59,12 +75,9 @@ module _ (sz : model.Sizes) (u₀ : Lent) where
   from-model (t ∷ ts) c u r e h a = λ near.
       let m : Made = t .made in
       let v : Lent = lentTo u t in
-      let k : resultOf v m ≡ shelfCall storeFormat (sz .shelfPages) policyChoice (storeOf c v) (plainly (callOf m)) = h .0
-      ∙ ap (λ (w : model.Sizes). shelfCall storeFormat (w .shelfPages) policyChoice (storeOf c v) (plainly (callOf m))) e in
+      let k = called sz c v m e (h .0) in
       let b = a (t .flash) (t .codes) near in
-      let same : sizesOf (cacheAfter m .sizes) ≡ sz = ap (λ (s : ShelfStore). s .store .cache .sizes) (sym (store-after v m))
-      ∙ ap (λ (x : ShelfResult). x .store .store .cache .sizes) k
-      ∙ sizes-stay storeFormat policyChoice (sz .shelfPages) (storeOf c v) (plainly (callOf m)) ∙ e in
+      let same = same-sizes sz c v m e (h .0) in
       record {
         answers = subst (λ (x : ShelfResult). x .answer ≡ shelfBookSays sz (sz .shelfPages) r (byPolicy m) (x .answer) .answer) (sym k)
             (b .answers);
@@ -80,46 +93,106 @@ module _ (sz : model.Sizes) (u₀ : Lent) where
             (subst (λ (x : ShelfResult). Left ts (x .store) (fedWith r m x)) (sym k) (b .then)));
       }
 
+-- what an accepted opening begins with
+module _ (sz : model.Sizes) (u : Lent) (done : storeOpen sz (u .below) (u .shelf) .answer ≡ openDone) where
+  opened-as : (storeOpen sz (u .below) (u .shelf) ≡ openedBelow sz (u .below)) × (length (u .shelf) ≡ sz .shelfPages * sz .S)
+  opened-as = opened-shelf sz (u .below) (u .shelf) done
+
+  accepted : openStore storeFormat sz (u .below) .answer ≡ openDone
+  accepted = ap (λ (x : ShelfOpened). x .answer) (sym (opened-as .0)) ∙ done
+
+  within : model.InLimits sz
+  within = limits-of sz (open-accepted storeFormat sz (u .below) accepted .sizes-ok)
+
+  few-pages : sz .shelfPages ≤ 8
+  few-pages = let q = within .shelf-is in omega arith
+
+  -- the store, with the record that the opening made
+  abbrev pub beginning : ShelfStore
+  beginning = record {
+    store = record { cache = openStore storeFormat sz (u .below) .cache; lent = u .below };
+    entries = noEntries;
+    shelf = u .shelf;
+  }
+
+  pub begins : (x : ShelfOpened) → x ≡ storeOpen sz (u .below) (u .shelf) → record {
+    store = record { cache = x .cache; lent = u .below };
+    entries = x .entries;
+    shelf = u .shelf;
+  } ≡ beginning
+  begins x is = ap (λ (y : ShelfOpened). record {
+    store = record { cache = y .cache; lent = u .below };
+    entries = y .entries;
+    shelf = u .shelf;
+  }) (is ∙ opened-as .0)
+
+  pub begins-sizes : beginning .store .cache .sizes ≡ sz
+  begins-sizes = ap (λ (x : cached.Cache). x .sizes) (open-accepted storeFormat sz (u .below) accepted .cache-is)
+
+  -- the model's demand 3, and what holds with page codes, of this store
+  pub claimed : CodesMatch sz u → (cs : List ShelfChosen) → AllShelfPick cs
+      → ShelfClaim storeFormat StoreNear sz (sz .shelfPages) (u .below) cs beginning (begun sz u)
+  claimed match = demand-3-shelf storeFormat StoreMatches StoreNear sz (store-bears sz (within .whole)) (u .below) accepted match
+      (sz .shelfPages) few-pages (u .shelf) (opened-as .1)
+
+  pub legible : CodesMatch sz u → (cs : List ShelfChosen) → AllShelfPick cs
+      → ShelfLegible storeFormat StoreNear sz (sz .shelfPages) cs beginning (begun sz u)
+  legible match = store-legible sz (u .below) accepted match (sz .shelfPages) few-pages (u .shelf) (opened-as .1)
+
 -- at opening every cell is near itself
 pub near-opened : (sz : model.Sizes) (u : Lent) → storeOpen sz (u .below) (u .shelf) .answer ≡ openDone → StillNear sz (begun sz u) u
 unfolding opened
-near-opened sz u h =
-    let o = ap (λ (x : ShelfOpened). x .answer) (sym (opened-shelf sz (u .below) (u .shelf) h .0)) ∙ h in
-    let a = open-accepted storeFormat sz (u .below) o in
-    let l = limits-of sz (a .sizes-ok) in
-    record { fits = fits-of storeFormat sz (u .below) (a .lent-ok); near = λ n q. store-bears sz (whole-chunks sz l) .near-self _ }
+near-opened sz u h = record {
+  fits = fits-of storeFormat sz (u .below) (open-accepted storeFormat sz (u .below) (accepted sz u h) .lent-ok);
+  near = λ n q. store-bears sz (within sz u h .whole) .near-self _;
+}
 
 -- a store without codes lends none, so that they match
-pub codes-match : (sz : model.Sizes) (u : Lent) → storeOpen sz (u .below) (u .shelf) .answer ≡ openDone → CodesMatch sz u
-codes-match sz u h n q =
-    let o = ap (λ (x : ShelfOpened). x .answer) (sym (opened-shelf sz (u .below) (u .shelf) h .0)) ∙ h in
-    let a = open-accepted storeFormat sz (u .below) o in
-    let l = limits-of sz (a .sizes-ok) in
-    let c = uncoded sz l in
-    let fits = cells-fit storeFormat StoreMatches StoreNear sz (store-bears sz (whole-chunks sz l)) (u .below)
-    (fits-of storeFormat sz (u .below) (a .lent-ok)) n q in
+pub codes-match : (sz : model.Sizes) (u : Lent) → sz .coded ≡ 0 → storeOpen sz (u .below) (u .shelf) .answer ≡ openDone → CodesMatch sz u
+codes-match sz u z h n q =
+    let c = uncoded sz z in
+    let fits = cells-fit storeFormat StoreMatches StoreNear sz (store-bears sz (within sz u h .whole)) (u .below)
+    (fits-of storeFormat sz (u .below) (open-accepted storeFormat sz (u .below) (accepted sz u h) .lent-ok)) n q in
     rw c (empty-is _ (fits .1 ∙ ap (λ (b : Bool). codeFor b .long sz) c))
 
 pub demand-3 : Demand3
 demand-3 z u o is done match ts h =
     let sz : model.Sizes = sizesOf z in
-    let acc : storeOpen sz (u .below) (u .shelf) .answer ≡ openDone = ap (λ (x : ShelfOpened). x .answer) (sym is) ∙ done in
-    let os = opened-shelf sz (u .below) (u .shelf) acc in
-    let e = is ∙ os .0 in
-    let a : openStore storeFormat sz (u .below) .answer ≡ openDone = ap (λ (x : ShelfOpened). x .answer) (sym e) ∙ done in
-    let l = limits-of sz (open-accepted storeFormat sz (u .below) a .sizes-ok) in
-    let few : sz .shelfPages ≤ 8 = let q = l .shelf-is in omega arith in
-    let begins : storeOf (o .cache) u ≡ record {
-      store = record { cache = openStore storeFormat sz (u .below) .cache; lent = u .below };
-      entries = noEntries;
-      shelf = u .shelf;
-    } = ap (λ (x : ShelfOpened). record {
-      store = record { cache = x .cache; lent = u .below };
-      entries = x .entries;
-      shelf = u .shelf;
-    }) e in
-    from-model sz u ts (o .cache) u (begun sz u) (ap (λ (x : ShelfOpened). x .cache .sizes) e ∙ ap (λ (x : cached.Cache). x .sizes)
-    (open-accepted storeFormat sz (u .below) a .cache-is)) h
-    (subst (λ (s : ShelfStore). Left sz u ts s (begun sz u)) (sym begins)
-    (demand-3-shelf storeFormat StoreMatches StoreNear sz (store-bears sz (whole-chunks sz l)) (u .below) a match (sz .shelfPages) few
-    (u .shelf) (os .1) (chosen ts) (chosen-pick ts)))
+    let open-done = ap (λ (x : ShelfOpened). x .answer) (sym is) ∙ done in
+    let start : storeOf (o .cache) u ≡ beginning sz u open-done = begins sz u open-done (openedOf o) is in
+    from-model sz u ts (o .cache) u (begun sz u)
+    (ap (λ (s : ShelfStore). s .store .cache .sizes) start ∙ begins-sizes sz u open-done) h
+    (subst (λ (s : ShelfStore). Left sz u ts s (begun sz u)) (sym start) (claimed sz u open-done match (chosen ts) (chosen-pick ts)))
+
+-- ---- no call is refused 7, and an undisturbed store mends nothing
+
+module _ (sz : model.Sizes) where
+  abbrev Readable : List Turn → ShelfStore → ShelfReference → Type 0
+  Readable ts s r = ShelfLegible storeFormat StoreNear sz (sz .shelfPages) (chosen ts) s r
+
+  legible-from : (ts : List Turn) (c : Cache) (u : Lent) (r : ShelfReference) → sizesOf (c .sizes) ≡ sz → AsContracted c u ts
+      → Readable ts (storeOf c u) r → Legible sz u r ts
+  legible-from [] c u r e h a = tt
+  legible-from (t ∷ ts) c u r e h a = λ near.
+      let m : Made = t .made in
+      let v : Lent = lentTo u t in
+      let k = called sz c v m e (h .0) in
+      let b = a (t .flash) (t .codes) near in
+      let same = same-sizes sz c v m e (h .0) in
+      record {
+        readable = λ x q. b .readable x (ap (λ (y : ShelfResult). y .answer) (sym k) ∙ q);
+        mendless = λ q. ap (λ (y : ShelfResult). y .mends) k ∙ b .mendless q;
+        then = legible-from ts (cacheAfter m) (lentAfter v m) (fedBy sz r v m) same (h .1)
+            (subst (λ (s : ShelfStore). Readable ts s (shelfFed sz (sz .shelfPages) r (byPolicy m) (saidBy sz r v m)
+            (flashCells storeFormat sz (s .store .lent)))) (store-after v m)
+            (subst (λ (x : ShelfResult). Readable ts (x .store) (fedWith sz u r m x)) (sym k) (b .then)));
+      }
+
+pub never-unreadable : NeverUnreadable
+never-unreadable z u o is done match ts h =
+    let sz : model.Sizes = sizesOf z in
+    let open-done = ap (λ (x : ShelfOpened). x .answer) (sym is) ∙ done in
+    let start : storeOf (o .cache) u ≡ beginning sz u open-done = begins sz u open-done (openedOf o) is in
+    legible-from sz ts (o .cache) u (begun sz u)
+    (ap (λ (s : ShelfStore). s .store .cache .sizes) start ∙ begins-sizes sz u open-done) h
+    (subst (λ (s : ShelfStore). Readable sz ts s (begun sz u)) (sym start) (legible sz u open-done match (chosen ts) (chosen-pick ts)))

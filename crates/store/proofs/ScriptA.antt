@@ -85,31 +85,31 @@ byte b = b ∷ []
 
 -- write 0, 2, 4 and 3, of which the last erases block 0
 abbrev written-0 : Made
-written-0 = made.write (pageNo 0) (byte 10) (record { cache = holding 0 vacant vacant 0 0; answer = writes.Done 3 })
+written-0 = made.write (pageNo 0) (byte 10) (record { cache = holding 0 vacant vacant 0 0; answer = writes.Done 3 0 })
     (lent (replicate 6 255) [] [] (replicate 3 0) (10 ∷ 0 ∷ []) (0 ∷ 0 ∷ []) [])
 
 abbrev written-2 : Made
-written-2 = made.write (pageNo 2) (byte 20) (record { cache = holding 0 2 vacant 0 0; answer = writes.Done 3 })
+written-2 = made.write (pageNo 2) (byte 20) (record { cache = holding 0 2 vacant 0 0; answer = writes.Done 3 0 })
     (lent (replicate 6 255) [] [] (replicate 3 0) (10 ∷ 20 ∷ []) (0 ∷ 0 ∷ []) [])
 
 abbrev written-4 : Made
-written-4 = made.write (pageNo 4) (byte 30) (record { cache = holding 4 2 0 1 1; answer = writes.Done 5 })
+written-4 = made.write (pageNo 4) (byte 30) (record { cache = holding 4 2 0 1 1; answer = writes.Done 5 0 })
     (lent (replicate 6 255) [] [] (replicate 3 0) (30 ∷ 20 ∷ []) (10 ∷ 0 ∷ []) [])
 
 abbrev written-3 : Made
-written-3 = made.write (pageNo 3) (byte 40) (record { cache = holding 4 3 1 1 1; answer = writes.Rewrote (blockNo 0) 1 })
+written-3 = made.write (pageNo 3) (byte 40) (record { cache = holding 4 3 1 1 1; answer = writes.Rewrote (blockNo 0) 1 0 })
     (lent (10 ∷ 255 ∷ 255 ∷ 255 ∷ 255 ∷ 255 ∷ []) [] [] (1 ∷ 0 ∷ 0 ∷ []) (30 ∷ 40 ∷ []) (20 ∷ 255 ∷ []) [])
 
 -- read 2 from the frame, and 1 from flash
 abbrev read-2 : Made
-read-2 = made.read (pageNo 2) (byte 0) (record { cache = holding 4 3 1 1 2; answer = reads.Done 2 }) (byte 20)
+read-2 = made.read (pageNo 2) (byte 0) (record { cache = holding 4 3 1 1 2; answer = reads.Done 2 0 }) (byte 20)
 
 abbrev read-1 : Made
-read-1 = made.read (pageNo 1) (byte 0) (record { cache = holding 4 3 1 1 2; answer = reads.Done 3 }) (byte 255)
+read-1 = made.read (pageNo 1) (byte 0) (record { cache = holding 4 3 1 1 2; answer = reads.Done 3 0 }) (byte 255)
 
 -- the flush rewrites blocks 1 and 2
 abbrev flushed : Made
-flushed = made.flush (record { cache = holding vacant vacant vacant 0 0; answer = flushes.Done 2 1 })
+flushed = made.flush (record { cache = holding vacant vacant vacant 0 0; answer = flushes.Done 2 1 0 })
     (10 ∷ 255 ∷ 20 ∷ 40 ∷ 30 ∷ 255 ∷ []) [] [] (1 ∷ 1 ∷ 1 ∷ []) (30 ∷ 255 ∷ [])
 
 -- between the calls no bit flips
@@ -148,7 +148,7 @@ accepted-answer = ap (λ (x : ShelfOpened). x .answer) (sym accepted)
 
 -- what demand 3 says of them
 pub claim : Claim (sizesOf sizes) lentA (opening .cache) lentA (begun (sizesOf sizes) lentA) turns
-claim = demand-3 sizes lentA opening accepted refl (codes-match (sizesOf sizes) lentA accepted-answer) turns as-contracted
+claim = demand-3 sizes lentA opening accepted refl (codes-match (sizesOf sizes) lentA refl accepted-answer) turns as-contracted
 
 -- page array, book and log, the record and the buffers, after calls from the opening on
 abbrev fedAll : ShelfReference → Lent → List Made → ShelfReference

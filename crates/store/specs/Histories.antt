@@ -6,11 +6,12 @@ use lib.ListN.{getD}
 use Rattle.model.specs.Sizes as model
 use Rattle.model.specs.Policy.{policyChoice}
 use Rattle.model.specs.Calls as calls
-use Rattle.model.specs.Calls.{Call, Page, Outcome, flashCells, openDone}
+use Rattle.model.specs.Calls.{refused, Call, Page, Outcome, flashCells, openDone}
 use Rattle.model.specs.Formats.{storeFormat, StoreMatches, StoreNear}
 use Rattle.model.specs.Lists.{noCell, Borne, After}
 use Rattle.model.specs.Shelf.{plainly, ShelfResult, ShelfReference, ShelfChosen, storeOpen, storeCall, shelfOpened, shelfBookSays, shelfFed}
 use Rattle.model.specs.Shelf.{ShelfGives}
+use Rattle.model.specs.Legible.{AsProgrammed}
 use Rattle.address.specs.declared.PageNo.{PageNo}
 use Rattle.cache.specs.declared.Sizes.{Sizes}
 use Rattle.cache.specs.View.{sizesOf}
@@ -131,3 +132,20 @@ begun sz u = shelfOpened storeFormat sz (sz .shelfPages) (u .below) (u .shelf)
 abbrev pub Demand3 : Type 0
 Demand3 = (z : Sizes) (u : Lent) (o : Opened) → OpeningContract z u o → openedOf o .answer ≡ openDone → CodesMatch (sizesOf z) u
     → (ts : List Turn) → AsContracted (o .cache) u ts → Claim (sizesOf z) u (o .cache) u (begun (sizesOf z) u) ts
+
+-- ---- requests A6 and A7
+
+-- Of every call of a list, as long as no more bits flip than the store has to bear: it is not refused 7, and where it finds each cell as it
+-- was programmed, or as it was at opening, it mends nothing.
+abbrev pub Legible : model.Sizes → Lent → ShelfReference → List Turn → Type 0
+Legible sz u r [] = Unit {0}
+Legible sz u r (t ∷ ts) = StillNear sz r (lentTo u t) → record {
+  readable : (b : ℕ) → resultOf (lentTo u t) (t .made) .answer ≡ refused 7 b → ⊥;
+  mendless : AsProgrammed storeFormat sz (r .reference) (lentTo u t .below) → resultOf (lentTo u t) (t .made) .mends ≡ 0;
+  then : Legible sz (lentAfter (lentTo u t) (t .made)) (fedBy sz r (lentTo u t) (t .made)) ts;
+}
+
+-- after one accepted opening of a store whose codes match, for every list of calls
+abbrev pub NeverUnreadable : Type 0
+NeverUnreadable = (z : Sizes) (u : Lent) (o : Opened) → OpeningContract z u o → openedOf o .answer ≡ openDone → CodesMatch (sizesOf z) u
+    → (ts : List Turn) → AsContracted (o .cache) u ts → Legible (sizesOf z) u (begun (sizesOf z) u) ts

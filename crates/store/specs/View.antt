@@ -8,7 +8,7 @@ use Rattle.cache.specs.declared.Sizes.{Sizes}
 use Rattle.cache.specs.View.{sizesOf, directoryOf}
 use Rattle.checked.specs.Lists.{storeWith}
 use Rattle.answer.specs.Carried.{buffers}
-use Rattle.answer.specs.Numbers.{openingOf, readOf, writeOf, stepOf, flushOf}
+use Rattle.answer.specs.Numbers.{openingOf, readOf, writeOf, stepOf, flushOf, mendsOfRead, mendsOfWrite, mendsOfStep, mendsOfFlush}
 use Rattle.store.specs.declared.Cache.{Cache}
 use Rattle.store.specs.declared.Opened.{Opened}
 use Rattle.store.specs.declared.ReadOut.{ReadOut}
@@ -44,18 +44,18 @@ abbrev pub storeOn : Sizes → directory.Directory → List ℕ → Lent → She
 storeOn z d es u = record { store = storeWith z d (u .below); entries = es; shelf = u .shelf }
 
 -- what a call on them leaves
-abbrev pub resultOn : Answer → Sizes → directory.Directory → List ℕ → Lent → Page → ShelfResult
-resultOn a z d es u page = record { answer = a; mends = 0; store = storeOn z d es u; page = page }
+abbrev pub resultOn : Answer → ℕ → Sizes → directory.Directory → List ℕ → Lent → Page → ShelfResult
+resultOn a mends z d es u page = record { answer = a; mends = mends; store = storeOn z d es u; page = page }
 
 abbrev pub readResult : ReadOut → Lent → Page → ShelfResult
-readResult r u page = record { answer = readOf (r .answer); mends = 0; store = storeOf (r .cache) u; page = page }
+readResult r u page = record { answer = readOf (r .answer); mends = mendsOfRead (r .answer); store = storeOf (r .cache) u; page = page }
 
 abbrev pub writeResult : WriteOut → Lent → Page → ShelfResult
-writeResult r u page = record { answer = writeOf (r .answer); mends = 0; store = storeOf (r .cache) u; page = page }
+writeResult r u page = record { answer = writeOf (r .answer); mends = mendsOfWrite (r .answer); store = storeOf (r .cache) u; page = page }
 
 -- a flush step and a flush have no page buffer
 abbrev pub stepResult : StepOut → Lent → ShelfResult
-stepResult r u = record { answer = stepOf (r .answer); mends = 0; store = storeOf (r .cache) u; page = [] }
+stepResult r u = record { answer = stepOf (r .answer); mends = mendsOfStep (r .answer); store = storeOf (r .cache) u; page = [] }
 
 abbrev pub flushResult : FlushOut → Lent → ShelfResult
-flushResult r u = record { answer = flushOf (r .answer); mends = 0; store = storeOf (r .cache) u; page = [] }
+flushResult r u = record { answer = flushOf (r .answer); mends = mendsOfFlush (r .answer); store = storeOf (r .cache) u; page = [] }

@@ -15,7 +15,7 @@ ghost use Rattle.model.specs.Soundness.{Shape};
 ghost use Rattle.model.specs.Calls as calls;
 ghost use Rattle.model.specs.Shelf.{plainly, storeCall};
 ghost use Rattle.cache.specs.View.{numbers};
-ghost use Rattle.answer.specs.Numbers.{readOf, writeOf, stepOf, flushOf};
+ghost use Rattle.answer.specs.Numbers.{readOf, writeOf, stepOf, flushOf, mendsOfRead, mendsOfWrite, mendsOfStep, mendsOfFlush};
 ghost use Rattle.store.specs.View.{lent, storeOn, resultOn};
 
 // Reading a page.
@@ -44,7 +44,7 @@ pub(crate) fn read(
         let es = now (entries .entry) in
         let u = lent (now (flash .entry)) (now (codes .entry)) (now (marks .entry))
         (now (wear .entry)) (now (pspace .entry)) (now (bspace .entry)) (now (shelf .entry)) in
-        resultOn (readOf r) z d′ es u (now (page .exit))
+        resultOn (readOf r) (mendsOfRead r) z d′ es u (now (page .exit))
         ≡ storeCall policyChoice (storeOn z d es u) (plainly (calls.read (n .0) (now (page .entry))))) ⌝ }
 {
     if !shelf::idle(entries, shelf.len()) {
@@ -97,7 +97,7 @@ pub(crate) fn write(
         (now (wear .entry)) (now (pspace .entry)) (now (bspace .entry)) (now (shelf .entry)) in
         let u′ = lent (now (flash .exit)) (now (codes .exit)) (now (marks .exit))
         (now (wear .exit)) (now (pspace .exit)) (now (bspace .exit)) (now (shelf .entry)) in
-        resultOn (writeOf r) z d′ es u′ (now (page .entry))
+        resultOn (writeOf r) (mendsOfWrite r) z d′ es u′ (now (page .entry))
         ≡ storeCall policyChoice (storeOn z d es u) (plainly (calls.write (n .0) (now (page .entry))))) ⌝ }
 {
     if !shelf::idle(entries, shelf.len()) {
@@ -152,7 +152,7 @@ pub(crate) fn part(
         (now (wear .entry)) (now (pspace .entry)) (now (bspace .entry)) (now (shelf .entry)) in
         let u′ = lent (now (flash .exit)) (now (codes .exit)) (now (marks .exit))
         (now (wear .exit)) (now (pspace .exit)) (now (bspace .exit)) (now (shelf .entry)) in
-        resultOn (writeOf r) z d′ es u′ (now (page .exit))
+        resultOn (writeOf r) (mendsOfWrite r) z d′ es u′ (now (page .exit))
         ≡ storeCall policyChoice (storeOn z d es u) (plainly (calls.part (n .0) first (now (bytes .entry)) (now (page .entry))))) ⌝ }
 {
     if !shelf::idle(entries, shelf.len()) {
@@ -205,7 +205,7 @@ pub(crate) fn step(
         (now (wear .entry)) (now (pspace .entry)) (now (bspace .entry)) (now (shelf .entry)) in
         let u′ = lent (now (flash .exit)) (now (codes .exit)) (now (marks .exit))
         (now (wear .exit)) (now (pspace .entry)) (now (bspace .exit)) (now (shelf .entry)) in
-        resultOn (stepOf r) z d′ es u′ []
+        resultOn (stepOf r) (mendsOfStep r) z d′ es u′ []
         ≡ storeCall policyChoice (storeOn z d es u) (plainly calls.step)) ⌝ }
 {
     if !shelf::idle(entries, shelf.len()) {
@@ -254,7 +254,7 @@ pub(crate) fn flush(
         (now (wear .entry)) (now (pspace .entry)) (now (bspace .entry)) (now (shelf .entry)) in
         let u′ = lent (now (flash .exit)) (now (codes .exit)) (now (marks .exit))
         (now (wear .exit)) (now (pspace .entry)) (now (bspace .exit)) (now (shelf .entry)) in
-        resultOn (flushOf r) z d′ es u′ []
+        resultOn (flushOf r) (mendsOfFlush r) z d′ es u′ []
         ≡ storeCall policyChoice (storeOn z d es u) (plainly calls.flush)) ⌝ }
 {
     if !shelf::idle(entries, shelf.len()) {

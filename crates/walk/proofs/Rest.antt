@@ -8,11 +8,12 @@ use lib.Dec.{leb, ltb, eqb}
 use lib.ListN.{length, getD, drop}
 use borrow.Author.Tests.{ltb-true, ltb-false, lt-ltb, le-ltb}
 use Rattle.prelude.specs.Tests.{every}
-use Rattle.prelude.proofs.Tests.{by-test, and-not-l, not-f}
+use Rattle.prelude.proofs.Tests.{by-test, clash, and-not-l, not-f}
 use Rattle.model.specs.Sizes.{Sizes, sizesOk, isCoded, isMarked}
 use Rattle.model.specs.Directory.{blankCache}
 use Rattle.model.specs.Shelf.{noEntries, ShelfStore}
-use Rattle.model.proofs.Soundness.{limits-of, limits-test}
+use Rattle.model.proofs.Soundness.{coded-off, limits-of, limits-test}
+use Rattle.model.proofs.Plain.{uncoded, unmarked}
 use Rattle.print.specs.Text.{bytes}
 use Rattle.print.specs.Print.{badLine}
 use Rattle.script.specs.Forms.{Form, writes, reads, steps, flushes, wears, bad, same, isNumber, five, buffersFit, opening, sizesFrom}
@@ -72,18 +73,20 @@ five-ok sz ok =
       W-low = omega arith;
       W-high = omega arith;
       policy-high = omega arith;
-      coded-is = refl;
+      coded-high = omega arith;
       shelf-is = refl;
       marked-is = refl;
+      whole = λ e. clash e (coded-off (five sz) (λ (q : _≡_ {A = ℕ} 0 1). omega arith));
     })
 
 sized-cond : (b : Bool) (x y : Form) → Sized x → Sized y → Sized (cond b x y)
 sized-cond true x y h k = h
 sized-cond false x y h k = k
 
-sized-opening : (sz : Sizes) → Sized (opening sz)
+sized-opening : (sz : Sizes) → sz .coded ≡ 0 → sz .marked ≡ 0 → Sized (opening sz)
 unfolding opening
-sized-opening sz = by-test (sizesOk (five sz) && not (buffersFit sz)) (λ t. rw t tt) (λ t. rw t (λ ok. not-f (and-not-l (five-ok sz ok) t)))
+sized-opening sz c m = by-test (sizesOk (five sz) && not (buffersFit sz)) (λ t. rw t tt)
+    (λ t. rw t (uncoded sz c, unmarked sz m, λ ok. not-f (and-not-l (five-ok sz ok) t)))
 
 module _ (w ns : List ℕ) where
   abbrev from-wear : Form
@@ -109,7 +112,8 @@ module _ (w ns : List ℕ) where
 
   sized-with : Sized (formWith w ns)
   unfolding formWith
-  sized-with = sized-cond (same w (bytes "open") && eqb (length ns) 6) (opening (sizesFrom ns)) from-write (sized-opening (sizesFrom ns))
+  sized-with = sized-cond (same w (bytes "open") && eqb (length ns) 6) (opening (sizesFrom ns)) from-write
+      (sized-opening (sizesFrom ns) refl refl)
       (sized-cond (same w (bytes "write") && (eqb (length ns) 2 && leb (getD ns 1 0) 255)) (writes (getD ns 0 0) (getD ns 1 0)) from-read
       tt sized-read)
 

@@ -1,3 +1,4 @@
 pub mod Over
 pub mod Entering
 pub mod Ways
+pub mod Deciding

@@ -1,17 +1,17 @@
-// Way 7: the frame's block is cleaned as by a flush step, and the victim's pages fill the frame.
+// Way 7: the frame's block is cleaned as by a flush step, and the victim's pages fill the frame. At most ops operations of the chip are
+// done.
 use crate::put;
 use address::BlockNo;
 use address::PageNo;
-use answer::Refusal;
 use answer::Write;
 use cache::Sizes;
 use cache::entry;
 use moves::join;
 ghost use Rattle.model.specs.Policy.{evict};
 ghost use Rattle.cache.specs.View.{sizesOf, numbers};
-ghost use Rattle.answer.specs.Numbers.{writeOf};
+ghost use Rattle.answer.specs.Numbers.{writeOf, mendsOfWrite};
 ghost use Rattle.answer.specs.Carried.{buffers};
-ghost use Rattle.writes.specs.Writes.{MakesRoom, Wrote};
+ghost use Rattle.writes.specs.Writes.{Carries, CarriedOut};
 
 pub fn evict(
     z: Sizes,
@@ -28,13 +28,16 @@ pub fn evict(
     bspace: &mut [u8],
     v: BlockNo,
     f: usize,
+    mend: u64,
+    mends: u32,
     n: PageNo,
     page: &[u8],
+    ops: u32,
 ) -> Write
     requires { ⌜ (
         let d = numbers (now slots) (now frames) (now valid) (now recency) (now uses) in
         let u = buffers (now flash) (now codes) (now marks) (now wear) (now pspace) (now bspace) in
-        MakesRoom (sizesOf z) d u (evict (v .0) f) (now page)) ⌝ }
+        Carries (sizesOf z) d u (now page) (evict (v .0) f) mend) ⌝ }
     ensures { λ r. ⌜ (
         let d = numbers (now (slots .entry)) (now (frames .entry)) (now (valid .entry)) (now (recency .entry)) (now (uses .entry)) in
         let u = buffers (now (flash .entry)) (now (codes .entry)) (now (marks .entry))
@@ -42,14 +45,10 @@ pub fn evict(
         let d′ = numbers (now (slots .exit)) (now (frames .exit)) (now (valid .exit)) (now (recency .exit)) (now (uses .exit)) in
         let u′ = buffers (now (flash .exit)) (now (codes .exit)) (now (marks .exit))
         (now (wear .exit)) (now (pspace .exit)) (now (bspace .exit)) in
-        Wrote (sizesOf z) d u (n .0) (now (page .entry)) (evict (v .0) f) (writeOf r) d′ u′) ⌝ }
+        CarriedOut (sizesOf z) d u (n .0) (now (page .entry)) (evict (v .0) f) mends ops (writeOf r) (mendsOfWrite r) d′ u′) ⌝ }
 {
     let b = entry::block(frames[f]);
-    let i = b.0 as usize;
-    if z.wear_limit <= wear[i] {
-        return Write::Refused(Refusal::Worn(b));
-    }
-    let merged = clean::clean_plain(
+    let done = clean::clean_block(
         z,
         slots,
         frames,
@@ -64,8 +63,14 @@ pub fn evict(
         bspace,
         b,
         f,
+        mend,
+        ops,
     );
     join::join(z, slots, frames, valid, recency, uses, pspace, bspace, v, f);
     put::enter_filled(z, slots, frames, valid, recency, uses, pspace, f, n, page);
-    Write::Rewrote { block: b, merged }
+    Write::Rewrote {
+        block: b,
+        merged: done.reads,
+        mends,
+    }
 }

@@ -8,10 +8,10 @@ use moves::exchange;
 use moves::join;
 use policy::decision::Room;
 ghost use Rattle.cache.specs.View.{sizesOf, numbers};
-ghost use Rattle.answer.specs.Numbers.{writeOf};
+ghost use Rattle.answer.specs.Numbers.{writeOf, mendsOfWrite};
 ghost use Rattle.answer.specs.Carried.{buffers};
 ghost use Rattle.policy.specs.Views.{roomOf};
-ghost use Rattle.writes.specs.Writes.{MakesRoom, Wrote};
+ghost use Rattle.writes.specs.Writes.{Carries, CarriedOut};
 
 pub fn write(
     z: Sizes,
@@ -27,13 +27,16 @@ pub fn write(
     pspace: &mut [u8],
     bspace: &mut [u8],
     room: Room,
+    mend: u64,
+    mends: u32,
     n: PageNo,
     page: &[u8],
+    ops: u32,
 ) -> Write
     requires { ⌜ (
         let d = numbers (now slots) (now frames) (now valid) (now recency) (now uses) in
         let u = buffers (now flash) (now codes) (now marks) (now wear) (now pspace) (now bspace) in
-        MakesRoom (sizesOf z) d u (roomOf room) (now page)) ⌝ }
+        Carries (sizesOf z) d u (now page) (roomOf room) mend) ⌝ }
     ensures { λ r. ⌜ (
         let d = numbers (now (slots .entry)) (now (frames .entry)) (now (valid .entry)) (now (recency .entry)) (now (uses .entry)) in
         let u = buffers (now (flash .entry)) (now (codes .entry)) (now (marks .entry))
@@ -41,23 +44,23 @@ pub fn write(
         let d′ = numbers (now (slots .exit)) (now (frames .exit)) (now (valid .exit)) (now (recency .exit)) (now (uses .exit)) in
         let u′ = buffers (now (flash .exit)) (now (codes .exit)) (now (marks .exit))
         (now (wear .exit)) (now (pspace .exit)) (now (bspace .exit)) in
-        Wrote (sizesOf z) d u (n .0) (now (page .entry)) (roomOf room) (writeOf r) d′ u′) ⌝ }
+        CarriedOut (sizesOf z) d u (n .0) (now (page .entry)) (roomOf room) mends ops (writeOf r) (mendsOfWrite r) d′ u′) ⌝ }
 {
     match room {
         Room::Join(v, f) => {
             join::join(z, slots, frames, valid, recency, uses, pspace, bspace, v, f);
             put::enter_joined(z, slots, frames, valid, recency, uses, pspace, f, n, page);
-            return Write::Done { way: 4 };
+            return Write::Done { way: 4, mends };
         }
         Room::Fill(v, f) => {
             join::join(z, slots, frames, valid, recency, uses, pspace, bspace, v, f);
             put::enter_filled(z, slots, frames, valid, recency, uses, pspace, f, n, page);
-            return Write::Done { way: 5 };
+            return Write::Done { way: 5, mends };
         }
         Room::Exchange(v, f) => {
             exchange::exchange(z, slots, frames, valid, recency, uses, pspace, bspace, v, f);
             put::enter_filled(z, slots, frames, valid, recency, uses, pspace, f, n, page);
-            return Write::Done { way: 6 };
+            return Write::Done { way: 6, mends };
         }
         Room::Evict(v, f) => {
             return evict::evict(
@@ -75,8 +78,11 @@ pub fn write(
                 bspace,
                 v,
                 f,
+                mend,
+                mends,
                 n,
                 page,
+                ops,
             );
         }
     }

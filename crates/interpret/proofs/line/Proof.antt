@@ -149,7 +149,7 @@ returns c =
     (omega (arith, k, front-long _ _ (a .wear .now) (q .memory .wear-length) (w .wear-within)))
     (omega (arith, k, front-long _ _ (a .pspace .now) (q .memory .pspace-length) (w .pspace-within)))
     (omega (arith, k, front-long _ _ (a .bspace .now) (q .memory .bspace-length) (w .bspace-within)))
-    (a .c) (meant (a .form)) _ (after-sizes-after .sizes-after .ensures)
+    (a .c) (meant (a .form)) _ (start .pre .sized) (after-sizes-after .sizes-after .ensures)
     (held-as _ _ (meant (start .args .form)) (after-sizes-after .sizes-after .ensures) (start .pre .held) (start .pre .sized)) _ _ _ _
     _ _ (after-carry .carry .ensures)
 

@@ -1,14 +1,11 @@
 use borrow.Author.Needs.{needs}
 use native.Mathlib.Omega.{arith}
-use mathlib.Core.Path.{refl}
 use Rattle.model.proofs.Soundness.{pages-small, flash-small, pspace-small, frames-small, bspace-small}
 use Rattle.cache.specs.View.{sizesOf}
 use Rattle.lent.specs.Lengths.{lengthsOk}
-use Rattle.lent.proofs.Lengths.{no-codes, no-marks}
+use Rattle.lent.proofs.Lengths.{codes-small, marks-small}
 use Rattle.lent.proofs.lengths_ok.Statement.{statement}
 use Rattle.lent.proofs.lengths_ok.Tie as tie
-use Rattle.lent.proofs.lengths_ok.Reads as reads
-use Rattle.lent.proofs.lengths_ok.Lts as lts
 
 cast-s : tie.Need-cast-s
 cast-s c = search needs
@@ -25,32 +22,52 @@ cast-p c = search needs
 cast-b : tie.Need-cast-b
 cast-b c = search needs
 
-mul-result : tie.Need-mul-result
-mul-result c =
+code-size-requires : tie.Need-code-size-requires
+code-size-requires c κs = search needs
+
+mark-size-requires : tie.Need-mark-size-requires
+mark-size-requires c κs = search needs
+
+mul-pages : tie.Need-mul-pages
+mul-pages c =
     let start : tie.Start = search in
     let h = pages-small (sizesOf (start .args .z)) (start .pre) in
     omega arith
 
-mul-result-2 : tie.Need-mul-result-2
-mul-result-2 c =
+mul-result : tie.Need-mul-result
+mul-result c =
     let start : tie.Start = search in
     let h = flash-small (sizesOf (start .args .z)) (start .pre) in
     omega arith
 
+mul-result-2 : tie.Need-mul-result-2
+mul-result-2 c =
+    let after-code-size : tie.After-code-size = search in
+    let start : tie.Start = search in
+    let h = codes-small (sizesOf (start .args .z)) (start .pre) in
+    rw (after-code-size .code-size .ensures) (omega arith)
+
 mul-result-3 : tie.Need-mul-result-3
 mul-result-3 c =
+    let after-mark-size : tie.After-mark-size = search in
     let start : tie.Start = search in
-    let h = pspace-small (sizesOf (start .args .z)) (start .pre) in
-    omega arith
+    let h = marks-small (sizesOf (start .args .z)) (start .pre) in
+    rw (after-mark-size .mark-size .ensures) (omega arith)
 
 mul-result-4 : tie.Need-mul-result-4
 mul-result-4 c =
     let start : tie.Start = search in
-    let h = frames-small (sizesOf (start .args .z)) (start .pre) in
+    let h = pspace-small (sizesOf (start .args .z)) (start .pre) in
     omega arith
 
 mul-result-5 : tie.Need-mul-result-5
 mul-result-5 c =
+    let start : tie.Start = search in
+    let h = frames-small (sizesOf (start .args .z)) (start .pre) in
+    omega arith
+
+mul-result-6 : tie.Need-mul-result-6
+mul-result-6 c =
     let start : tie.Start = search in
     let h = bspace-small (sizesOf (start .args .z)) (start .pre) in
     omega arith
@@ -58,9 +75,9 @@ mul-result-5 c =
 returns : tie.Need-returns
 unfolding lengthsOk
 returns c =
-    let start : tie.Start = search in
-    let sz = sizesOf (start .args .z) in
-    rw (no-codes sz (start .pre), no-marks sz (start .pre))
+    let after-mark-size : tie.After-mark-size = search in
+    let after-code-size : tie.After-code-size = search in
+    rw (after-code-size .code-size .ensures, after-mark-size .mark-size .ensures)
 
 pub lengths-ok-spec : {M : Type 1} → statement M
 lengths-ok-spec =
@@ -71,9 +88,13 @@ lengths-ok-spec =
     cast-n
     cast-p
     cast-b
+    code-size-requires
+    mark-size-requires
+    mul-pages
     mul-result
     mul-result-2
     mul-result-3
     mul-result-4
     mul-result-5
+    mul-result-6
     returns)

@@ -3,13 +3,8 @@ use native.Mathlib.Omega.{arith}
 use mathlib.Core.Path.{_∙_, ap}
 use Rattle.prelude.specs.Pages.{laid}
 use Rattle.model.specs.Calls.{combined}
-use Rattle.reads.proofs.Plain.{peeked-page}
 use Rattle.parts.proofs.combine.Statement.{statement}
 use Rattle.parts.proofs.combine.Tie as tie
-use Rattle.parts.proofs.combine.Reads as reads
-use Rattle.parts.proofs.combine.Lts as lts
-use Rattle.page.proofs.lay.Reads as lay-reads
-use Rattle.reads.proofs.peek.Reads as peek-reads
 
 peek-requires : tie.Need-peek-requires
 peek-requires c κs =
@@ -36,8 +31,12 @@ returns c =
     let after-lay : tie.After-lay = search in
     let after-peek : tie.After-peek = search in
     let start : tie.Start = search in
-    after-lay .lay .ensures ∙ ap (laid (start .args .first) (start .args .bytes .now))
-    (peeked-page _ (start .pre .0 .lent .codes-lent .limits) _ _ _ _ _ _ _ _ _ _ (after-peek .peek .ensures))
+    let k = after-peek .peek .ensures in
+    record {
+      fault-is = k .fault-is;
+      mends-are = k .mends-are;
+      whole-is = λ z. after-lay .lay .ensures ∙ ap (laid (start .args .first) (start .args .bytes .now)) (k .page-is ∙ rw z);
+    }
 
 pub combine-spec : {M : Type 1} → statement M
 combine-spec = tie.close (tie.spec peek-requires lay-requires same-length returns)

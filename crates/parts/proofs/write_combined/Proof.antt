@@ -1,6 +1,8 @@
 use borrow.Author.Needs.{needs}
 use native.Mathlib.Omega.{arith}
-use Rattle.parts.proofs.Parts.{part-readable, part-writable, part-wrote}
+use Rattle.model.specs.Calls.{Buffers}
+use Rattle.answer.specs.Carried.{buffers}
+use Rattle.parts.proofs.Parts.{part-readable, part-writable, few-met, part-wrote}
 use Rattle.parts.proofs.write_combined.Statement.{statement}
 use Rattle.parts.proofs.write_combined.Tie as tie
 
@@ -16,6 +18,9 @@ from-after-deliver c = search
 
 ruleset back = (from-after-combine, from-after-write, from-after-deliver)
 
+abbrev lentBuffers : tie.Start → Buffers
+lentBuffers s = let a = s .args in buffers (a .flash .now) (a .codes .now) (a .marks .now) (a .wear .now) (a .pspace .now) (a .bspace .now)
+
 combine-requires : tie.Need-combine-requires
 combine-requires c κs =
     let start : tie.Start = search back in
@@ -27,7 +32,9 @@ write-requires c κs =
     let after-combine : tie.After-combine = search back in
     let start : tie.Start = search back in
     let p = start .pre in
-    part-writable _ _ _ _ _ _ _ (p .0) _ (omega (arith, after-combine .combine .kept, p))
+    part-writable _ _ _ _ _ _ _ (p .0) _ (omega (arith, after-combine .combine .kept, p)) _
+    (few-met _ _ _ _ (start .args .recency .now) (start .args .uses .now) (lentBuffers start) _ _ _ _ _ (after-combine .combine .ensures)
+    (p .0 .ready .sound .limits))
 
 deliver-requires : tie.Need-deliver-requires
 deliver-requires c κs =
@@ -62,7 +69,8 @@ returns c =
     let after-deliver : tie.After-deliver = search back in
     let after-write : tie.After-write = search back in
     let after-combine : tie.After-combine = search back in
-    part-wrote _ _ _ _ _ _ _ _ _ _ _ _ _ _ _ _ (after-combine .combine .ensures) (after-write .write .ensures)
+    let start : tie.Start = search back in
+    part-wrote _ _ _ _ _ _ (lentBuffers start) _ _ _ _ _ (after-combine .combine .ensures) _ _ _ _ _ _ _ (after-write .write .ensures)
     (after-deliver .deliver .ensures)
 
 same-length-7 : tie.Need-same-length-7

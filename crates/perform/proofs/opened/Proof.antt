@@ -139,8 +139,9 @@ returns-2 c =
     let start : tie.Start = search back in
     let a = start .args in
     let ok = sym (after-ok .ok .ensures) ∙ not-false _ (else1 .if1 .left) in
-    rw (c .printed2 .ensures) (open-carries _ _ _ _ _ _ ok
-    (fresh-is _ (plainLent (a .flash .now) (a .wear .now) (a .pspace .now) (a .bspace .now)) (start .pre .0 ok) _ _ _ _
+    let fits = start .pre .0 ok in
+    rw (c .printed2 .ensures) (open-carries _ _ _ _ _ _ (fits .codes-length, fits .marks-length) ok
+    (fresh-is _ (plainLent (a .flash .now) (a .wear .now) (a .pspace .now) (a .bspace .now)) fits _ _ _ _
     (after-fill .fill .ensures) (after-clear .clear .ensures) (after-fill2 .fill2 .ensures) (after-fill3 .fill3 .ensures))
     (after-open .«open» .result) (after-open .«open» .ensures) (after-opening .opening .ensures))
 

@@ -30,7 +30,7 @@ returns c =
 returns-2 : tie.Need-returns-2
 returns-2 c =
     let after-a : tie.After-a = search in
-    c .refused .ensures ∙ sym (ap (λ (x : Opening). numbersOf (openingOf x)) (after-a .a .given .1))
+    c .refused .ensures ∙ sym (ap (λ (x : Opening). numbersOf (openingOf x) 0) (after-a .a .given .1))
 
 pub of-opening-spec : {M : Type 1} → statement M
 of-opening-spec =

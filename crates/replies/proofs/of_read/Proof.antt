@@ -1,7 +1,7 @@
 use borrow.Author.Needs.{needs}
 use mathlib.Core.Path.{refl, sym, ap, _∙_}
 use Rattle.answer.specs.declared.Read.{Read}
-use Rattle.answer.specs.Numbers.{readOf}
+use Rattle.answer.specs.Numbers.{readOf, mendsOfRead}
 use Rattle.replies.specs.Numbers.{numbersOf}
 use Rattle.replies.proofs.of_read.Statement.{statement}
 use Rattle.replies.proofs.of_read.Tie as tie
@@ -30,7 +30,7 @@ returns c =
 returns-2 : tie.Need-returns-2
 returns-2 c =
     let after-a2 : tie.After-a2 = search in
-    c .refused .ensures ∙ sym (ap (λ (x : Read). numbersOf (readOf x)) (after-a2 .a2 .given .1))
+    c .refused .ensures ∙ sym (ap (λ (x : Read). numbersOf (readOf x) (mendsOfRead x)) (after-a2 .a2 .given .1))
 
 pub of-read-spec : {M : Type 1} → statement M
 of-read-spec =

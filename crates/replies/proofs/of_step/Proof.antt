@@ -1,7 +1,7 @@
 use borrow.Author.Needs.{needs}
 use mathlib.Core.Path.{refl, sym, ap, _∙_}
 use Rattle.answer.specs.declared.Step.{Step}
-use Rattle.answer.specs.Numbers.{stepOf}
+use Rattle.answer.specs.Numbers.{stepOf, mendsOfStep}
 use Rattle.replies.specs.Numbers.{numbersOf}
 use Rattle.replies.proofs.of_step.Statement.{statement}
 use Rattle.replies.proofs.of_step.Tie as tie
@@ -41,7 +41,7 @@ returns-2 c =
 returns-3 : tie.Need-returns-3
 returns-3 c =
     let after-a2 : tie.After-a2 = search in
-    c .refused .ensures ∙ sym (ap (λ (x : Step). numbersOf (stepOf x)) (after-a2 .a2 .given .1))
+    c .refused .ensures ∙ sym (ap (λ (x : Step). numbersOf (stepOf x) (mendsOfStep x)) (after-a2 .a2 .given .1))
 
 pub of-step-spec : {M : Type 1} → statement M
 of-step-spec =

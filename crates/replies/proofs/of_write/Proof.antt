@@ -1,7 +1,7 @@
 use borrow.Author.Needs.{needs}
 use mathlib.Core.Path.{refl, sym, ap, _∙_}
 use Rattle.answer.specs.declared.Write.{Write}
-use Rattle.answer.specs.Numbers.{writeOf}
+use Rattle.answer.specs.Numbers.{writeOf, mendsOfWrite}
 use Rattle.replies.specs.Numbers.{numbersOf}
 use Rattle.replies.proofs.of_write.Statement.{statement}
 use Rattle.replies.proofs.of_write.Tie as tie
@@ -41,7 +41,7 @@ returns-2 c =
 returns-3 : tie.Need-returns-3
 returns-3 c =
     let after-a3 : tie.After-a3 = search in
-    c .refused .ensures ∙ sym (ap (λ (x : Write). numbersOf (writeOf x)) (after-a3 .a3 .given .1))
+    c .refused .ensures ∙ sym (ap (λ (x : Write). numbersOf (writeOf x) (mendsOfWrite x)) (after-a3 .a3 .given .1))
 
 pub of-write-spec : {M : Type 1} → statement M
 of-write-spec =

@@ -72,6 +72,28 @@ returns-6 c =
     let after-why : tie.After-why = search in
     rw (c .turned-down6 .ensures) (rw (after-why .why .given .1) refl)
 
+enum-told-6 : tie.Need-enum-told-6
+enum-told-6 c = search needs
+
+turned-down-requires-7 : tie.Need-turned-down-requires-7
+turned-down-requires-7 c κs = search needs
+
+enum-told-7 : tie.Need-enum-told-7
+enum-told-7 c = search needs
+
+turned-down-requires-8 : tie.Need-turned-down-requires-8
+turned-down-requires-8 c κs = search needs
+
+returns-7 : tie.Need-returns-7
+returns-7 c =
+    let after-enum-told6 : tie.After-enum-told6 = search in
+    rw (c .turned-down7 .ensures) (rw (after-enum-told6 .enum-told6 .given .1) refl)
+
+returns-8 : tie.Need-returns-8
+returns-8 c =
+    let after-enum-told7 : tie.After-enum-told7 = search in
+    rw (c .turned-down8 .ensures) (rw (after-enum-told7 .enum-told7 .given .1) refl)
+
 pub refused-spec : {M : Type 1} → statement M
 refused-spec =
     tie.close
@@ -88,9 +110,15 @@ refused-spec =
     turned-down-requires-5
     enum-known-why
     turned-down-requires-6
+    enum-told-6
+    turned-down-requires-7
+    enum-told-7
+    turned-down-requires-8
     returns
     returns-2
     returns-3
     returns-4
     returns-5
-    returns-6)
+    returns-6
+    returns-7
+    returns-8)

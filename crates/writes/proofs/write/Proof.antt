@@ -1,113 +1,178 @@
 use borrow.Author.Needs.{needs}
 use native.Mathlib.Omega.{arith}
-use mathlib.Core.Path.{refl}
-use Rattle.model.specs.Moves.{putSlot}
-use Rattle.moves.proofs.Recency.{listed, touched-is}
-use Rattle.writes.proofs.Ways.{way-1, way-2, way-3, holds, by-plan}
+use mathlib.Core.Path.{_≡_, sym, ap, subst, _∙_}
+use mathlib.Core.Bool.{false, cond}
+use Prim.Native.Nat.{ℕ, _+_, _/_, _≤_}
+use lib.Dec.{eqb}
+use Rattle.model.specs.Sizes.{Sizes}
+use Rattle.model.specs.Directory.{Directory}
+use Rattle.model.specs.Policy as model
+use Rattle.model.specs.Policy.{policyChoice, erasedBy, isWorn}
+use Rattle.model.specs.Calls.{Buffers, writeMerges}
+use Rattle.model.proofs.Plan.{policyChoice-picks}
+use Rattle.cache.specs.View.{sizesOf, numbers}
+use Rattle.chip.specs.Chip.{faultIn, mendsIn, worseOf, mostMends}
+use Rattle.chip.proofs.Looking.{mends-few}
+use Rattle.answer.specs.Carried.{buffers}
+use Rattle.writes.specs.Writes.{PlanHolds, Carries, CarriedOut}
+use Rattle.writes.proofs.Ways.{plan-holds}
+use Rattle.writes.proofs.Deciding.{wrote-worn, wrote-late, wrote-all, may-carry}
 use Rattle.writes.proofs.write.Statement.{statement}
 use Rattle.writes.proofs.write.Tie as tie
 
 -- the ways back, from place to place: `search back` goes by them
-abbrev from-after-plan : tie.After-plan → tie.Start
-from-after-plan c = search
+abbrev from-after-look : tie.After-look → tie.Start
+from-after-look c = search
 
-abbrev from-after-plan2 : tie.After-plan2 → tie.After-plan
-from-after-plan2 c = search
+abbrev from-then1 : tie.Then1 → tie.After-look
+from-then1 c = search
 
-abbrev from-after-over-slot : tie.After-over-slot → tie.After-plan2
-from-after-over-slot c = search
+abbrev from-else1 : tie.Else1 → tie.After-look
+from-else1 c = search
 
-abbrev from-after-plan3 : tie.After-plan3 → tie.After-plan
-from-after-plan3 c = search
+abbrev from-after-worse : tie.After-worse → tie.Else1
+from-after-worse c = search
 
-abbrev from-after-over-frame-page : tie.After-over-frame-page → tie.After-plan3
-from-after-over-frame-page c = search
+abbrev from-after-late : tie.After-late → tie.After-worse
+from-after-late c = search
 
-abbrev from-after-used : tie.After-used → tie.After-over-frame-page
-from-after-used c = search
+abbrev from-else2 : tie.Else2 → tie.After-worse
+from-else2 c = search
 
-abbrev from-after-plan4 : tie.After-plan4 → tie.After-plan
-from-after-plan4 c = search
+abbrev from-after-mends-once : tie.After-mends-once → tie.Else2
+from-after-mends-once c = search
 
-abbrev from-after-over-slot2 : tie.After-over-slot2 → tie.After-plan4
-from-after-over-slot2 c = search
-
-abbrev from-after-plan5 : tie.After-plan5 → tie.After-plan
-from-after-plan5 c = search
-
-abbrev from-after-write : tie.After-write → tie.After-plan5
-from-after-write c = search
+abbrev from-after-carry-out : tie.After-carry-out → tie.After-mends-once
+from-after-carry-out c = search
 
 ruleset back = (
-  from-after-plan,
-  from-after-plan2,
-  from-after-over-slot,
-  from-after-plan3,
-  from-after-over-frame-page,
-  from-after-used,
-  from-after-plan4,
-  from-after-over-slot2,
-  from-after-plan5,
-  from-after-write,
+  from-after-look,
+  from-then1,
+  from-else1,
+  from-after-worse,
+  from-after-late,
+  from-else2,
+  from-after-mends-once,
+  from-after-carry-out,
 )
 
-plan-requires : tie.Need-plan-requires
-plan-requires c κs = search needs
+abbrev sizes : tie.Start → Sizes
+sizes s = sizesOf (s .args .z)
 
-enum-known-plan : tie.Need-enum-known-plan
-enum-known-plan c = search needs
+abbrev lent : tie.Start → Directory
+lent s = let a = s .args in numbers (a .slots .now) (a .frames .now) (a .valid .now) (a .recency .now) (a .uses .now)
 
-over-slot-requires : tie.Need-over-slot-requires
-over-slot-requires c κs =
-    let after-plan2 : tie.After-plan2 = search back in
-    let after-plan : tie.After-plan = search back in
-    let start : tie.Start = search back in
-    let q = start .pre in
-    record {
-      limits = q .ready .sound .limits;
-      slot-lt = holds _ _ _ _ _ q _ _ (after-plan .plan .ensures) (after-plan2 .plan2 .given .1);
-      pspace-length = q .ready .fits .pspace-length;
-      page-length = q .page-length;
-    }
+abbrev lentBuffers : tie.Start → Buffers
+lentBuffers s = let a = s .args in buffers (a .flash .now) (a .codes .now) (a .marks .now) (a .wear .now) (a .pspace .now) (a .bspace .now)
+
+-- the plan
+abbrev planned : tie.Start → model.Plan
+planned s = model.plan policyChoice (sizes s) (lent s) (s .args .wear .now) (s .args .n .0)
+
+held : (s : tie.Start) → PlanHolds (sizes s) (lent s) (planned s)
+held s = plan-holds policyChoice policyChoice-picks (sizes s) (lent s) (s .pre .ready .sound) (s .args .wear .now) (s .args .n .0)
+
+look-requires : tie.Need-look-requires
+look-requires c κs = search needs
 
 same-length : tie.Need-same-length
 same-length c = search needs
 
-same-length-2 : tie.Need-same-length-2
-same-length-2 c = search needs
-
 returns : tie.Need-returns
 returns c =
-    let after-over-slot : tie.After-over-slot = search back in
-    let after-plan2 : tie.After-plan2 = search back in
-    let after-plan : tie.After-plan = search back in
+    let after-look : tie.After-look = search back in
     let start : tie.Start = search back in
-    by-plan _ _ _ _ _ (start .pre) _ _ (after-plan .plan .ensures) (after-plan2 .plan2 .given .1)
-    (way-1 _ _ _ _ _ _ _ _ _ _ _ _ (after-over-slot .over-slot .ensures))
+    let o = after-look .look .ensures in
+    rw (o .block-is) (wrote-worn _ _ _ _ _ _ (start .pre) _ _ (sym (o .worn-is) ∙ c .if1 .taken))
 
-enum-known-plan-2 : tie.Need-enum-known-plan-2
-enum-known-plan-2 c = search needs
-
-over-frame-page-requires : tie.Need-over-frame-page-requires
-over-frame-page-requires c κs =
-    let after-plan3 : tie.After-plan3 = search back in
-    let after-plan : tie.After-plan = search back in
+-- the block is not worn
+unworn : (c : tie.Else1) →
     let start : tie.Start = search back in
-    let q = start .pre in
-    record {
-      limits = q .ready .sound .limits;
-      frame-lt = holds _ _ _ _ _ q _ _ (after-plan .plan .ensures) (after-plan3 .plan3 .given .1);
-      bspace-length = q .ready .fits .bspace-length;
-      page-length = q .page-length;
-    }
+    isWorn (sizes start) (start .args .wear .now) (erasedBy (lent start) (planned start)) ≡ false
+unworn c =
+    let after-look : tie.After-look = search back in
+    sym (after-look .look .ensures .worn-is) ∙ c .if1 .left
 
-used-requires : tie.Need-used-requires
-used-requires c κs =
-    let after-plan3 : tie.After-plan3 = search back in
-    let after-plan : tie.After-plan = search back in
+-- what is met over all that is read
+met : (c : tie.After-worse) →
     let start : tie.Start = search back in
-    let q = start .pre in
-    listed _ _ _ (q .ready .sound) (holds _ _ _ _ _ q _ _ (after-plan .plan .ensures) (after-plan3 .plan3 .given .1))
+    c .worse .result ≡ worseOf (faultIn (sizes start) (lentBuffers start) (writeMerges (sizes start) (lent start) (planned start)))
+    (start .args .beside .fault)
+met c =
+    let after-look : tie.After-look = search back in
+    let start : tie.Start = search back in
+    c .worse .ensures ∙ ap (λ (x : ℕ). worseOf x (start .args .beside .fault)) (after-look .look .ensures .fault-is)
+
+worse-requires : tie.Need-worse-requires
+worse-requires c κs = search needs
+
+late-requires : tie.Need-late-requires
+late-requires c κs = search needs
+
+returns-2 : tie.Need-returns-2
+returns-2 c =
+    let after-late : tie.After-late = search back in
+    let then2 : tie.Then2 = search back in
+    let after-worse : tie.After-worse = search back in
+    let else1 : tie.Else1 = search back in
+    let start : tie.Start = search back in
+    rw (after-late .late .ensures) (wrote-late _ _ _ _ _ _ (start .pre) _ _ (unworn else1) _ (met after-worse) (then2 .if2 .taken))
+
+mends-once-requires : tie.Need-mends-once-requires
+mends-once-requires c κs =
+    let after-look : tie.After-look = search back in
+    let start : tie.Start = search back in
+    let limits = start .pre .ready .sound .limits in
+    let u = lentBuffers start in
+    let m = mends-few (sizes start) limits (u .flash) (u .codes) (u .marks) (writeMerges (sizes start) (lent start) (planned start)) in
+    let e = after-look .look .ensures .mends-are in
+    let f = start .pre .few in
+    (limits, omega arith)
+
+-- no refusal is met
+none : (c : tie.Else2) →
+    let start : tie.Start = search back in
+    worseOf (faultIn (sizes start) (lentBuffers start) (writeMerges (sizes start) (lent start) (planned start)))
+    (start .args .beside .fault) ≡ 0
+none c =
+    let after-worse : tie.After-worse = search back in
+    sym (met after-worse) ∙ c .if2 .left
+
+carry-out-requires : tie.Need-carry-out-requires
+carry-out-requires c κs =
+    let else2 : tie.Else2 = search back in
+    let else1 : tie.Else1 = search back in
+    let after-look : tie.After-look = search back in
+    let start : tie.Start = search back in
+    let o = after-look .look .ensures in
+    subst (λ (p : model.Plan). Carries (sizes start) (lent start) (lentBuffers start) (start .args .page .now) p
+    (after-look .look .result .mend)) (sym (o .plan-is))
+    (may-carry _ _ _ _ _ _ (start .pre) _ 0 (unworn else1) (held start) (none else2) _ (o .mend-is))
+
+returns-3 : tie.Need-returns-3
+returns-3 c =
+    let after-carry-out : tie.After-carry-out = search back in
+    let after-mends-once : tie.After-mends-once = search back in
+    let else2 : tie.Else2 = search back in
+    let else1 : tie.Else1 = search back in
+    let after-look : tie.After-look = search back in
+    let start : tie.Start = search back in
+    let o = after-look .look .ensures in
+    let block = o .block-is in
+    let mends : after-mends-once .mends-once .result
+    ≡ cond (eqb (start .args .n .0 / sizes start .K) (erasedBy (lent start) (planned start)))
+    (mendsIn (sizes start) (lentBuffers start) (writeMerges (sizes start) (lent start) (planned start)))
+    (mendsIn (sizes start) (lentBuffers start) (writeMerges (sizes start) (lent start) (planned start)) + start .args .beside .mends) =
+    after-mends-once .mends-once .ensures
+    ∙ ap (λ (b : ℕ). cond (eqb (start .args .n .0 / sizes start .K) b) (after-look .look .result .mends)
+    (after-look .look .result .mends + start .args .beside .mends)) (o .block-is)
+    ∙ ap (λ (m : ℕ). cond (eqb (start .args .n .0 / sizes start .K) (erasedBy (lent start) (planned start))) m
+    (m + start .args .beside .mends)) (o .mends-are) in
+    wrote-all _ _ _ _ _ _ (start .pre) _ _ (unworn else1) (held start) (none else2) _ mends
+    (rw (o .plan-is) at (after-carry-out .carry-out .ensures))
+
+same-length-2 : tie.Need-same-length-2
+same-length-2 c = search needs
 
 same-length-3 : tie.Need-same-length-3
 same-length-3 c = search needs
@@ -115,82 +180,11 @@ same-length-3 c = search needs
 same-length-4 : tie.Need-same-length-4
 same-length-4 c = search needs
 
-returns-2 : tie.Need-returns-2
-returns-2 c =
-    let after-over-frame-page : tie.After-over-frame-page = search back in
-    let after-plan3 : tie.After-plan3 = search back in
-    let after-plan : tie.After-plan = search back in
-    let start : tie.Start = search back in
-    by-plan _ _ _ _ _ (start .pre) _ _ (after-plan .plan .ensures) (after-plan3 .plan3 .given .1)
-    (way-2 _ _ _ _ _ _ _ _ _ _ _ _ _ (touched-is _ _ _ _ _ _ (c .used .ensures)) (after-over-frame-page .over-frame-page .ensures))
-
-enum-known-plan-3 : tie.Need-enum-known-plan-3
-enum-known-plan-3 c = search needs
-
-over-slot-requires-2 : tie.Need-over-slot-requires-2
-over-slot-requires-2 c κs =
-    let after-plan4 : tie.After-plan4 = search back in
-    let after-plan : tie.After-plan = search back in
-    let start : tie.Start = search back in
-    let q = start .pre in
-    record {
-      limits = q .ready .sound .limits;
-      slot-lt = holds _ _ _ _ _ q _ _ (after-plan .plan .ensures) (after-plan4 .plan4 .given .1);
-      pspace-length = q .ready .fits .pspace-length;
-      page-length = q .page-length;
-    }
-
-mul-slots : tie.Need-mul-slots
-mul-slots c =
-    let after-plan4 : tie.After-plan4 = search back in
-    let after-plan : tie.After-plan = search back in
-    let start : tie.Start = search back in
-    let q = start .pre in
-    let l = holds _ _ _ _ _ q _ _ (after-plan .plan .ensures) (after-plan4 .plan4 .given .1) in
-    let h = q .ready .sound .limits .P-high in
-    record { fits = omega arith }
-
-element-write-slots : tie.Need-element-write-slots
-element-write-slots c =
-    let after-plan4 : tie.After-plan4 = search back in
-    let after-plan : tie.After-plan = search back in
-    let start : tie.Start = search back in
-    let q = start .pre in
-    let l = holds _ _ _ _ _ q _ _ (after-plan .plan .ensures) (after-plan4 .plan4 .given .1) in
-    let h = q .ready .sound .limits .P-high in
-    omega arith
-
 same-length-5 : tie.Need-same-length-5
 same-length-5 c = search needs
 
 same-length-6 : tie.Need-same-length-6
 same-length-6 c = search needs
-
-returns-3 : tie.Need-returns-3
-unfolding putSlot
-returns-3 c =
-    let after-over-slot2 : tie.After-over-slot2 = search back in
-    let after-plan4 : tie.After-plan4 = search back in
-    let after-plan : tie.After-plan = search back in
-    let start : tie.Start = search back in
-    by-plan _ _ _ _ _ (start .pre) _ _ (after-plan .plan .ensures) (after-plan4 .plan4 .given .1)
-    (way-3 _ _ _ _ _ _ _ _ _ _ _ _ _ refl (after-over-slot2 .over-slot2 .ensures))
-
-enum-known-plan-4 : tie.Need-enum-known-plan-4
-enum-known-plan-4 c = search needs
-
-write-requires : tie.Need-write-requires
-write-requires c κs =
-    let after-plan5 : tie.After-plan5 = search back in
-    let after-plan : tie.After-plan = search back in
-    let start : tie.Start = search back in
-    let q = start .pre in
-    record {
-      ready = q .ready;
-      page-length = q .page-length;
-      holds = holds _ _ _ _ _ q _ _ (after-plan .plan .ensures)
-          (after-plan5 .plan5 .given .1);
-    }
 
 same-length-7 : tie.Need-same-length-7
 same-length-7 c = search needs
@@ -204,49 +198,41 @@ same-length-9 c = search needs
 same-length-10 : tie.Need-same-length-10
 same-length-10 c = search needs
 
-returns-4 : tie.Need-returns-4
-returns-4 c =
-    let after-write : tie.After-write = search back in
-    let after-plan5 : tie.After-plan5 = search back in
-    let after-plan : tie.After-plan = search back in
-    let start : tie.Start = search back in
-    by-plan _ _ _ _ _ (start .pre) _ _ (after-plan .plan .ensures) (after-plan5 .plan5 .given .1) (after-write .write .ensures)
-
 same-length-11 : tie.Need-same-length-11
 same-length-11 c = search needs
 
 same-length-12 : tie.Need-same-length-12
 same-length-12 c = search needs
 
+same-length-13 : tie.Need-same-length-13
+same-length-13 c = search needs
+
+same-length-14 : tie.Need-same-length-14
+same-length-14 c = search needs
+
 pub write-spec : {M : Type 1} → statement M
 write-spec =
     tie.close
     (tie.spec
-    plan-requires
-    enum-known-plan
-    over-slot-requires
+    look-requires
     same-length
     same-length-2
-    returns
-    enum-known-plan-2
-    over-frame-page-requires
-    used-requires
     same-length-3
     same-length-4
-    returns-2
-    enum-known-plan-3
-    over-slot-requires-2
-    mul-slots
-    element-write-slots
+    returns
+    worse-requires
+    late-requires
     same-length-5
     same-length-6
-    returns-3
-    enum-known-plan-4
-    write-requires
     same-length-7
     same-length-8
+    returns-2
+    mends-once-requires
+    carry-out-requires
     same-length-9
     same-length-10
     same-length-11
     same-length-12
-    returns-4)
+    same-length-13
+    same-length-14
+    returns-3)

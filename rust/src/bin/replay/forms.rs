@@ -9,6 +9,10 @@ pub enum Form {
         block: u32,
         wear: u32,
     },
+    FlipCode {
+        byte: u32,
+        bit: u32,
+    },
     FlipFlash {
         byte: u32,
         bit: u32,
@@ -140,6 +144,7 @@ fn options(words: &mut Words) -> Option<Options> {
 fn flip(words: &mut Words) -> Option<Form> {
     match words.next()? {
         b"flash" => Some(Form::FlipFlash { byte: words.number()?, bit: words.number()? }),
+        b"code" if words.release.has(6) => Some(Form::FlipCode { byte: words.number()?, bit: words.number()? }),
         _ => None,
     }
 }
@@ -224,6 +229,8 @@ mod tests {
             "(spoil valid 7 18446744073709551615)",
             "(spoil s 9 1)",
             "(open 1 2 3 2 1 9 0 0 0 0)",
+            "(open 256 2 3 2 1 9 0 1 0 0)",
+            "(flip code 0 7)",
         ] {
             assert!(parse(line.as_bytes()).is_some(), "{line}");
         }
@@ -254,10 +261,11 @@ mod tests {
             "(spoil order 0 256)",
             "(spoil place 128 0)",
             "(spoil valid 0 18446744073709551616)",
-            "(spoil coded 0 0)",
-            "(flip code 0 0)",
+            "(spoil shelf 0 0)",
+            "(flip code 0)",
+            "(flip mark 0 0)",
             "(open 1 2 3 2 1 9)",
-            "(open 1 2 3 2 1 9 0 1 0 0)",
+            "(open 1 2 3 2 1 9 0 2 0 0)",
             "(open 1 2 3 2 1 9 0 0 0 1)",
             "(part 0 0 1)",
             "(part 0 0 1 1 1)",

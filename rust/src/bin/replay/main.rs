@@ -11,7 +11,7 @@ use std::io::{self, BufWriter, Read, Write};
 #[derive(Clone, Copy)]
 pub struct Release(u32);
 
-const RELEASE: Release = Release(5);
+const RELEASE: Release = Release(7);
 
 impl Release {
     /// Whether what request `since` brings, or the base where it is 0, is in force.
@@ -75,17 +75,17 @@ mod tests {
                       (step)\n(flush)\n(step)\n(read 6)\n(setwear 0 9)\n(write 0 1)\n(step)\n(spoil s 0 0)\n(readlen 0 1)\n";
         let said = [
             "(open (done))",
-            "(write (way 3) (erased none) (merged 0))",
-            "(write (way 3) (erased none) (merged 0))",
-            "(write (way 5) (erased none) (merged 0))",
-            "(write (way 7) (erased 0) (merged 1))",
-            "(read (way 2) (page c8d83bf0))",
+            "(write (way 3) (erased none) (merged 0) (mended 0))",
+            "(write (way 3) (erased none) (merged 0) (mended 0))",
+            "(write (way 5) (erased none) (merged 0) (mended 0))",
+            "(write (way 7) (erased 0) (merged 1) (mended 0))",
+            "(read (way 2) (mended 0) (page c8d83bf0))",
             "(writelen (refused 2))",
-            "(step (block 1) (merged 0))",
-            "(flush (rewrites 1) (merged 1))",
+            "(step (block 1) (merged 0) (mended 0))",
+            "(flush (rewrites 1) (merged 1) (mended 0))",
             "(step clean)",
             "(read (refused 5))",
-            "(write (way 3) (erased none) (merged 0))",
+            "(write (way 3) (erased none) (merged 0) (mended 0))",
             "(step (refused 6 0))",
             "(readlen (refused 4))",
         ];
@@ -94,21 +94,41 @@ mod tests {
 
     #[test]
     fn part_writes() {
-        let script = "(open 2 4 3 3 1 9 0 0 0 0)\n(part 0 1 10 1)\n(part 0 0 20 2)\n(part 0 2 0 0)\n(part 0 1 0 2)\n(part 0 3 0 0)\n(part 12 9 0 9)\n\
-                      (read 0)\n(part 0 0 0)\n(part 0 0 0 4294967295)\n";
+        let script = "(open 2 4 3 3 1 9 0 0 0 0)\n(part 0 1 10 1)\n(part 0 0 20 2)\n(part 0 2 0 0)\n(part 0 1 0 2)\n(part 0 3 0 0)\n\
+                      (part 12 9 0 9)\n(read 0)\n(part 0 0 0)\n(part 0 0 0 4294967295)\n";
         let said = [
             "(open (done))",
-            "(part (way 3) (erased none) (merged 0) (page 32280693))",
-            "(part (way 1) (erased none) (merged 0) (page e5120c46))",
-            "(part (way 0) (erased none) (merged 0) (page 34150d34))",
+            "(part (way 3) (erased none) (merged 0) (mended 0) (page 32280693))",
+            "(part (way 1) (erased none) (merged 0) (mended 0) (page e5120c46))",
+            "(part (way 0) (erased none) (merged 0) (mended 0) (page 34150d34))",
             "(part (refused 2))",
             "(part (refused 2))",
             "(part (refused 5))",
-            "(read (way 1) (page e5120c46))",
+            "(read (way 1) (mended 0) (page e5120c46))",
             "(bad 9)",
             "(part (refused 2))",
         ];
         assert_eq!(replay(script), said);
+    }
+
+    /// At release 6 the same without the mends.
+    #[test]
+    fn flipped_bits() {
+        let script = "(open 256 2 3 2 1 9 0 1 0 0)\n(read 0)\n(flip flash 5 3)\n(flip code 3 0)\n(write 1 9)\n(read 0)\n(flip flash 5 4)\n\
+                      (read 0)\n(flush)\n(flip code 17 8)\n(flip code 18 0)\n(flip flash 5 4)\n(flush)\n";
+        let said = [
+            "(open (done))",
+            "(read (way 3) (mended 0) (page fea8a821))",
+            "(write (way 3) (erased none) (merged 0) (mended 0))",
+            "(read (way 3) (mended 1) (page fea8a821))",
+            "(read (refused 7))",
+            "(flush (refused 7))",
+            "(bad 10)",
+            "(bad 11)",
+            "(flush (rewrites 1) (merged 1) (mended 1))",
+        ];
+        assert_eq!(replay(script), said);
+        assert_eq!(replay_at(Release(6), script), said.map(|line| line.replace(" (mended 0)", "").replace(" (mended 1)", "")));
     }
 
     #[test]
@@ -122,7 +142,7 @@ mod tests {
         let said = replay("(dump)").concat();
         assert!(said.starts_with("(dump (sizes 0 0 0 0 0 0) (places 4294967295 "), "{said}");
         let middle = " (valid 0 0 0 0 0 0 0 0) (order 0 1 2 3 4 5 6 7) (flash 00000000) (wear) (pspace 00000000) (bspace 00000000)";
-        assert!(said.contains(middle) && said.ends_with(" (policy 0) (uses 0 0 0 0 0 0 0 0))"), "{said}");
+        assert!(said.contains(middle) && said.ends_with(" (policy 0) (uses 0 0 0 0 0 0 0 0) (coded 0) (codes 00000000))"), "{said}");
     }
 
     /// What follows p-space and b-space in the dump is of the options in force, and of no other.
@@ -139,29 +159,30 @@ mod tests {
         }
     }
 
-    /// An option that is in force is the store's to take or to refuse; it takes no other than the policy yet.
+    /// An option that is in force is the store's to take or to refuse; it takes no other than policy and codes yet.
     #[test]
     fn options_reach_the_store() {
         let script = |options| format!("(open 256 2 3 2 1 9 {options})\n(open 256 2 3 2 1 9 0 0 0 0)\n(reopen 256 2 3 2 1 9 {options})\n");
-        for options in ["0 1 0 0", "0 0 1 0", "0 0 0 1"] {
+        for options in ["0 0 1 0", "0 0 0 1"] {
             assert_eq!(replay(&script(options)), ["(bad 1)", "(open (done))", "(bad 3)"]);
             assert_eq!(replay_at(Release(12), &script(options)), ["(open (refused 1))", "(open (done))", "(open (refused 1))"]);
         }
         assert_eq!(replay(&script("3 0 0 0")), ["(open (refused 1))", "(open (done))", "(open (refused 1))"]);
-        for options in ["1 0 0 0", "2 0 0 0"] {
-            assert_eq!(replay_at(Release(4), &script(options)), ["(bad 1)", "(open (done))", "(bad 3)"]);
-            assert_eq!(replay(&script(options)), ["(open (done))"; 3]);
+        for (options, since, again) in [("1 0 0 0", 5, "(done)"), ("2 0 0 0", 5, "(done)"), ("0 1 0 0", 6, "(refused 2)")] {
+            assert_eq!(replay_at(Release(since - 1), &script(options)), ["(bad 1)", "(open (done))", "(bad 3)"]);
+            assert_eq!(replay(&script(options)), ["(open (done))", "(open (done))", &format!("(open {again})")]);
         }
+        assert_eq!(replay("(open 255 2 3 2 1 9 0 1 0 0)"), ["(open (refused 1))"]);
     }
 
     #[test]
     fn what_the_options_add_to_a_record_can_be_spoilt() {
         let script = |spoil| format!("(open 1 2 3 2 1 9 0 0 0 0)\n(spoil {spoil})\n(read 0)\n");
-        for spoil in ["coded 0 1", "shelf 0 1", "marked 0 1", "shelfno 0 0", "shelfno 7 4294967294"] {
+        for spoil in ["shelf 0 1", "marked 0 1", "shelfno 0 0", "shelfno 7 4294967294"] {
             assert_eq!(replay(&script(spoil))[1], "(bad 2)", "{spoil}");
             assert_eq!(replay_at(Release(12), &script(spoil))[1..], ["(read (refused 4))"], "{spoil}");
         }
-        for spoil in ["policy 0 3", "uses 0 1", "uses 7 1"] {
+        for spoil in ["policy 0 3", "uses 0 1", "uses 7 1", "coded 0 1"] {
             assert_eq!(replay_at(Release(4), &script(spoil))[1], "(bad 2)", "{spoil}");
             assert_eq!(replay(&script(spoil))[1..], ["(read (refused 4))"], "{spoil}");
         }

@@ -37,7 +37,8 @@ impl State {
             Form::Open(sizes, options) => self.open(sizes, options),
             Form::Reopen(sizes, options) => Ok(self.reopen(sizes, options)),
             Form::SetWear { block, wear } => set(&mut self.memory.wear, block, |entry| *entry = wear),
-            Form::FlipFlash { bit: 8.., .. } => Err(Bad),
+            Form::FlipFlash { bit: 8.., .. } | Form::FlipCode { bit: 8.., .. } => Err(Bad),
+            Form::FlipCode { byte, bit } => set(&mut self.memory.codes, byte, |entry| *entry ^= 1 << bit),
             Form::FlipFlash { byte, bit } => set(&mut self.memory.flash, byte, |entry| *entry ^= 1 << bit),
             Form::Spoil { field, index, value } => {
                 (field.set)(&mut self.cache, index, value);
@@ -54,13 +55,13 @@ impl State {
 
     /// An opening with buffers made afresh; a refused one keeps the store in use.
     fn open(&mut self, sizes: Sizes, options: Options) -> Result<Said, Bad> {
-        if !sizes.in_limits() || !options.in_limits() {
+        if !sizes.in_limits() || !options.in_limits(&sizes) {
             return Ok(Said::Opened(Cache::open(sizes, options, &Memory::default().lend()).map(|_| ())));
         }
         if sizes.flash_len() > MOST_FLASH {
             return Err(Bad);
         }
-        let mut memory = Memory::new(&sizes);
+        let mut memory = Memory::with_options(&sizes, &options);
         let opened = Cache::open(sizes, options, &memory.lend());
         if let Ok(cache) = opened {
             *self = State { cache, memory };

@@ -11,20 +11,23 @@ pub fn said(release: Release, word: &str, said: &Said, state: &State) -> Option<
         Said::Nothing => None,
         Said::Opened(Ok(())) => Some("(open (done))".into()),
         Said::Opened(Err(why)) => Some(format!("(open {})", refused(why))),
-        Said::Called(Ok(answer), page) => Some(format!("({word} {}{})", accepted(answer), with_page(page))),
+        Said::Called(Ok(answer), page) => Some(format!("({word} {}{})", accepted(release, answer), with_page(page))),
         Said::Called(Err(why), _) => Some(format!("({word} {})", refused(why))),
         Said::Dump => Some(dump(release, state)),
     }
 }
 
-fn accepted(answer: &Answer) -> String {
+fn accepted(release: Release, answer: &Answer) -> String {
+    let mended = |m: &u32| if release.has(7) { format!(" (mended {m})") } else { String::new() };
     match answer {
-        Answer::Read { way } => format!("(way {way})"),
-        Answer::Write { way, erased: None, merged } => format!("(way {way}) (erased none) (merged {merged})"),
-        Answer::Write { way, erased: Some(block), merged } => format!("(way {way}) (erased {block}) (merged {merged})"),
-        Answer::Step { block, merged } => format!("(block {block}) (merged {merged})"),
+        Answer::Read { way, mended: m } => format!("(way {way}){}", mended(m)),
+        Answer::Write { way, erased: None, merged, mended: m } => format!("(way {way}) (erased none) (merged {merged}){}", mended(m)),
+        Answer::Write { way, erased: Some(block), merged, mended: m } => {
+            format!("(way {way}) (erased {block}) (merged {merged}){}", mended(m))
+        }
+        Answer::Step { block, merged, mended: m } => format!("(block {block}) (merged {merged}){}", mended(m)),
         Answer::Clean => "clean".into(),
-        Answer::Flush { rewrites, merged } => format!("(rewrites {rewrites}) (merged {merged})"),
+        Answer::Flush { rewrites, merged, mended: m } => format!("(rewrites {rewrites}) (merged {merged}){}", mended(m)),
     }
 }
 

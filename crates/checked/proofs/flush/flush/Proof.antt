@@ -13,7 +13,7 @@ use Rattle.cache.specs.View.{sizesOf, numbers}
 use Rattle.answer.specs.Carried.{buffers}
 use Rattle.checked.specs.Lists.{storeWith}
 use Rattle.lent.proofs.Lengths.{lengths-lent}
-use Rattle.checked.proofs.Carrying.{ready, flush-done, call-record, call-buffer}
+use Rattle.checked.proofs.Carrying.{ready, flush-done, call-record, call-buffer, operations-small}
 use Rattle.checked.proofs.flush.flush.Statement.{statement}
 use Rattle.checked.proofs.flush.flush.Tie as tie
 
@@ -112,7 +112,7 @@ returns-3 c =
       pspace-length = f .pspace-length;
       bspace-length = omega (arith, w .kept, f);
     })
-    _ _ (w .ensures)
+    _ _ _ _ (let h = operations-small _ (sound-facts _ _ (passed else1) .limits) in omega arith) (w .ensures)
 
 same-length-4 : tie.Need-same-length-4
 same-length-4 c = search needs

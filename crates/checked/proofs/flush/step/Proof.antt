@@ -112,7 +112,7 @@ returns-3 c =
       pspace-length = f .pspace-length;
       bspace-length = omega (arith, w .kept, f);
     })
-    _ _ (w .ensures)
+    _ _ _ _ (let k = sound-facts _ _ (passed else1) .limits .K-high in omega arith) (w .ensures)
 
 same-length-4 : tie.Need-same-length-4
 same-length-4 c = search needs

@@ -211,7 +211,7 @@ returns-7 c =
       pspace-length = omega (arith, w .kept, f);
       bspace-length = omega (arith, w .kept, f);
     })
-    _ _ _ (w .ensures)
+    _ _ _ _ _ (let k = sound-facts _ _ (passed else1) .limits .K-high in omega arith) (w .ensures)
 
 same-length-6 : tie.Need-same-length-6
 same-length-6 c = search needs

@@ -12,7 +12,8 @@ use Rattle.cache.specs.View.{sizesOf, numbers}
 use Rattle.answer.specs.Carried.{buffers}
 use Rattle.checked.specs.Lists.{storeWith}
 use Rattle.lent.proofs.Lengths.{lengths-lent}
-use Rattle.checked.proofs.Carrying.{read-checked, readable, read-done, call-record, call-buffer, call-page-buffer, call-page}
+use Rattle.checked.proofs.Carrying.{read-checked, readable, read-late, read-done, call-record, call-buffer}
+use Rattle.checked.proofs.Carrying.{call-page-buffer, call-page}
 use Rattle.checked.proofs.read.read.Statement.{statement}
 use Rattle.checked.proofs.read.read.Tie as tie
 
@@ -120,11 +121,29 @@ read-requires c κs =
     let a = passed else1 in
     (sound-facts _ _ a, readable (store s) (s .args .n .0) (s .args .page .now) a (fitting else2) (else3 .if3 .left) (else4 .if4 .left))
 
+late-requires : tie.Need-late-requires
+late-requires c κs = search needs
+
 same-length : tie.Need-same-length
 same-length c = search needs
 
 returns-5 : tie.Need-returns-5
 returns-5 c =
+    let then5 : tie.Then5 = search in
+    let after-read : tie.After-read = search back in
+    let else4 : tie.Else4 = search back in
+    let else3 : tie.Else3 = search back in
+    let else2 : tie.Else2 = search back in
+    let else1 : tie.Else1 = search back in
+    let s : tie.Start = search back in
+    rw (c .late .ensures) (read-late (store s) (s .args .n .0) (s .args .page .now) (passed else1) (fitting else2) (else3 .if3 .left)
+    (else4 .if4 .left) _ _ _ (after-read .read .ensures) (then5 .if5 .taken))
+
+same-length-2 : tie.Need-same-length-2
+same-length-2 c = search needs
+
+returns-6 : tie.Need-returns-6
+returns-6 c =
     let after-read : tie.After-read = search back in
     let else4 : tie.Else4 = search back in
     let else3 : tie.Else3 = search back in
@@ -132,7 +151,7 @@ returns-5 c =
     let else1 : tie.Else1 = search back in
     let s : tie.Start = search back in
     read-done (store s) (s .args .n .0) (s .args .page .now) (passed else1) (fitting else2) (else3 .if3 .left) (else4 .if4 .left) _ _ _
-    (after-read .read .ensures)
+    (after-read .read .ensures) (c .if5 .left)
 
 pub read-spec : {M : Type 1} → statement M
 read-spec =
@@ -147,5 +166,8 @@ read-spec =
     mul-if4
     returns-4
     read-requires
+    late-requires
     same-length
-    returns-5)
+    returns-5
+    same-length-2
+    returns-6)

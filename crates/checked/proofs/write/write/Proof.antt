@@ -151,7 +151,7 @@ returns-5 c =
       pspace-length = omega (arith, w .kept, f);
       bspace-length = omega (arith, w .kept, f);
     })
-    _ _ (w .ensures)
+    _ _ _ _ (let k = sound-facts _ _ (passed else1) .limits .K-high in omega arith) (w .ensures)
 
 same-length-5 : tie.Need-same-length-5
 same-length-5 c = search needs

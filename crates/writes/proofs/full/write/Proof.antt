@@ -9,9 +9,13 @@ use Rattle.model.specs.Directory.{Directory}
 use Rattle.model.specs.Moves.{joined}
 use Rattle.cache.specs.View.{sizesOf, numbers}
 use Rattle.moves.specs.Spaces.{Joins, Joined}
+use Rattle.policy.specs.declared.decision.Room.{Room}
+use Rattle.policy.specs.Views.{roomOf}
+use Rattle.answer.specs.Carried.{buffers}
+use Rattle.writes.specs.Writes.{Carries}
 use Rattle.writes.specs.Enter.{Joining, Enters, Entered}
 use Rattle.writes.proofs.Entering.{JoinEntered, joins, join-enters, join-entered, exchange-enters, exchange-entered}
-use Rattle.writes.proofs.Ways.{way-4, way-5, way-6, room-holds, by-room}
+use Rattle.writes.proofs.Ways.{way-4, way-5, way-6, shown-carries, by-shown}
 use Rattle.writes.proofs.full.write.Statement.{statement}
 use Rattle.writes.proofs.full.write.Tie as tie
 
@@ -21,6 +25,13 @@ sizes s = sizesOf (s .args .z)
 -- the directory as the call began
 abbrev lent : tie.Start → Directory
 lent s = let a = s .args in numbers (a .slots .now) (a .frames .now) (a .valid .now) (a .recency .now) (a .uses .now)
+
+-- the room, as a way shows it, may be made
+may : (s : tie.Start) (shown : Room) → s .args .room ≡ shown →
+    let a = s .args in
+    Carries (sizes s) (lent s) (buffers (a .flash .now) (a .codes .now) (a .marks .now) (a .wear .now) (a .pspace .now) (a .bspace .now))
+    (a .page .now) (roomOf shown) (a .mend)
+may s shown is = shown-carries roomOf _ _ _ _ _ shown is (s .pre)
 
 -- ---- what ways 4 and 5 share: the victim's pages join a frame, and the page enters a slot
 
@@ -51,14 +62,14 @@ join-requires : tie.Need-join-requires
 join-requires c κs =
     let after-room : tie.After-room = search in
     let start : tie.Start = search in
-    may-join start _ _ (room-holds _ _ _ (start .args .n .0) _ _ _ (start .pre) (after-room .room .given .1))
+    may-join start _ _ (may start _ (after-room .room .given .1) .holds)
 
 enter-joined-requires : tie.Need-enter-joined-requires
 enter-joined-requires c κs =
     let after-join : tie.After-join = search in
     let after-room : tie.After-room = search in
     let start : tie.Start = search in
-    may-enter start _ _ (room-holds _ _ _ (start .args .n .0) _ _ _ (start .pre) (after-room .room .given .1)) _
+    may-enter start _ _ (may start _ (after-room .room .given .1) .holds) _
     (after-join .join .ensures .directory)
 
 same-length : tie.Need-same-length
@@ -74,8 +85,8 @@ returns c =
     let after-room : tie.After-room = search in
     let start : tie.Start = search in
     let is = after-room .room .given .1 in
-    let g = room-holds _ _ _ (start .args .n .0) _ _ _ (start .pre) is in
-    by-room _ _ _ _ _ _ _ (start .pre) is (way-4 _ _ _ _ _ _ _ _ _ _ _ _ _ _ _
+    let g = may start _ is .holds in
+    by-shown roomOf _ _ _ _ _ _ is (way-4 _ _ _ _ _ _ _ _ _ _ _ _ _ _ _ _ _
     (has-joined start _ _ g false _ _ _ _ (after-join .join .ensures) (after-enter-joined .enter-joined .ensures)))
 
 -- ---- way 5
@@ -87,14 +98,14 @@ join-requires-2 : tie.Need-join-requires-2
 join-requires-2 c κs =
     let after-room2 : tie.After-room2 = search in
     let start : tie.Start = search in
-    may-join start _ _ (room-holds _ _ _ (start .args .n .0) _ _ _ (start .pre) (after-room2 .room2 .given .1))
+    may-join start _ _ (may start _ (after-room2 .room2 .given .1) .holds)
 
 enter-filled-requires : tie.Need-enter-filled-requires
 enter-filled-requires c κs =
     let after-join2 : tie.After-join2 = search in
     let after-room2 : tie.After-room2 = search in
     let start : tie.Start = search in
-    may-enter start _ _ (room-holds _ _ _ (start .args .n .0) _ _ _ (start .pre) (after-room2 .room2 .given .1)) _
+    may-enter start _ _ (may start _ (after-room2 .room2 .given .1) .holds) _
     (after-join2 .join2 .ensures .directory)
 
 same-length-3 : tie.Need-same-length-3
@@ -110,8 +121,8 @@ returns-2 c =
     let after-room2 : tie.After-room2 = search in
     let start : tie.Start = search in
     let is = after-room2 .room2 .given .1 in
-    let g = room-holds _ _ _ (start .args .n .0) _ _ _ (start .pre) is in
-    by-room _ _ _ _ _ _ _ (start .pre) is (way-5 _ _ _ _ _ _ _ _ _ _ _ _ _ _ _
+    let g = may start _ is .holds in
+    by-shown roomOf _ _ _ _ _ _ is (way-5 _ _ _ _ _ _ _ _ _ _ _ _ _ _ _ _ _
     (has-joined start _ _ g true _ _ _ _ (after-join2 .join2 .ensures) (after-enter-filled .enter-filled .ensures)))
 
 -- ---- way 6
@@ -124,7 +135,7 @@ exchange-requires c κs =
     let after-room3 : tie.After-room3 = search in
     let start : tie.Start = search in
     let q = start .pre in
-    let g = room-holds _ _ _ (start .args .n .0) _ _ _ q (after-room3 .room3 .given .1) .0 in
+    let g = may start _ (after-room3 .room3 .given .1) .holds .0 in
     record {
       joins = joins _ _ _ _ _ _ (start .args .page .now) (q .ready .sound) (g .victim-lt) (g .frame-lt)
           (q .ready .fits .pspace-length) (q .ready .fits .bspace-length);
@@ -137,7 +148,7 @@ enter-filled-requires-2 c κs =
     let after-room3 : tie.After-room3 = search in
     let start : tie.Start = search in
     let q = start .pre in
-    let g = room-holds _ _ _ (start .args .n .0) _ _ _ q (after-room3 .room3 .given .1) in
+    let g = may start _ (after-room3 .room3 .given .1) .holds in
     exchange-enters _ _ _ _ (start .args .pspace .now) (start .args .bspace .now) _ (q .ready .sound) (g .0) (g .1) (q .page-length) _ _
     (after-exchange .exchange .ensures .directory) (omega (arith, after-exchange .exchange .kept, q .ready .fits))
 
@@ -154,7 +165,7 @@ returns-3 c =
     let after-room3 : tie.After-room3 = search in
     let start : tie.Start = search in
     let q = start .pre in
-    by-room _ _ _ _ _ _ _ q (after-room3 .room3 .given .1) (way-6 _ _ _ _ _ _ _ _ _ _ _ _ _ _ _
+    by-shown roomOf _ _ _ _ _ _ (after-room3 .room3 .given .1) (way-6 _ _ _ _ _ _ _ _ _ _ _ _ _ _ _ _ _
     (exchange-entered _ _ _ _ _ _ _ (q .ready .sound) _ _ _ _ _ _ (after-exchange .exchange .ensures)
     (after-enter-filled2 .enter-filled2 .ensures)))
 
@@ -167,13 +178,7 @@ evict-requires : tie.Need-evict-requires
 evict-requires c κs =
     let after-room4 : tie.After-room4 = search in
     let start : tie.Start = search in
-    let q = start .pre in
-    record {
-      ready = q .ready;
-      page-length = q .page-length;
-      holds = room-holds _ _ _ (start .args .n .0) _ _ _ q
-          (after-room4 .room4 .given .1);
-    }
+    may start _ (after-room4 .room4 .given .1)
 
 same-length-7 : tie.Need-same-length-7
 same-length-7 c = search needs
@@ -192,7 +197,7 @@ returns-4 c =
     let after-evict : tie.After-evict = search in
     let after-room4 : tie.After-room4 = search in
     let start : tie.Start = search in
-    by-room _ _ _ _ _ _ _ (start .pre) (after-room4 .room4 .given .1) (after-evict .evict .ensures)
+    by-shown roomOf _ _ _ _ _ _ (after-room4 .room4 .given .1) (after-evict .evict .ensures)
 
 same-length-11 : tie.Need-same-length-11
 same-length-11 c = search needs

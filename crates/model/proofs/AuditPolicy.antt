@@ -515,6 +515,91 @@ lfu-passes = record {
   };
 }
 
+-- LFU, 4 blocks of 4 pages, 4 slots, 2 frames: frame 0 has 3 pages and one use, frame 1 has 2 pages and two uses. Way 6 takes the frame
+-- with the fewest pages, not the one with the fewest uses of those that have fewer than the victim.
+abbrev fourPages : Sizes
+fourPages = record { S = 1; K = 4; N = 4; P = 4; B = 2; W = 9; policy = 2; coded = 0; shelfPages = 0; marked = 0 }
+
+abbrev fewest : List (Call Page)
+fewest = w 0 ∷ w 1 ∷ w 2 ∷ w 4 ∷ w 5 ∷ w 8 ∷ w 9 ∷ w 10 ∷ w 11 ∷ r 4 ∷ w 12 ∷ []
+
+abbrev pub lfu-takes-the-fewest : Row
+lfu-takes-the-fewest = record {
+  sizes = fourPages;
+  wear = 0 ∷ 0 ∷ 0 ∷ 0 ∷ [];
+  calls = fewest;
+  gives = record {
+    opening = openDone;
+    answers = way 3 ∷ way 3 ∷ way 3 ∷ way 3 ∷ way 5 ∷ way 3 ∷ way 3 ∷ way 5 ∷ way 3 ∷ readDone 2 ∷ way 6 ∷ [];
+    pages = (1 ∷ []) ∷ (2 ∷ []) ∷ (3 ∷ []) ∷ (5 ∷ []) ∷ (6 ∷ []) ∷ (9 ∷ []) ∷ (10 ∷ []) ∷ (11 ∷ []) ∷ (12 ∷ []) ∷ (5 ∷ []) ∷ (13
+        ∷ []) ∷ [];
+    sizes = fourPages;
+    slots = 12 ∷ 4 ∷ 5 ∷ vacant ∷ [];
+    frames = 0 ∷ 2 ∷ [];
+    valid = 7 ∷ 15 ∷ [];
+    recency = 0 ∷ 1 ∷ [];
+    uses = 1 ∷ 1 ∷ [];
+    flash = 255 ∷ 255 ∷ 255 ∷ 255 ∷ 255 ∷ 255 ∷ 255 ∷ 255 ∷ 255 ∷ 255 ∷ 255 ∷ 255 ∷ 255 ∷ 255 ∷ 255 ∷ 255 ∷ [];
+    pspace = 13 ∷ 5 ∷ 6 ∷ 12 ∷ [];
+    bspace = 1 ∷ 2 ∷ 3 ∷ 0 ∷ 9 ∷ 10 ∷ 11 ∷ 12 ∷ [];
+    wear = 0 ∷ 0 ∷ 0 ∷ 0 ∷ [];
+  };
+}
+
+-- LFU, the block of the frame with the fewest uses is worn: of the two others way 7 takes the one with fewer uses, which is the more recent.
+abbrev byUses : List (Call Page)
+byUses = w 0 ∷ w 2 ∷ w 4 ∷ w 6 ∷ w 8 ∷ r 2 ∷ r 2 ∷ w 2 ∷ r 4 ∷ r 0 ∷ r 0 ∷ w 10 ∷ []
+
+abbrev pub lfu-passes-by-uses : Row
+lfu-passes-by-uses = record {
+  sizes = sizesBy 2;
+  wear = 0 ∷ 0 ∷ 9 ∷ 0 ∷ 0 ∷ 0 ∷ [];
+  calls = byUses;
+  gives = record {
+    opening = openDone;
+    answers = way 3 ∷ way 3 ∷ way 5 ∷ way 5 ∷ way 5 ∷ readDone 2 ∷ readDone 2 ∷ way 2 ∷ readDone 2 ∷ readDone 2 ∷ readDone 2
+        ∷ writeDone 7 0 1 ∷ [];
+    pages = (1 ∷ []) ∷ (3 ∷ []) ∷ (5 ∷ []) ∷ (7 ∷ []) ∷ (9 ∷ []) ∷ (3 ∷ []) ∷ (3 ∷ []) ∷ (3 ∷ []) ∷ (5 ∷ []) ∷ (1 ∷ []) ∷ (1 ∷ [])
+        ∷ (11 ∷ []) ∷ [];
+    sizes = sizesBy 2;
+    slots = 8 ∷ 10 ∷ [];
+    frames = 3 ∷ 1 ∷ 2 ∷ [];
+    valid = 1 ∷ 1 ∷ 1 ∷ [];
+    recency = 1 ∷ 2 ∷ 0 ∷ [];
+    uses = 1 ∷ 4 ∷ 2 ∷ [];
+    flash = 1 ∷ 255 ∷ 255 ∷ 255 ∷ 255 ∷ 255 ∷ 255 ∷ 255 ∷ 255 ∷ 255 ∷ 255 ∷ 255 ∷ [];
+    pspace = 9 ∷ 11 ∷ [];
+    bspace = 7 ∷ 255 ∷ 3 ∷ 0 ∷ 5 ∷ 0 ∷ [];
+    wear = 1 ∷ 0 ∷ 9 ∷ 0 ∷ 0 ∷ 0 ∷ [];
+  };
+}
+
+-- LFU, one step: the frame that it takes keeps its place in the order of use.
+abbrev oneStep : List (Call Page)
+oneStep = w 0 ∷ w 2 ∷ w 4 ∷ w 6 ∷ w 8 ∷ r 2 ∷ w 2 ∷ r 4 ∷ r 0 ∷ r 0 ∷ step ∷ []
+
+abbrev pub lfu-step-stays : Row
+lfu-step-stays = record {
+  sizes = sizesBy 2;
+  wear = 0 ∷ 0 ∷ 0 ∷ 0 ∷ 0 ∷ 0 ∷ [];
+  calls = oneStep;
+  gives = record {
+    opening = openDone;
+    answers = way 3 ∷ way 3 ∷ way 5 ∷ way 5 ∷ way 5 ∷ readDone 2 ∷ way 2 ∷ readDone 2 ∷ readDone 2 ∷ readDone 2 ∷ stepDone 2 1 ∷ [];
+    pages = (1 ∷ []) ∷ (3 ∷ []) ∷ (5 ∷ []) ∷ (7 ∷ []) ∷ (9 ∷ []) ∷ (3 ∷ []) ∷ (3 ∷ []) ∷ (5 ∷ []) ∷ (1 ∷ []) ∷ (1 ∷ []) ∷ [] ∷ [];
+    sizes = sizesBy 2;
+    slots = 8 ∷ 6 ∷ [];
+    frames = 0 ∷ 1 ∷ vacant ∷ [];
+    valid = 1 ∷ 1 ∷ 0 ∷ [];
+    recency = 1 ∷ 2 ∷ 0 ∷ [];
+    uses = 3 ∷ 3 ∷ 0 ∷ [];
+    flash = 255 ∷ 255 ∷ 255 ∷ 255 ∷ 5 ∷ 255 ∷ 255 ∷ 255 ∷ 255 ∷ 255 ∷ 255 ∷ 255 ∷ [];
+    pspace = 9 ∷ 7 ∷ [];
+    bspace = 1 ∷ 0 ∷ 3 ∷ 0 ∷ 5 ∷ 255 ∷ [];
+    wear = 0 ∷ 0 ∷ 1 ∷ 0 ∷ 0 ∷ 0 ∷ [];
+  };
+}
+
 -- ---- from a record whose counts stand at the greatest number and one below it
 
 -- the directory from which the calls start, and the row otherwise
@@ -572,7 +657,8 @@ policies =
     ∷ lru-ties ∷ fifo-ties ∷ lfu-ties
     ∷ lru-exchanges ∷ fifo-exchanges ∷ lfu-exchanges
     ∷ lru-refuses ∷ fifo-refuses ∷ lfu-refuses
-    ∷ fifo-passes ∷ lfu-passes ∷ []
+    ∷ fifo-passes ∷ lfu-passes
+    ∷ lfu-takes-the-fewest ∷ lfu-passes-by-uses ∷ lfu-step-stays ∷ []
 
 abbrev pub counts : List Begun
 counts = held-up ∷ []

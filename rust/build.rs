@@ -1,6 +1,8 @@
 //! Finds the proved archive, and has `rt` build it where it is missing or older than the Rattle sources.
+use std::fs::{File, OpenOptions};
+use std::io::{self, BufRead, BufReader, Write};
 use std::path::{Path, PathBuf};
-use std::process::Command;
+use std::process::{Command, Stdio};
 use std::time::SystemTime;
 use std::{env, fs};
 
@@ -52,14 +54,49 @@ fn changed(path: &Path) -> Option<SystemTime> {
 }
 
 fn build(root: &Path) {
-    let kit = fs::read_to_string(root.join("KIT")).unwrap_or_default();
-    match Command::new("rt").args(["staticlib", "clash_c"]).current_dir(root).output() {
-        Err(e) => {
-            panic!("{ARCHIVE} is missing or old, and there is no command `rt` to build it ({e}). It needs the Rattle kit: {}", kit.trim())
+    let pinned = fs::read_to_string(root.join("KIT")).unwrap_or_default();
+    let pinned = pinned.trim();
+    let found = match Command::new("rt").arg("version").output() {
+        Ok(done) => String::from_utf8_lossy(&done.stdout).trim().to_string(),
+        Err(e) => panic!("{ARCHIVE} is missing or old, and there is no command `rt` to build it ({e}). It needs the Rattle kit: {pinned}"),
+    };
+    let mut words = words();
+    if found != pinned {
+        say(&mut words, &format!("clash: another Rattle kit: found '{found}', and KIT names '{pinned}'. The kit found goes on."));
+    }
+    say(&mut words, &format!("clash: proving and building {ARCHIVE}; about ten minutes on two cores if nothing is proved yet"));
+    let said = prove(root, &mut words).unwrap_or_else(|e| panic!("`rt staticlib clash_c` could not be run: {e}"));
+    if let Err(said) = said {
+        panic!("`rt staticlib clash_c` failed:\n{said}");
+    }
+    say(&mut words, "clash: built");
+}
+
+/// Runs the kit, and passes on its lines that a crate is proved as they come. Gives all that it said where it fails.
+fn prove(root: &Path, words: &mut Option<File>) -> io::Result<Result<(), String>> {
+    let mut rt = Command::new("sh").args(["-c", "exec rt staticlib clash_c 2>&1"]).current_dir(root).stdout(Stdio::piped()).spawn()?;
+    let mut said = String::new();
+    for line in BufReader::new(rt.stdout.take().expect("piped")).lines() {
+        let line = line?;
+        if line.contains(" proved (") && line.ends_with(" s)") {
+            say(words, &line);
         }
-        Ok(done) if !done.status.success() => {
-            panic!("`rt staticlib clash_c` failed:\n{}{}", String::from_utf8_lossy(&done.stdout), String::from_utf8_lossy(&done.stderr))
-        }
-        Ok(_) => {}
+        said = said + &line + "\n";
+    }
+    Ok(if rt.wait()?.success() { Ok(()) } else { Err(said) })
+}
+
+/// Cargo keeps what a build script writes until the script fails; what takes minutes should be said at once. So it goes to the standard
+/// error of cargo itself, where that is a terminal or a pipe: in a file cargo would write over it.
+fn words() -> Option<File> {
+    let cargo = std::os::unix::process::parent_id();
+    let file = OpenOptions::new().append(true).open(format!("/proc/{cargo}/fd/2")).ok()?;
+    (!file.metadata().ok()?.is_file()).then_some(file)
+}
+
+fn say(words: &mut Option<File>, line: &str) {
+    let said = words.as_mut().map(|file| writeln!(file, "{line}"));
+    if !matches!(said, Some(Ok(()))) {
+        eprintln!("{line}");
     }
 }

@@ -2,7 +2,8 @@
  *
  * A call takes the record by value and gives the next one with its answer; keep that one for the next call. The caller owns
  * all memory and lends it for the time of a call: a pointer and the number of elements, in the order
- * flash, codes, marks, wear, p-space, b-space, shelf. Buffers must not overlap. Nothing is kept of them between calls.
+ * flash, codes, marks, wear, p-space, b-space, shelf. Nothing is kept of them between calls. No two of the buffers of a call may
+ * overlap, `page` and `bytes` included. clash_store.h has a struct of them, and calls with fewer arguments.
  *
  *   flash    blocks * pages_per_block * page_size bytes, the chip
  *   codes    0 bytes; of a coded store 3 for each 256 bytes of flash, those of an erased page 255
@@ -13,7 +14,8 @@
  *   shelf    0 bytes
  *   page     page_size bytes, for read, write and part
  *
- * Marks and shelf belong to options that no store has yet. A buffer of length 0 is lent with any pointer but NULL.
+ * Marks and shelf belong to options that no store has yet. No pointer may be NULL, also where the length is 0: the archive is compiled
+ * for pointers that are not, and what it does with one is not defined. Lend the address of any byte (clash_store.h does).
  * A buffer of another length is refused, and a refused call changes nothing: neither the record nor a byte lent. */
 #ifndef CLASH_H
 #define CLASH_H
@@ -100,11 +102,22 @@ typedef struct {
     clash_answer answer;
 } clash_reply;
 
-#ifdef __cplusplus
-static_assert(sizeof(clash_cache) == 720 && sizeof(clash_reply) == 744, "the record and the reply have the archive's layout");
+/* The layout that the archive was compiled for. */
+#if defined(__cplusplus) && __cplusplus >= 201103L
+#define CLASH_ASSERT(condition, text) static_assert(condition, text)
+#elif defined(__STDC_VERSION__) && __STDC_VERSION__ >= 201112L
+#define CLASH_ASSERT(condition, text) _Static_assert(condition, text)
 #else
-_Static_assert(sizeof(clash_cache) == 720 && sizeof(clash_reply) == 744, "the record and the reply have the archive's layout");
+#define CLASH_ASSERT(condition, text) extern char clash_assertion[(condition) ? 1 : -1]
 #endif
+CLASH_ASSERT(sizeof(size_t) == 8 && sizeof(void *) == 8, "the archive is for x86-64");
+CLASH_ASSERT(sizeof(clash_sizes) == 24 && sizeof(clash_options) == 16 && sizeof(clash_directory) == 648, "the parts of the record");
+CLASH_ASSERT(sizeof(clash_cache) == 720 && sizeof(clash_answer) == 24 && sizeof(clash_reply) == 744, "record, answer and reply");
+CLASH_ASSERT(offsetof(clash_cache, options) == 24 && offsetof(clash_cache, entries) == 40, "options and entries in the record");
+CLASH_ASSERT(offsetof(clash_cache, directory) == 72 && offsetof(clash_reply, answer) == 720, "directory and answer");
+CLASH_ASSERT(offsetof(clash_directory, valid) == 8 && offsetof(clash_directory, uses) == 72, "valid sets and uses in the directory");
+CLASH_ASSERT(offsetof(clash_directory, frames) == 104 && offsetof(clash_directory, slots) == 136, "frames and slots in the directory");
+CLASH_ASSERT(offsetof(clash_answer, block) == 8 && offsetof(clash_answer, mended) == 20, "block and mends in the answer");
 
 /* Changes no buffer. A refused opening gives the blank record. */
 clash_reply clash_open(clash_sizes sizes, clash_options options,

@@ -1,6 +1,6 @@
 /* Keeps a chip image in a file: writes runs of pages, flushes, closes, opens again, reads back and verifies.
  * The image is the flash and then the wear; the cache itself lives only as long as the program. */
-#include "clash.h"
+#include "clash_store.h"
 #include <stdio.h>
 #include <stdlib.h>
 #include <string.h>
@@ -8,24 +8,31 @@
 enum { PAGE = 256, PER_BLOCK = 16, BLOCKS = 64, SLOTS = 32, FRAMES = 4, PAGES = PER_BLOCK * BLOCKS };
 
 static const clash_sizes sizes = { PAGE, PER_BLOCK, BLOCKS, SLOTS, FRAMES, 100000 };
-static const clash_options options = { 0, 0, 0, 0 };
-static uint8_t flash[PAGES * PAGE], pspace[SLOTS * PAGE], bspace[FRAMES * PER_BLOCK * PAGE], none[1];
+static const clash_options options = { CLASH_LRU, 0, 0, 0 };
+static uint8_t flash[CLASH_FLASH_BYTES(PAGE, PER_BLOCK, BLOCKS)];
+static uint8_t pspace[CLASH_PSPACE_BYTES(PAGE, SLOTS)], bspace[CLASH_BSPACE_BYTES(PAGE, PER_BLOCK, FRAMES)];
 static uint32_t wear[BLOCKS];
-static clash_cache cache;
+static clash_store store;
 
-/* A store without options has no codes, no marks and no shelf. */
-#define LENT flash, sizeof flash, none, 0, none, 0, wear, BLOCKS, pspace, sizeof pspace, bspace, sizeof bspace, none, 0
-
-static void stop(const char *what, unsigned number) {
-    fprintf(stderr, "%s: refused %u\n", what, number);
-    exit(1);
+/* A store without options has no codes, no marks and no shelf: these stay NULL. */
+static void lend(void) {
+    store.flash = flash;
+    store.flash_bytes = sizeof flash;
+    store.wear = wear;
+    store.wear_count = BLOCKS;
+    store.pspace = pspace;
+    store.pspace_bytes = sizeof pspace;
+    store.bspace = bspace;
+    store.bspace_bytes = sizeof bspace;
 }
 
-/* Takes the next record, or stops at a refusal. */
-static clash_answer next(clash_reply r, const char *what) {
-    cache = r.cache;
-    if (r.answer.refusal != CLASH_ACCEPTED) stop(what, r.answer.refusal);
-    return r.answer;
+/* Gives the answer of an accepted call, and stops at a refusal. */
+static clash_answer done(clash_answer a, const char *what) {
+    if (a.refusal != CLASH_ACCEPTED) {
+        fprintf(stderr, "%s: refused %u: %s\n", what, a.refusal, clash_refusal_text(a.refusal));
+        exit(1);
+    }
+    return a;
 }
 
 static void load(const char *image) {
@@ -56,25 +63,26 @@ int main(int argc, char **argv) {
     uint32_t run, n, erased = 0;
 
     memset(flash, 255, sizeof flash);
-    next(clash_open(sizes, options, LENT), "open");
+    lend();
+    done(clash_store_open(&store, sizes, options), "open");
     for (run = 0; run < 3; run++)
         for (n = run; n < PAGES; n += 3 + run) {
             fill(page, n, run);
-            erased += next(clash_write(cache, LENT, n, page, PAGE), "write").block != CLASH_VACANT;
+            erased += done(clash_store_write(&store, n, page), "write").block != CLASH_VACANT;
         }
-    clash_answer a = next(clash_flush(cache, LENT), "flush");
+    clash_answer a = done(clash_store_flush(&store), "flush");
     printf("wrote 3 runs: %u blocks erased, then a flush of %u\n", erased, a.rewrites);
     save(image);
 
     memset(flash, 0, sizeof flash);
     memset(wear, 0, sizeof wear);
     load(image);
-    next(clash_open(sizes, options, LENT), "open again");
+    done(clash_store_open(&store, sizes, options), "open again");
     for (n = 0; n < PAGES; n++) {
         memset(want, 255, PAGE);
         for (run = 0; run < 3; run++)
             if (n >= run && (n - run) % (3 + run) == 0) fill(want, n, run);
-        next(clash_read(cache, LENT, n, page, PAGE), "read");
+        done(clash_store_read(&store, n, page), "read");
         if (memcmp(page, want, PAGE)) {
             fprintf(stderr, "page %u differs\n", n);
             return 1;

@@ -55,12 +55,14 @@ impl fmt::Display for Refusal {
     fn fmt(&self, out: &mut fmt::Formatter) -> fmt::Result {
         match self {
             Refusal::Size => out.write_str("a size, the wear limit or an option is beyond its limits"),
-            Refusal::Buffer => out.write_str("a lent buffer has another length than the sizes ask for"),
+            Refusal::Buffer => {
+                out.write_str("a lent buffer has another length than sizes and options ask for, or a part write reaches past the page")
+            }
             Refusal::Overworn => out.write_str("a wear entry is above the wear limit"),
             Refusal::Record => out.write_str("the record is not sound"),
             Refusal::Page => out.write_str("there is no such page"),
             Refusal::Worn(block) => write!(out, "block {block} is worn"),
-            Refusal::Unreadable => out.write_str("a flash page cannot be read"),
+            Refusal::Unreadable => out.write_str("a flash page cannot be read by its codes"),
         }
     }
 }

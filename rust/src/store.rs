@@ -1,7 +1,18 @@
 use crate::{Answer, Buffers, Cache, Options, Refusal, Sizes};
 
 /// An open store. It keeps the record; the buffers are the caller's and are lent to each call.
-#[derive(Clone, Debug, PartialEq, Eq)]
+///
+/// It cannot be copied: a copy would keep a record that the buffers have gone on from. Who wants that, as a test, takes the
+/// [`Cache`](crate::Cache) of [`Store::record`].
+///
+/// ```compile_fail,E0599
+/// use clash::{Memory, Options, Sizes, Store};
+///
+/// let sizes = Sizes::from([1, 2, 3, 2, 1, 9]);
+/// let store = Store::open(sizes, Options::default(), &Memory::new(&sizes).lend()).unwrap();
+/// let copy = store.clone();
+/// ```
+#[derive(Debug, PartialEq, Eq)]
 pub struct Store {
     cache: Cache,
 }

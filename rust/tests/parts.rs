@@ -1,5 +1,5 @@
 //! Part writes: each way, with what is left in the page buffer (P7 of document 01, two bytes a page).
-use clash::{Answer, Cache, Memory, Options, Sizes};
+use clash::{Answer, Cache, Memory, Options, Refusal, Sizes};
 
 struct Bench {
     cache: Cache,
@@ -49,4 +49,13 @@ fn way_0_changes_nothing() {
         assert_eq!(b.part(n, first, &[]), (0, [7, 7]));
     }
     assert_eq!((b.cache, b.memory), before);
+}
+
+/// The refusal of bytes that reach past the page says so in its words.
+#[test]
+fn a_reach_past_the_page_is_said() {
+    let mut b = bench();
+    let refused = b.cache.part(&mut b.memory.lend(), 0, 1, &[10, 11], &mut [7, 7]).unwrap_err();
+    assert_eq!(refused, Refusal::Buffer);
+    assert!(refused.to_string().contains("a part write reaches past the page"), "{refused}");
 }

@@ -11,21 +11,21 @@ const CALLS: u32 = 400;
 
 /// One store with all that it is lent.
 #[derive(Clone, PartialEq, Debug)]
-struct Side {
-    cache: Cache,
-    memory: Memory,
-    page: Vec<u8>,
+pub struct Side {
+    pub cache: Cache,
+    pub memory: Memory,
+    pub page: Vec<u8>,
 }
 
 /// What occurred, so that it can be said what was compared.
 #[derive(Default)]
-struct Tally {
-    calls: u32,
-    reads: [u32; 3],
-    writes: [u32; 8],
-    rewrites: u32,
-    mended: u32,
-    refused: [u32; 7],
+pub struct Tally {
+    pub calls: u32,
+    pub reads: [u32; 3],
+    pub writes: [u32; 8],
+    pub rewrites: u32,
+    pub mended: u32,
+    pub refused: [u32; 7],
 }
 
 pub fn agree(random: &mut Random) {
@@ -156,7 +156,7 @@ fn spoil(random: &mut Random, side: &mut Side) {
 }
 
 #[derive(Clone, Copy, Debug)]
-enum Call {
+pub enum Call {
     Flush,
     Step,
     Read(u32),
@@ -186,7 +186,7 @@ fn bytes(first: u32, many: usize) -> Vec<u8> {
 }
 
 impl Side {
-    fn proved(&mut self, call: Call) -> Said {
+    pub fn proved(&mut self, call: Call) -> Said {
         let (lent, page) = (&mut self.memory.lend(), &mut self.page);
         both::said(match call {
             Call::Flush => self.cache.flush(lent),
@@ -197,7 +197,7 @@ impl Side {
         })
     }
 
-    fn plain(&mut self, call: Call) -> Said {
+    pub fn plain(&mut self, call: Call) -> Said {
         let (lent, page) = (&mut both::lent(self.memory.lend()), &mut self.page);
         let mut plain = both::plain(self.cache);
         let answer = match call {
@@ -213,7 +213,7 @@ impl Side {
 }
 
 impl Tally {
-    fn count(&mut self, answer: Said) {
+    pub fn count(&mut self, answer: Said) {
         self.calls += 1;
         match answer {
             Ok(Answer::Read { way, .. }) => self.reads[way as usize - 1] += 1,

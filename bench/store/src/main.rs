@@ -3,6 +3,7 @@
 mod agree;
 mod both;
 mod cases;
+mod large;
 mod numbers;
 mod random;
 mod rows;
@@ -21,6 +22,7 @@ const MIDDLE: [u32; 6] = [256, 16, 256, 32, 4, 1_000_000];
 fn main() {
     let mut random = Random(88172645463325252);
     agree::agree(&mut random);
+    large::agree(&mut random);
     println!("Median ns for one call. The sides use the same buffers, which are filled before and not cleared between calls.");
     println!("Plain Rust changes the record in place; \"by value\" takes it and hands it back, as the proved calls do.");
     for sizes in SIZES {

@@ -228,6 +228,21 @@ fn worn() {
     assert_eq!(cache.flush(&mut memory.lend()), Ok(Answer::Flush { rewrites: 3, merged: 7, mended: 0 }));
 }
 
+/// The limit raised in the record: what was cached comes to flash, as `docs/INTEGRATING.md` says.
+#[test]
+fn the_limit_raised_in_place() {
+    let (cache, mut memory) = filled();
+    memory.wear = vec![9; 3];
+    let mut store = cache;
+    assert_eq!(store.flush(&mut memory.lend()), Err(Refusal::Worn(0)));
+    store.sizes.wear_limit = 10;
+    assert_eq!(store.flush(&mut memory.lend()), Ok(Answer::Flush { rewrites: 3, merged: 8, mended: 0 }));
+    assert_eq!((memory.wear.as_slice(), &memory.flash[16..20]), (&[10; 3][..], &[8, 7, 9, 7][..]));
+    let sizes = Sizes { wear_limit: 10, ..Sizes::from(SIZES) };
+    assert!(Cache::open(sizes, Options::default(), &memory.lend()).is_ok());
+    assert_eq!(Cache::open(Sizes::from(SIZES), Options::default(), &memory.lend()), Err(Refusal::Overworn));
+}
+
 /// Frames of blocks 2, 1 and 0, least recent that of block 1 and most recent that of block 2; pages 10 and 8 in slots.
 fn three_frames(wear: [u32; 6]) -> (Cache, Memory) {
     let sizes = Sizes::from([1, 2, 6, 2, 3, 9]);

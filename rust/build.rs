@@ -1,4 +1,5 @@
-//! Finds the proved archive, and has `rt` build it where it is missing or older than the Rattle sources.
+//! Finds the proved archive, and has `rt` build it where it is missing or older than the Rattle sources. In a release, which has no Rattle
+//! sources, the archive is the one in `lib/`.
 use std::fs::{File, OpenOptions};
 use std::io::{self, BufRead, BufReader, Write};
 use std::path::{Path, PathBuf};
@@ -7,20 +8,29 @@ use std::time::SystemTime;
 use std::{env, fs};
 
 const ARCHIVE: &str = "target/staticlib/libclash_c.a";
+const RELEASED: &str = "lib/libclash_c.a";
 
 fn main() {
     let root = repository();
+    let released = root.join(RELEASED);
+    println!("cargo:rerun-if-changed={}", released.display());
+    let archive = if released.exists() { released } else { archive(&root) };
+    let folder = archive.parent().expect("the archive's folder");
+    println!("cargo:rustc-link-search=native={}", folder.display());
+    println!("cargo:rustc-link-lib=static=clash_c");
+}
+
+/// The archive of a repository, built where it has to be.
+fn archive(root: &Path) -> PathBuf {
     let archive = root.join(ARCHIVE);
-    let sources = sources(&root);
+    let sources = sources(root);
     for path in sources.iter().chain([&archive]) {
         println!("cargo:rerun-if-changed={}", path.display());
     }
     if is_stale(&archive, &sources) {
-        build(&root);
+        build(root);
     }
-    let folder = archive.parent().expect("the archive's folder");
-    println!("cargo:rustc-link-search=native={}", folder.display());
-    println!("cargo:rustc-link-lib=static=clash_c");
+    archive
 }
 
 fn repository() -> PathBuf {

@@ -17,10 +17,10 @@
 #include "clash.h"
 
 /* How long buffers are, for arrays: S bytes a page, K pages a block, N blocks, P slots, B frames. Wear has N numbers. */
-#define CLASH_FLASH_BYTES(S, K, N) ((size_t)(N) * (K) * (S))
-#define CLASH_CODES_BYTES(S, K, N) ((size_t)(N) * (K) * ((S) / 256) * 3)
-#define CLASH_PSPACE_BYTES(S, P) ((size_t)(P) * (S))
-#define CLASH_BSPACE_BYTES(S, K, B) ((size_t)(B) * (K) * (S))
+#define CLASH_FLASH_BYTES(S, K, N) ((size_t)(N) * (size_t)(K) * (size_t)(S))
+#define CLASH_CODES_BYTES(S, K, N) ((size_t)(N) * (size_t)(K) * ((size_t)(S) / 256 * 3))
+#define CLASH_PSPACE_BYTES(S, P) ((size_t)(P) * (size_t)(S))
+#define CLASH_BSPACE_BYTES(S, K, B) ((size_t)(B) * (size_t)(K) * (size_t)(S))
 
 /* The same of sizes and options that an opening takes. */
 static inline size_t clash_flash_bytes(clash_sizes z) {

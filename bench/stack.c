@@ -1,5 +1,6 @@
 /* Measures the stack that each call needs: the call runs on a stack painted with one byte, and what it painted over is counted,
- * the caller's copies of the record included. Largest page size and cache, 6,000 random calls; with an argument the store is coded. */
+ * the caller's copies of the record included. Largest page size and cache, 6,000 random calls; with the argument "coded" the store is
+ * coded, with a number it has so many shelf pages. */
 #include "clash.h"
 #include <pthread.h>
 #include <stdio.h>
@@ -8,19 +9,19 @@
 
 enum { PAGE = 2048, PER_BLOCK = 64, BLOCKS = 64, SLOTS = 128, FRAMES = 8, PAGES = PER_BLOCK * BLOCKS };
 enum { STACK = 1 << 18, PAINT = 0xA5, CALLS = 6000 };
-enum kind { NOTHING, OPEN, READ, WRITE, PART, STEP, FLUSH };
+enum kind { NOTHING, OPEN, READ, WRITE, PART, BACK, STEP, FLUSH };
 
 static const clash_sizes sizes = { PAGE, PER_BLOCK, BLOCKS, SLOTS, FRAMES, 1000000 };
 static clash_options options = { 0, 0, 0, 0 };
 static uint8_t flash[PAGES * PAGE], pspace[SLOTS * PAGE], bspace[FRAMES * PER_BLOCK * PAGE], none[1], page[PAGE], bytes[40];
-static uint8_t codes[PAGES * (PAGE / 256) * 3];
-static size_t codes_len;
+static uint8_t codes[PAGES * (PAGE / 256) * 3], shelf[8 * PAGE];
+static size_t codes_len, shelf_len;
 static uint32_t wear[BLOCKS], n;
 static enum kind kind;
 static clash_reply reply;
 
-/* No marks and no shelf. */
-#define LENT flash, sizeof flash, codes, codes_len, none, 0, wear, BLOCKS, pspace, sizeof pspace, bspace, sizeof bspace, none, 0
+/* No marks. */
+#define LENT flash, sizeof flash, codes, codes_len, none, 0, wear, BLOCKS, pspace, sizeof pspace, bspace, sizeof bspace, shelf, shelf_len
 
 static void *call(void *unused) {
     switch (kind) {
@@ -28,6 +29,7 @@ static void *call(void *unused) {
     case READ: reply = clash_read(reply.cache, LENT, n, page, PAGE); break;
     case WRITE: reply = clash_write(reply.cache, LENT, n, page, PAGE); break;
     case PART: reply = clash_part(reply.cache, LENT, n, 100, bytes, n % 41, page, PAGE); break;
+    case BACK: reply = clash_take_back(reply.cache, LENT); break;
     case STEP: reply = clash_step(reply.cache, LENT); break;
     case FLUSH: reply = clash_flush(reply.cache, LENT); break;
     case NOTHING: break;
@@ -56,17 +58,26 @@ static void keep(size_t *most, size_t now) {
 }
 
 /* The code of a chunk of zeros is 255 in each byte. */
-static void set_options(int coded) {
+static void set_options(int coded, uint32_t shelf_pages) {
     options.coded = coded;
+    options.shelf_pages = shelf_pages;
     codes_len = coded ? sizeof codes : 0;
+    shelf_len = shelf_pages * PAGE;
     memset(codes, 255, sizeof codes);
 }
 
+/* Taking back what stands on the shelf, or of some page in its place: so it goes every way. */
+static size_t used_back(void) {
+    uint32_t latest = options.shelf_pages;
+    while (latest > 0 && reply.cache.entries[latest - 1] == CLASH_VACANT) latest--;
+    if (latest > 0 && n % 2) reply.cache.entries[latest - 1] = n;
+    return latest > 0 ? used(BACK) : 0;
+}
+
 int main(int words, char **word) {
-    size_t none, open, read[4] = { 0 }, write[8] = { 0 }, part[8] = { 0 }, step = 0, flush = 0;
+    size_t none, open, read[4] = { 0 }, write[8] = { 0 }, part[8] = { 0 }, back[8] = { 0 }, step = 0, flush = 0;
     uint32_t i, state = 1;
-    (void)word;
-    set_options(words > 1);
+    set_options(words > 1 && !strcmp(word[1], "coded"), words > 1 ? (uint32_t)atoi(word[1]) : 0);
     none = used(NOTHING);
     open = used(OPEN) - none;
     for (i = 0; i < CALLS; i++) {
@@ -76,6 +87,7 @@ int main(int words, char **word) {
         else if (i % 400 == 399) keep(&step, used(STEP) - none);
         else if (state >> 29 == 0) { size_t u = used(READ) - none; keep(&read[reply.answer.way], u); }
         else if (state >> 29 < 4) { size_t u = used(PART) - none; keep(&part[reply.answer.way], u); }
+        else if (state >> 28 == 8 && options.shelf_pages) { size_t u = used_back(); if (u) keep(&back[reply.answer.way], u - none); }
         else { size_t u = used(WRITE) - none; keep(&write[reply.answer.way], u); }
         if (reply.answer.refusal != CLASH_ACCEPTED) return 1;
     }
@@ -83,6 +95,7 @@ int main(int words, char **word) {
     for (i = 1; i <= 3; i++) printf("read %u  %zu\n", i, read[i]);
     for (i = 1; i <= 7; i++) printf("write %u %zu\n", i, write[i]);
     for (i = 0; i <= 7; i++) printf("part %u  %zu\n", i, part[i]);
+    for (i = 1; i <= 7; i++) printf("back %u  %zu\n", i, back[i]);
     printf("step    %zu\nflush   %zu\n", step, flush);
     return 0;
 }

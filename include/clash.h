@@ -11,10 +11,10 @@
  *   wear     blocks numbers: how often each block was erased (aligned as uint32_t)
  *   pspace   slots * page_size bytes
  *   bspace   frames * pages_per_block * page_size bytes
- *   shelf    0 bytes
+ *   shelf    shelf_pages * page_size bytes
  *   page     page_size bytes, for read, write and part
  *
- * Marks and shelf belong to options that no store has yet. No pointer may be NULL, also where the length is 0: the archive is compiled
+ * Marks belong to an option that no store has yet. No pointer may be NULL, also where the length is 0: the archive is compiled
  * for pointers that are not, and what it does with one is not defined. Lend the address of any byte (clash_store.h does).
  * A buffer of another length is refused, and a refused call changes nothing: neither the record nor a byte lent. */
 #ifndef CLASH_H
@@ -37,13 +37,14 @@ extern "C" {
 /* Why a call is turned down; 0 is an accepted call. */
 enum {
     CLASH_ACCEPTED = 0,
-    CLASH_SIZE = 1,      /* open: a size, the wear limit or an option is beyond its limits */
-    CLASH_BUFFER = 2,    /* a lent buffer has another length than sizes and options ask for; part: the bytes reach past the page */
-    CLASH_OVERWORN = 3,  /* open: a wear entry is above the wear limit */
-    CLASH_RECORD = 4,    /* the record is not sound; the blank one is not */
-    CLASH_PAGE = 5,      /* there is no such page */
-    CLASH_WORN = 6,      /* a rewrite is due for block `block`, whose wear has reached the limit */
-    CLASH_UNREADABLE = 7 /* of a coded store: a flash page that the call reads or merges cannot be read by its codes */
+    CLASH_SIZE = 1,       /* open: a size, the wear limit or an option is beyond its limits */
+    CLASH_BUFFER = 2,     /* a lent buffer has another length than sizes and options ask for; part: the bytes reach past the page */
+    CLASH_OVERWORN = 3,   /* open: a wear entry is above the wear limit */
+    CLASH_RECORD = 4,     /* the record is not sound; the blank one is not */
+    CLASH_PAGE = 5,       /* there is no such page */
+    CLASH_WORN = 6,       /* a rewrite is due for block `block`, whose wear has reached the limit */
+    CLASH_UNREADABLE = 7, /* of a coded store: a flash page that the call reads or merges cannot be read by its codes */
+    CLASH_EMPTY = 8       /* take_back: no write is on the shelf */
 };
 
 typedef struct {
@@ -62,11 +63,11 @@ enum {
     CLASH_LFU = 2   /* the one with the fewest uses, among equals the least recent */
 };
 
-/* What a store may have beside its sizes. Policy and codes are in force: the others must be 0. */
+/* What a store may have beside its sizes. Policy, codes and shelf are in force: marked must be 0. */
 typedef struct {
     uint32_t policy;      /* CLASH_LRU, CLASH_FIFO or CLASH_LFU */
     uint32_t coded;       /* 1: pages have codes, and page_size is a multiple of 256; 0: they have none */
-    uint32_t shelf_pages; /* 0: nothing is shelved */
+    uint32_t shelf_pages; /* 0 to 8: so many earlier pages are kept, for clash_take_back; 0: none */
     uint32_t marked;      /* 0: pages have no marks */
 } clash_options;
 
@@ -82,7 +83,7 @@ typedef struct {
 typedef struct {
     clash_sizes sizes;
     clash_options options;
-    uint32_t entries[8]; /* of the shelf: all CLASH_VACANT */
+    uint32_t entries[8]; /* of the shelf: the page whose earlier contents shelf page i has, oldest first, then CLASH_VACANT */
     clash_directory directory;
 } clash_cache;
 
@@ -90,10 +91,10 @@ typedef struct {
  * that erased none, a step that found nothing cached, and every refusal but 6. All but refusal and block is 0 where a call is refused. */
 typedef struct {
     uint32_t refusal;
-    uint32_t way;      /* read: 1 slot, 2 frame, 3 flash; write: 1 to 7; part: as write, 0 without bytes */
-    uint32_t block;    /* write, part: the block erased; step: the block rewritten; refusal 6: the worn block */
+    uint32_t way;      /* read: 1 slot, 2 frame, 3 flash; write, take_back: 1 to 7; part: as write, 0 without bytes */
+    uint32_t block;    /* write, part, take_back: the block erased; step: the block rewritten; refusal 6: the worn block */
     uint32_t rewrites; /* flush: blocks rewritten; step: 1, or 0 where nothing was cached */
-    uint32_t merged;   /* merge reads of write, part, step and flush */
+    uint32_t merged;   /* merge reads of write, part, take_back, step and flush */
     uint32_t mended;   /* chunks of 256 bytes that the codes mended, data or code, of the flash pages that the call read, each page once */
 } clash_answer;
 
@@ -132,7 +133,7 @@ clash_reply clash_read(clash_cache cache,
     const uint8_t *shelf, size_t shelf_bytes, uint32_t n, uint8_t *page, size_t page_bytes);
 
 /* Stores page as page n. Refused 6 only where every frame holds a worn block; the one named is the one that
- * the policy would take. */
+ * the policy would take. With shelf pages, what page n held before is put on the shelf; the oldest leaves where all are in use. */
 clash_reply clash_write(clash_cache cache,
     uint8_t *flash, size_t flash_bytes, uint8_t *codes, size_t codes_bytes, uint8_t *marks, size_t marks_bytes,
     uint32_t *wear, size_t wear_count, uint8_t *pspace, size_t pspace_bytes, uint8_t *bspace, size_t bspace_bytes,
@@ -145,6 +146,13 @@ clash_reply clash_part(clash_cache cache,
     uint32_t *wear, size_t wear_count, uint8_t *pspace, size_t pspace_bytes, uint8_t *bspace, size_t bspace_bytes,
     uint8_t *shelf, size_t shelf_bytes, uint32_t n, uint32_t first,
     const uint8_t *bytes, size_t byte_count, uint8_t *page, size_t page_bytes);
+
+/* Takes the latest write or part write back whose earlier page is on the shelf: stores that page, as a write does, and drops its entry.
+ * The shelf is not changed. */
+clash_reply clash_take_back(clash_cache cache,
+    uint8_t *flash, size_t flash_bytes, uint8_t *codes, size_t codes_bytes, uint8_t *marks, size_t marks_bytes,
+    uint32_t *wear, size_t wear_count, uint8_t *pspace, size_t pspace_bytes, uint8_t *bspace, size_t bspace_bytes,
+    const uint8_t *shelf, size_t shelf_bytes);
 
 /* Rewrites one block that has pages cached. */
 clash_reply clash_step(clash_cache cache,

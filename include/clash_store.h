@@ -22,6 +22,8 @@
 #define CLASH_PSPACE_BYTES(S, P) ((size_t)(P) * (size_t)(S))
 #define CLASH_BSPACE_BYTES(S, K, B) ((size_t)(B) * (size_t)(K) * (size_t)(S))
 
+#define CLASH_SHELF_BYTES(S, H) ((size_t)(H) * (size_t)(S)) /* H shelf pages */
+
 /* The same of sizes and options that an opening takes. */
 static inline size_t clash_flash_bytes(clash_sizes z) {
     return CLASH_FLASH_BYTES(z.page_size, z.pages_per_block, z.blocks);
@@ -39,6 +41,10 @@ static inline size_t clash_bspace_bytes(clash_sizes z) {
     return CLASH_BSPACE_BYTES(z.page_size, z.pages_per_block, z.frames);
 }
 
+static inline size_t clash_shelf_bytes(clash_sizes z, clash_options o) {
+    return CLASH_SHELF_BYTES(z.page_size, o.shelf_pages);
+}
+
 /* What a refusal means, in a few words. */
 static inline const char *clash_refusal_text(uint32_t refusal) {
     switch (refusal) {
@@ -50,6 +56,7 @@ static inline const char *clash_refusal_text(uint32_t refusal) {
     case CLASH_PAGE: return "there is no such page";
     case CLASH_WORN: return "a block that has to be rewritten is worn";
     case CLASH_UNREADABLE: return "a flash page cannot be read by its codes";
+    case CLASH_EMPTY: return "there is no write on the shelf to take back";
     default: return "no refusal of this store";
     }
 }
@@ -109,6 +116,11 @@ static inline clash_answer clash_store_part(
     clash_store *store, uint32_t n, uint32_t first, const uint8_t *bytes, size_t count, uint8_t *page) {
     return clash_store_next(store, clash_part(store->cache, CLASH_LENT, n, first, CLASH_LEND(const uint8_t, bytes, count),
         CLASH_LEND(uint8_t, page, store->cache.sizes.page_size)));
+}
+
+/* Takes the latest write back whose earlier page is on the shelf. */
+static inline clash_answer clash_store_take_back(clash_store *store) {
+    return clash_store_next(store, clash_take_back(store->cache, CLASH_LENT));
 }
 
 /* Rewrites one block that has pages cached; `rewrites` is 0 where there is none. */

@@ -1,12 +1,14 @@
-/* Every call of clash_store.h on a small coded store, and refusals with their text; it stops where an answer is another than it must be. */
+/* Every call of clash_store.h on a small coded store with two shelf pages, and refusals with their text; it says where an answer is
+ * another than it must be. */
 #include "clash_store.h"
 #include <stdio.h>
 #include <string.h>
 
-enum { PAGE = 256, PER_BLOCK = 2, BLOCKS = 3, SLOTS = 2, FRAMES = 1 };
+enum { PAGE = 256, PER_BLOCK = 2, BLOCKS = 3, SLOTS = 2, FRAMES = 1, SHELF = 2 };
 
 static uint8_t flash[CLASH_FLASH_BYTES(PAGE, PER_BLOCK, BLOCKS)], codes[CLASH_CODES_BYTES(PAGE, PER_BLOCK, BLOCKS)];
 static uint8_t pspace[CLASH_PSPACE_BYTES(PAGE, SLOTS)], bspace[CLASH_BSPACE_BYTES(PAGE, PER_BLOCK, FRAMES)];
+static uint8_t shelf[CLASH_SHELF_BYTES(PAGE, SHELF)];
 static uint32_t wear[BLOCKS];
 static int wrong;
 
@@ -18,9 +20,16 @@ static void say(const char *call, clash_answer a, uint32_t refusal, uint32_t way
     wrong += !right;
 }
 
+/* A page of one byte. */
+static const uint8_t *bytes_of(int byte) {
+    static uint8_t page[PAGE];
+    memset(page, byte, sizeof page);
+    return page;
+}
+
 int main(void) {
     clash_sizes sizes = { PAGE, PER_BLOCK, BLOCKS, SLOTS, FRAMES, 9 };
-    clash_options options = { CLASH_LRU, 1, 0, 0 };
+    clash_options options = { CLASH_LRU, 1, SHELF, 0 };
     clash_store store;
     uint8_t page[PAGE], bytes[3] = { 1, 2, 3 };
     uint32_t n;
@@ -42,10 +51,13 @@ int main(void) {
     store.pspace_bytes = clash_pspace_bytes(sizes);
     store.bspace = bspace;
     store.bspace_bytes = clash_bspace_bytes(sizes);
+    store.shelf = shelf;
+    store.shelf_bytes = clash_shelf_bytes(sizes, options);
     sizes.frames = 9;
     say("open, 9 frames", clash_store_open(&store, sizes, options), CLASH_SIZE, 0, 0, 0);
     sizes.frames = FRAMES;
     say("open", clash_store_open(&store, sizes, options), 0, 0, 0, 0);
+    say("take back, nothing written", clash_store_take_back(&store), CLASH_EMPTY, 0, 0, 0);
 
     for (n = 0; n < 4; n += 2) say("write 0 and 2", clash_store_write(&store, n, page), 0, 3, 0, 0);
     say("write 4", clash_store_write(&store, 4, page), 0, 5, 0, 0);
@@ -54,6 +66,10 @@ int main(void) {
     say("part of 4, too far", clash_store_part(&store, 4, PAGE - 2, bytes, 3, page), CLASH_BUFFER, 0, 0, 0);
     say("write 6", clash_store_write(&store, 6, page), CLASH_PAGE, 0, 0, 0);
     say("write without a page", clash_store_write(&store, 1, NULL), CLASH_BUFFER, 0, 0, 0);
+    say("read 4", clash_store_read(&store, 4, page), 0, 1, 0, 0);
+    wrong += page[9] != 7 || memcmp(page + 10, bytes, 3) || page[13] != 7;
+    say("write 4", clash_store_write(&store, 4, bytes_of(9)), 0, 1, 0, 0);
+    say("take back the last write", clash_store_take_back(&store), 0, 1, 0, 0);
     say("read 4", clash_store_read(&store, 4, page), 0, 1, 0, 0);
     wrong += page[9] != 7 || memcmp(page + 10, bytes, 3) || page[13] != 7;
     say("step", clash_store_step(&store), 0, 0, 1, 0);

@@ -6,7 +6,8 @@ use std::fmt;
 pub enum Answer {
     /// way 1 from a slot, 2 from a frame, 3 from flash
     Read { way: u32, mended: u32 },
-    /// of a page or of part of one: way 1 to 7, the block erased if any, and the merge reads; way 0 of a part write without bytes
+    /// of a page, of part of one or of one taken back: way 1 to 7, the block erased if any, and the merge reads; way 0 of a part write
+    /// without bytes
     Write { way: u32, erased: Option<u32>, merged: u32, mended: u32 },
     /// the block rewritten and its merge reads
     Step { block: u32, merged: u32, mended: u32 },
@@ -34,6 +35,8 @@ pub enum Refusal {
     Worn(u32),
     /// 7, of a coded store: a flash page that the call reads or merges cannot be read by its codes
     Unreadable,
+    /// 8, taking back: no write is on the shelf
+    Empty,
 }
 
 impl Refusal {
@@ -47,6 +50,7 @@ impl Refusal {
             Refusal::Page => 5,
             Refusal::Worn(_) => 6,
             Refusal::Unreadable => 7,
+            Refusal::Empty => 8,
         }
     }
 }
@@ -63,6 +67,7 @@ impl fmt::Display for Refusal {
             Refusal::Page => out.write_str("there is no such page"),
             Refusal::Worn(block) => write!(out, "block {block} is worn"),
             Refusal::Unreadable => out.write_str("a flash page cannot be read by its codes"),
+            Refusal::Empty => out.write_str("there is no write on the shelf to take back"),
         }
     }
 }

@@ -46,6 +46,12 @@ extern "C" {
         wear: *mut u32, wear_count: usize, pspace: *mut u8, pspace_bytes: usize, bspace: *mut u8, bspace_bytes: usize,
         shelf: *mut u8, shelf_bytes: usize, n: u32, first: u32, bytes: *const u8, byte_count: usize, page: *mut u8, page_bytes: usize,
     ) -> Reply;
+    fn clash_take_back(
+        cache: Cache,
+        flash: *mut u8, flash_bytes: usize, codes: *mut u8, codes_bytes: usize, marks: *mut u8, marks_bytes: usize,
+        wear: *mut u32, wear_count: usize, pspace: *mut u8, pspace_bytes: usize, bspace: *mut u8, bspace_bytes: usize,
+        shelf: *const u8, shelf_bytes: usize,
+    ) -> Reply;
     fn clash_step(
         cache: Cache,
         flash: *mut u8, flash_bytes: usize, codes: *mut u8, codes_bytes: usize, marks: *mut u8, marks_bytes: usize,
@@ -108,6 +114,12 @@ impl Cache {
         Ok(written(self.next(&reply)?))
     }
 
+    /// Takes the latest write or part write back whose earlier page is on the shelf.
+    pub fn take_back(&mut self, lent: &mut Buffers) -> Result<Answer, Refusal> {
+        let reply = call!(clash_take_back(*self; lent.as_mut_ptr;));
+        Ok(written(self.next(&reply)?))
+    }
+
     /// Rewrites one block that has pages cached.
     pub fn step(&mut self, lent: &mut Buffers) -> Result<Answer, Refusal> {
         let reply = call!(clash_step(*self; lent.as_mut_ptr;));
@@ -134,7 +146,7 @@ impl Cache {
     }
 }
 
-/// The answer of a write, of a page or of part of one.
+/// The answer of a write, of a page, of part of one or of one taken back.
 #[inline]
 fn written(a: &RawAnswer) -> Answer {
     let erased = if a.block == VACANT { None } else { Some(a.block) };
@@ -152,6 +164,7 @@ fn accepted(a: &RawAnswer) -> Result<(), Refusal> {
         5 => Err(Refusal::Page),
         6 => Err(Refusal::Worn(a.block)),
         7 => Err(Refusal::Unreadable),
+        8 => Err(Refusal::Empty),
         other => unreachable!("the store has no refusal {other}"),
     }
 }

@@ -1,7 +1,7 @@
 use crate::{Options, Sizes};
 
-/// The buffers of a store, lent for the time of a call. Those of options that the store does not have are empty; marks and shelf belong to
-/// options that no store has yet.
+/// The buffers of a store, lent for the time of a call. Those of options that the store does not have are empty; marks belong to an option
+/// that no store has yet.
 ///
 /// ```
 /// use clash::{Buffers, Options, Sizes, Store};
@@ -26,6 +26,7 @@ pub struct Buffers<'a> {
     pub wear: &'a mut [u32],
     pub pspace: &'a mut [u8],
     pub bspace: &'a mut [u8],
+    /// of a store with shelf pages: their bytes
     pub shelf: &'a mut [u8],
 }
 
@@ -38,7 +39,7 @@ impl Buffers<'_> {
             && self.bspace.len() == sizes.bspace_len()
             && self.codes.len() == options.codes_len(sizes)
             && self.marks.is_empty()
-            && self.shelf.is_empty()
+            && self.shelf.len() == options.shelf_len(sizes)
     }
 }
 
@@ -66,9 +67,10 @@ impl Memory {
         }
     }
 
-    /// The same for a store with these options: codes, where they ask for them, are those of erased pages.
+    /// The same for a store with these options, which an opening takes: codes, where they ask for them, are those of erased pages, and a
+    /// shelf has bytes 0.
     pub fn with_options(sizes: &Sizes, options: &Options) -> Memory {
-        Memory { codes: vec![255; options.codes_len(sizes)], ..Memory::new(sizes) }
+        Memory { codes: vec![255; options.codes_len(sizes)], shelf: vec![0; options.shelf_len(sizes)], ..Memory::new(sizes) }
     }
 
     pub fn lend(&mut self) -> Buffers<'_> {

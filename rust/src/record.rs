@@ -19,7 +19,8 @@ pub struct Sizes {
     pub wear_limit: u32,
 }
 
-/// What an opening may set beside the sizes. The default is LRU and no other option. Policy and codes are in force: the others must be 0.
+/// What an opening may set beside the sizes. The default is LRU and no other option. Policy, codes and shelf are in force: `marked`
+/// must be 0.
 #[repr(C)]
 #[derive(Clone, Copy, Debug, Default, PartialEq, Eq)]
 pub struct Options {
@@ -27,7 +28,7 @@ pub struct Options {
     pub policy: u32,
     /// 1: pages have codes, and a page is a multiple of 256 bytes; 0: they have none
     pub coded: u32,
-    /// 0: nothing is shelved
+    /// 0 to 8: so many earlier pages are kept, for taking writes back; 0: none
     pub shelf_pages: u32,
     /// 0: pages have no marks
     pub marked: u32,
@@ -62,7 +63,7 @@ pub struct Directory {
 pub struct Cache {
     pub sizes: Sizes,
     pub options: Options,
-    /// the page numbers of the shelf: all [`VACANT`], since no store has one yet
+    /// the page whose earlier contents each shelf page has, oldest first, then [`VACANT`]
     pub entries: [u32; 8],
     pub directory: Directory,
 }
@@ -128,7 +129,7 @@ impl Options {
     /// Whether each is one that an opening with these sizes takes.
     pub fn in_limits(&self, sizes: &Sizes) -> bool {
         let chunks = self.coded == 0 || self.coded == 1 && sizes.page_size % 256 == 0;
-        self.policy <= LFU && chunks && (self.shelf_pages, self.marked) == (0, 0)
+        self.policy <= LFU && chunks && self.shelf_pages <= 8 && self.marked == 0
     }
 
     /// Bytes of codes: 3 for each 256 of flash, or none.
@@ -137,6 +138,11 @@ impl Options {
             1 => sizes.page_size as usize / 256 * 3 * sizes.pages() as usize,
             _ => 0,
         }
+    }
+
+    /// Bytes of the shelf.
+    pub fn shelf_len(&self, sizes: &Sizes) -> usize {
+        self.shelf_pages as usize * sizes.page_size as usize
     }
 }
 

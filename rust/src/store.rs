@@ -48,6 +48,29 @@ impl Store {
         self.cache.part(lent, n, first, bytes, page)
     }
 
+    /// Takes the latest write or part write back whose earlier page is on the shelf: stores that page, as a write does, and drops its
+    /// entry.
+    ///
+    /// ```
+    /// use clash::{Memory, Options, Refusal, Sizes, Store};
+    ///
+    /// let (sizes, options) = (Sizes::from([1, 2, 3, 2, 1, 9]), Options { shelf_pages: 1, ..Options::default() });
+    /// let mut memory = Memory::with_options(&sizes, &options);
+    /// let mut store = Store::open(sizes, options, &memory.lend())?;
+    /// store.write(&mut memory.lend(), 3, &[10])?;
+    /// store.write(&mut memory.lend(), 3, &[20])?;
+    /// store.take_back(&mut memory.lend())?;
+    /// let mut page = [0];
+    /// store.read(&memory.lend(), 3, &mut page)?;
+    /// assert_eq!(page, [10]);
+    /// assert_eq!(store.take_back(&mut memory.lend()), Err(Refusal::Empty));
+    /// # Ok::<(), Refusal>(())
+    /// ```
+    pub fn take_back(&mut self, lent: &mut Buffers) -> Result<Answer, Refusal> {
+        self.expect(lent);
+        self.cache.take_back(lent)
+    }
+
     /// Rewrites one block that has pages cached.
     pub fn step(&mut self, lent: &mut Buffers) -> Result<Answer, Refusal> {
         self.expect(lent);

@@ -1,5 +1,5 @@
-//! Each refusal of document 01, and that it changes nothing; `codes.rs` has that of request A6. Wrong lengths go through the record's own
-//! calls, which assert nothing.
+//! Each refusal of document 01, and that it changes nothing; `codes.rs` has that of request A6, `shelf.rs` that of A8. Wrong lengths go
+//! through the record's own calls, which assert nothing.
 use clash::{Answer, Cache, Memory, Options, Refusal, Sizes, Store, FIFO, LFU, LRU, VACANT};
 
 const SIZES: [u32; 6] = [2, 4, 3, 3, 1, 9];
@@ -31,6 +31,7 @@ fn all_refused(mut cache: Cache, mut memory: Memory, n: u32, len: usize, why: Re
     assert_eq!(cache.part(&mut memory.lend(), n, 0, &[], &mut page), Err(why));
     assert_eq!(page, vec![77; len]);
     if !matches!(why, Refusal::Page) && len == 2 {
+        assert_eq!(cache.take_back(&mut memory.lend()), Err(why));
         assert_eq!(cache.step(&mut memory.lend()), Err(why));
         assert_eq!(cache.flush(&mut memory.lend()), Err(why));
     }
@@ -55,11 +56,12 @@ fn size() {
     }
 }
 
-/// The policy is 0, 1 or 2, and coded 0 or 1. No other option is in force: each other than 0 is refused, whatever is lent.
+/// The policy is 0, 1 or 2, coded 0 or 1, and there are up to 8 shelf pages. Marks are not in force: any but 0 is refused, whatever is
+/// lent.
 #[test]
 fn option() {
     let sizes = Sizes::from([256, 4, 3, 3, 1, 9]);
-    for (i, wrongs) in [(0, [3, 4, 8, u32::MAX]), (1, [2, 3, 8, u32::MAX]), (2, NONE), (3, NONE)] {
+    for (i, wrongs) in [(0, [3, 4, 8, u32::MAX]), (1, [2, 3, 8, u32::MAX]), (2, MANY), (3, NONE)] {
         for wrong in wrongs {
             let mut options = [0; 4];
             options[i] = wrong;
@@ -78,8 +80,9 @@ fn option() {
     }
 }
 
-/// What an option that is not in force may not be.
+/// What an option that is not in force may not be, and shelf pages may not.
 const NONE: [u32; 4] = [1, 2, 8, u32::MAX];
+const MANY: [u32; 4] = [9, 10, 128, u32::MAX];
 
 #[test]
 fn buffer() {
@@ -153,11 +156,11 @@ fn record() {
     }
 }
 
-/// What the options add to a record: the policy is up to 2, any other option 0 where a page has 2 bytes, a frame that is vacant has no use
-/// and any other one at least, and each entry of the shelf is vacant.
+/// What the options add to a record: the policy is up to 2, there are up to 8 shelf pages, any other option is 0 where a page has 2 bytes,
+/// a frame that is vacant has no use and any other one at least, and without shelf pages each entry of the shelf is vacant.
 #[test]
 fn record_of_options() {
-    let options: [fn(&mut Cache) -> &mut u32; 3] = [|c| &mut c.options.coded, |c| &mut c.options.shelf_pages, |c| &mut c.options.marked];
+    let options: [fn(&mut Cache) -> &mut u32; 2] = [|c| &mut c.options.coded, |c| &mut c.options.marked];
     let spoilt = |option: fn(&mut Cache) -> &mut u32, wrong| {
         let (mut cache, memory) = filled();
         *option(&mut cache) = wrong;
@@ -165,6 +168,7 @@ fn record_of_options() {
     };
     options.iter().for_each(|&option| NONE.iter().for_each(|&wrong| spoilt(option, wrong)));
     [3, 4, u32::MAX].iter().for_each(|&wrong| spoilt(|c| &mut c.options.policy, wrong));
+    MANY.iter().for_each(|&wrong| spoilt(|c| &mut c.options.shelf_pages, wrong));
     for i in 0..8 {
         let (cache, _) = filled();
         let wrongs: &[u32] = if cache.directory.frames[i] == VACANT { &[1, VACANT] } else { &[0] };

@@ -1,6 +1,6 @@
 //! Both stores on the same random histories: after each call the answers, the records, all buffers and the page must be equal. Some
 //! openings get a size or an option that is refused, some calls a record with an entry spoilt, a buffer of another length or a page that
-//! is not there. Of coded stores bits of flash and codes flip between the calls.
+//! is not there. Of coded stores bits of flash and codes flip between the calls. Half of the stores have 1 to 8 shelf pages.
 use crate::both;
 use crate::random::Random;
 use clash::{Cache, Memory, Options, Sizes, VACANT};
@@ -23,9 +23,11 @@ pub struct Tally {
     pub calls: u32,
     pub reads: [u32; 3],
     pub writes: [u32; 8],
+    /// of taking back, by way from 1
+    pub backs: [u32; 7],
     pub rewrites: u32,
     pub mended: u32,
-    pub refused: [u32; 7],
+    pub refused: [u32; 8],
 }
 
 pub fn agree(random: &mut Random) {
@@ -33,11 +35,12 @@ pub fn agree(random: &mut Random) {
     for _ in 0..HISTORIES {
         history(random, &mut tally);
     }
-    let Tally { calls, reads, writes, rewrites, mended, refused } = tally;
-    assert!(reads.iter().chain(&writes).chain(&refused).chain([&mended]).all(|&count| count > 40), "{reads:?} {writes:?} {refused:?}");
+    let Tally { calls, reads, writes, backs, rewrites, mended, refused } = tally;
+    let met = reads.iter().chain(&writes).chain(&backs).chain(&refused).chain([&mended]);
+    assert!(met.copied().all(|count| count > 40), "{reads:?} {writes:?} {backs:?} {refused:?}");
     println!("{calls} calls in {HISTORIES} random histories: answers, records and buffers of both stores are equal after each.");
-    println!("reads by way {reads:?}, writes by way from 0 {writes:?}, {rewrites} rewrites by steps and flushes, {mended} chunks mended,");
-    println!("refusals 1 to 7 {refused:?}\n");
+    println!("reads by way {reads:?}, writes by way from 0 {writes:?}, taken back by way from 1 {backs:?},");
+    println!("{rewrites} rewrites by steps and flushes, {mended} chunks mended, refusals 1 to 8 {refused:?}\n");
 }
 
 fn history(random: &mut Random, tally: &mut Tally) {
@@ -45,6 +48,7 @@ fn history(random: &mut Random, tally: &mut Tally) {
     for _ in 0..CALLS {
         if random.one_in(8) {
             disturb(random, &mut proved.memory);
+            reshelve(random, &mut proved.cache);
         }
         let before = random.one_in(30).then(|| proved.clone());
         if before.is_some() {
@@ -56,7 +60,7 @@ fn history(random: &mut Random, tally: &mut Tally) {
         let answer = proved.proved(call);
         assert_eq!(answer, plain.plain(call), "{call:?}");
         assert!(proved == plain, "{call:?} leaves another record or other bytes");
-        tally.count(answer);
+        tally.count(call, answer);
         proved = before.unwrap_or(proved);
     }
 }
@@ -65,9 +69,11 @@ fn opened(random: &mut Random, tally: &mut Tally) -> Option<Side> {
     let (limit, coded) = (1 + random.below(60), random.one_in(3));
     let s = if coded { 256 * (1 + random.below(2)) } else { 1 + random.below(20) };
     let mut sizes = [s, 2 + random.below(8), 1 + random.below(10), 1 + random.below(12), 1 + random.below(4), limit];
-    let mut options = [random.below(3), coded as u32, 0, 0];
+    let shelf_pages = if random.one_in(2) { 0 } else { 1 + random.below(8) };
+    let mut options = [random.below(3), coded as u32, shelf_pages, 0];
     let mut memory = Memory::with_options(&Sizes::from(sizes), &Options::from(options));
     memory.flash = random.bytes(memory.flash.len());
+    memory.shelf = random.bytes(memory.shelf.len());
     codes::encode(&mut memory.codes, &memory.flash);
     spoil_opening(random, &mut sizes, &mut options, &mut memory);
     let (sizes, options) = (Sizes::from(sizes), Options::from(options));
@@ -95,15 +101,20 @@ fn spoil_opening(random: &mut Random, sizes: &mut [u32; 6], options: &mut [u32; 
     }
     match random.below(16) {
         0 => options[random.below(2) as usize] = random.of(&[0, 1, 2, 8, u32::MAX]),
-        1 => options[2 + random.below(2) as usize] = random.of(&OUTSIDE),
-        2 => of_an_option(random, m).push(0),
-        3 => m.codes.truncate(m.codes.len().saturating_sub(1)),
+        1 => options[2] = random.of(&SHELVES),
+        2 => options[3] = random.of(&OUTSIDE),
+        3 => of_an_option(random, m).push(0),
+        4 => m.codes.truncate(m.codes.len().saturating_sub(1)),
+        5 => m.shelf.truncate(m.shelf.len().saturating_sub(1)),
         _ => {}
     }
 }
 
-/// What neither store takes for an option, but for 0: the plain one has the shelf and the marks already.
+/// What neither store takes for marks, but for 0: the plain one has them already.
 const OUTSIDE: [u32; 3] = [0, 9, u32::MAX];
+
+/// Shelf pages, or too many.
+const SHELVES: [u32; 6] = [0, 1, 7, 8, 9, u32::MAX];
 
 fn of_an_option<'a>(random: &mut Random, m: &'a mut Memory) -> &'a mut Vec<u8> {
     match random.below(3) {
@@ -125,25 +136,33 @@ fn disturb(random: &mut Random, m: &mut Memory) {
     }
 }
 
+/// The latest entry of the shelf, if any, is some other page: one written lately is mostly cached, and taken back by way 1 or 2.
+pub fn reshelve(random: &mut Random, cache: &mut Cache) {
+    let used = cache.entries.iter().position(|&n| n == VACANT).unwrap_or(8);
+    if used > 0 {
+        cache.entries[used - 1] = random.below(cache.sizes.pages());
+    }
+}
+
 fn flip(random: &mut Random, bytes: &mut [u8]) {
     bytes[random.below(bytes.len() as u32) as usize] ^= 1 << random.below(8);
 }
 
 fn spoil(random: &mut Random, side: &mut Side) {
     let (d, m, f) = (&mut side.cache.directory, &mut side.memory, random.below(8) as usize);
-    match random.below(20) {
+    match random.below(22) {
         0 => d.slots[random.below(128) as usize] = random.below(100),
         1 => d.slots[random.below(12) as usize] = d.slots[random.below(12) as usize],
         2 => d.frames[f] = random.below(12),
         3 => d.valid[f] ^= 1 << random.below(64),
         4 => d.recency.swap(f, random.below(8) as usize),
         5 => d.uses[f] = random.of(&[0, 1, 2, u32::MAX - 1, u32::MAX]),
-        6 => side.cache.entries[f] = random.of(&[0, 5, VACANT - 1, VACANT]),
+        6 | 19 => side.cache.entries[f] = random.of(&[0, 5, VACANT - 1, VACANT]),
         7 => side.cache.sizes.pages_per_block += 1,
         8 => side.cache.sizes.slots = random.below(140),
         9 => side.cache.options.policy = random.below(4),
         10 => side.cache.options.coded = random.below(3),
-        11 => side.cache.options.shelf_pages = random.of(&OUTSIDE),
+        11 => side.cache.options.shelf_pages = random.of(&SHELVES),
         12 => side.cache.options.marked = random.of(&OUTSIDE),
         13 => side.cache.sizes.page_size += 1,
         14 => m.flash.push(0),
@@ -151,6 +170,7 @@ fn spoil(random: &mut Random, side: &mut Side) {
         16 => m.pspace.push(0),
         17 => m.bspace.push(0),
         18 => of_an_option(random, m).push(0),
+        20 => m.shelf.truncate(m.shelf.len().saturating_sub(1)),
         _ => side.page.push(0),
     }
 }
@@ -162,6 +182,7 @@ pub enum Call {
     Read(u32),
     Write(u32),
     Part { n: u32, first: u32, many: usize },
+    TakeBack,
 }
 
 /// Some pages are not there, and some bytes of a part write reach past the page.
@@ -176,6 +197,7 @@ fn call(random: &mut Random, sizes: &Sizes) -> Call {
             let many = random.below((sizes.page_size + 2).saturating_sub(first).max(1)) as usize;
             Call::Part { n, first, many }
         }
+        21..=24 => Call::TakeBack,
         _ => Call::Write(n),
     }
 }
@@ -194,6 +216,7 @@ impl Side {
             Call::Read(n) => self.cache.read(lent, n, page),
             Call::Write(n) => self.cache.write(lent, n, page),
             Call::Part { n, first, many } => self.cache.part(lent, n, first, &bytes(first, many), page),
+            Call::TakeBack => self.cache.take_back(lent),
         })
     }
 
@@ -206,6 +229,7 @@ impl Side {
             Call::Read(n) => plain.read(lent, n, page),
             Call::Write(n) => plain.write(lent, n, page),
             Call::Part { n, first, many } => plain.part(lent, n, first, &bytes(first, many), page),
+            Call::TakeBack => plain.take_back(lent),
         };
         self.cache = both::proved(plain);
         answer
@@ -213,9 +237,10 @@ impl Side {
 }
 
 impl Tally {
-    pub fn count(&mut self, answer: Said) {
+    pub fn count(&mut self, call: Call, answer: Said) {
         self.calls += 1;
         match answer {
+            Ok(Answer::Write { way, .. }) if matches!(call, Call::TakeBack) => self.backs[way as usize - 1] += 1,
             Ok(Answer::Read { way, .. }) => self.reads[way as usize - 1] += 1,
             Ok(Answer::Write { way, .. }) => self.writes[way as usize] += 1,
             Ok(Answer::Step { .. }) => self.rewrites += 1,

@@ -58,5 +58,6 @@ pub fn refused(why: clash::Refusal) -> plain::Refusal {
         clash::Refusal::Page => plain::Refusal::Page,
         clash::Refusal::Worn(block) => plain::Refusal::Worn(block),
         clash::Refusal::Unreadable => plain::Refusal::Unreadable,
+        clash::Refusal::Empty => plain::Refusal::EmptyShelf,
     }
 }

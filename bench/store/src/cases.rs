@@ -30,7 +30,8 @@ pub fn cases(random: &mut Random, sizes: Sizes, options: Options) -> Cases {
     Cases { reads, writes }
 }
 
-/// A history with pages of one byte and no options: how long pages are and whether they have codes changes nothing else in the record.
+/// A history with pages of one byte and no options: how long pages are and whether they have codes changes nothing else in the record. A
+/// shelf is full, and each of its entries is the page: a write lets one leave, and taking back goes the way of the write.
 fn writes(random: &mut Random, sizes: Sizes, options: Options) -> [Vec<Case>; 7] {
     let (small, none) = (both::sizes(Sizes { page_size: 1, ..sizes }), plain::Options::default());
     let mut memory = Memory::new(&small, &none);
@@ -43,7 +44,8 @@ fn writes(random: &mut Random, sizes: Sizes, options: Options) -> [Vec<Case>; 7]
         if let Ok(Answer::Write { way, .. }) = store.write(&mut memory.lend(), n, &[0]) {
             let list = &mut found[way as usize - 1];
             if i > 2000 && list.len() < CASES && random.one_in(8) {
-                list.push(Case { record: Cache { sizes, options, ..before }, n });
+                let entries = std::array::from_fn(|i| if i < options.shelf_pages as usize { n } else { VACANT });
+                list.push(Case { record: Cache { sizes, options, entries, ..before }, n });
             }
         }
         if random.one_in(60) {

@@ -1,7 +1,7 @@
 //! Both stores at real sizes: pages to 2,048 bytes, blocks to 64 pages, more than 256 blocks, 128 slots and 8 frames. Each store has its own
-//! buffers. After each call the answers, the records, the page buffers, wear, p-space and b-space must be equal, and flash and codes of the
-//! blocks that the call rewrote; all of flash and codes now and then, and after the last call.
-use crate::agree::{Call, Side, Tally};
+//! buffers. After each call the answers, the records, the page buffers, wear, p-space, b-space and shelf must be equal, and flash and codes
+//! of the blocks that the call rewrote; all of flash and codes now and then, and after the last call.
+use crate::agree::{reshelve, Call, Side, Tally};
 use crate::both;
 use crate::random::Random;
 use clash::{Cache, Memory, Options, Sizes};
@@ -27,13 +27,14 @@ pub fn agree(random: &mut Random) {
         let (sizes, options) = sizes(random, i);
         history(random, &mut tally, sizes, options);
     }
-    let Tally { calls, reads, writes, rewrites, mended, refused } = tally;
-    let [_, buffer, _, _, page, worn, unreadable] = refused;
-    let met = [buffer, page, worn, unreadable, mended];
+    let Tally { calls, reads, writes, backs, rewrites, mended, refused } = tally;
+    let [_, buffer, _, _, page, worn, unreadable, empty] = refused;
+    let met = [buffer, page, worn, unreadable, empty, mended];
     assert!(reads.iter().chain(&writes).chain(&met).all(|&count| count > 40), "{reads:?} {writes:?} {met:?}");
+    assert!(backs.iter().all(|&count| count > 0), "{backs:?}");
     println!("{calls} calls in {HISTORIES} random histories at real sizes (N over 256, to S=2048, K=64, P=128, B=8): equal after each.");
-    println!("reads by way {reads:?}, writes by way from 0 {writes:?}, {rewrites} rewrites by steps and flushes, {mended} chunks mended,");
-    println!("refusals 1 to 7 {refused:?}\n");
+    println!("reads by way {reads:?}, writes by way from 0 {writes:?}, taken back by way from 1 {backs:?},");
+    println!("{rewrites} rewrites by steps and flushes, {mended} chunks mended, refusals 1 to 8 {refused:?}\n");
 }
 
 /// Sizes with more than 256 blocks, and options.
@@ -46,7 +47,8 @@ fn sizes(random: &mut Random, i: usize) -> (Sizes, Options) {
         ([s, k, n, 1 + random.below(128), 1 + random.below(8)], coded)
     });
     let limit = if random.one_in(2) { 1_000_000 } else { 4 + random.below(12) };
-    (Sizes::from([s, k, n, p, b, limit]), Options::from([random.below(3), coded as u32, 0, 0]))
+    let shelf_pages = if random.one_in(2) { 0 } else { 1 + random.below(8) };
+    (Sizes::from([s, k, n, p, b, limit]), Options::from([random.below(3), coded as u32, shelf_pages, 0]))
 }
 
 fn history(random: &mut Random, tally: &mut Tally, sizes: Sizes, options: Options) {
@@ -57,6 +59,10 @@ fn history(random: &mut Random, tally: &mut Tally, sizes: Sizes, options: Option
     for i in 0..CALLS {
         if !proved.memory.codes.is_empty() && random.one_in(12) {
             disturb(random, near.last, &mut flips, &mut [&mut proved, &mut plain]);
+        }
+        if random.one_in(8) {
+            reshelve(random, &mut proved.cache);
+            plain.cache = proved.cache;
         }
         let fill = random.below(256) as u8;
         proved.page.iter_mut().for_each(|byte| *byte = byte.wrapping_add(fill));
@@ -69,7 +75,7 @@ fn history(random: &mut Random, tally: &mut Tally, sizes: Sizes, options: Option
         if i % 400 == 399 {
             assert!(proved == plain, "{sizes:?}, {options:?}");
         }
-        tally.count(answer);
+        tally.count(call, answer);
     }
 }
 
@@ -77,6 +83,7 @@ fn history(random: &mut Random, tally: &mut Tally, sizes: Sizes, options: Option
 fn opened(random: &mut Random, sizes: Sizes, options: Options) -> Side {
     let mut memory = Memory::with_options(&sizes, &options);
     memory.flash = random.bytes(memory.flash.len());
+    memory.shelf = random.bytes(memory.shelf.len());
     codes::encode(&mut memory.codes, &memory.flash);
     let cache = Cache::open(sizes, options, &memory.lend());
     let plain = Plain::open(both::sizes(sizes), both::options(options), &both::lent(memory.lend()));
@@ -87,7 +94,7 @@ fn opened(random: &mut Random, sizes: Sizes, options: Options) -> Side {
 /// All that a call can change, but of flash and codes the blocks alone that it rewrote.
 fn alike(a: &Side, b: &Side, wear: &[u32]) -> bool {
     let (m, o) = (&a.memory, &b.memory);
-    let cached = m.pspace == o.pspace && m.bspace == o.bspace && m.wear == o.wear;
+    let cached = m.pspace == o.pspace && m.bspace == o.bspace && m.wear == o.wear && m.shelf == o.shelf;
     let blocks = wear.len();
     let block = |bytes: &[u8], b: usize| bytes[bytes.len() / blocks * b..bytes.len() / blocks * (b + 1)].to_vec();
     let rewritten = |b: usize| m.wear[b] == wear[b] || block(&m.flash, b) == block(&o.flash, b) && block(&m.codes, b) == block(&o.codes, b);
@@ -146,6 +153,7 @@ impl Near {
                 let many = random.of(&[0, 1, 40, sizes.page_size - first.min(sizes.page_size), sizes.page_size]);
                 Call::Part { n, first, many: many as usize }
             }
+            81..=92 => Call::TakeBack,
             _ => Call::Write(n),
         }
     }

@@ -31,6 +31,11 @@ fn main() {
     for sizes in &SIZES[..2] {
         coded(&mut random, *sizes);
     }
+    for sizes in &SIZES[..2] {
+        for pages in [1, 8] {
+            shelved(&mut random, *sizes, pages);
+        }
+    }
     println!("\nHow the cost grows from S=256 K=16 N=256 P=32 B=4: proved / plain in place");
     println!("{:8}{:>15}{:>15}{:>15}{:>15}{:>15}{:>15}", "", "soundness", "read 3", "write 3", "write 4", "write 7", "step");
     grow(&mut random, "P", 3, [8, 32, 128]);
@@ -57,6 +62,14 @@ fn coded(random: &mut Random, sizes: [u32; 6]) {
     line(bench.write(7));
     line(bench.step());
     line(bench.flush());
+}
+
+/// Writes and taking back of a store whose shelf is full: a write moves all of it but a page down.
+fn shelved(random: &mut Random, sizes: [u32; 6], pages: u32) {
+    let mut bench = Bench::new(random, Sizes::from(sizes), Options { shelf_pages: pages, ..Options::default() });
+    head(sizes, &format!(", shelf pages {pages}, all in use"));
+    [1, 3, 7].into_iter().for_each(|way| line(bench.write(way)));
+    [1, 3, 7].into_iter().for_each(|way| line(bench.take_back(way)));
 }
 
 fn head([s, k, n, p, b, _]: [u32; 6], with: &str) {

@@ -22,6 +22,7 @@ pub struct Lent {
     wear: Vec<u32>,
     pspace: Run,
     bspace: Run,
+    shelf: Run,
     page: Run,
     random: Random,
 }
@@ -44,16 +45,18 @@ impl Run {
 
 impl Lent {
     fn new(random: &mut Random, sizes: &Sizes, options: &Options) -> Lent {
-        let lengths = [sizes.flash_len(), options.codes_len(sizes), sizes.pspace_len(), sizes.bspace_len(), sizes.page_size as usize];
-        let [flash, codes, pspace, bspace, page] = lengths.map(|len| Run::new(random, len));
-        let mut lent = Lent { flash, codes, wear: vec![0; sizes.wear_len()], pspace, bspace, page, random: Random(random.0) };
+        let [flash, codes] = [sizes.flash_len(), options.codes_len(sizes)].map(|len| Run::new(random, len));
+        let [pspace, bspace] = [sizes.pspace_len(), sizes.bspace_len()].map(|len| Run::new(random, len));
+        let [shelf, page] = [options.shelf_len(sizes), sizes.page_size as usize].map(|len| Run::new(random, len));
+        let mut lent = Lent { flash, codes, wear: vec![0; sizes.wear_len()], pspace, bspace, shelf, page, random: Random(random.0) };
         lent.place();
         lent
     }
 
     fn parts(&mut self) -> (Buffers<'_>, &mut [u8]) {
         let (flash, codes, pspace, bspace) = (self.flash.part(), self.codes.part(), self.pspace.part(), self.bspace.part());
-        (Buffers { flash, codes, wear: &mut self.wear, pspace, bspace, ..Default::default() }, self.page.part())
+        let (wear, shelf) = (&mut self.wear, self.shelf.part());
+        (Buffers { flash, codes, wear, pspace, bspace, shelf, ..Default::default() }, self.page.part())
     }
 
     /// The same, in the plain store's type.
@@ -64,7 +67,7 @@ impl Lent {
 
     /// Each buffer starts at some multiple of 16 bytes, as memory from an allocator does. The codes, if any, are those of the flash.
     fn place(&mut self) {
-        for run in [&mut self.flash, &mut self.codes, &mut self.pspace, &mut self.bspace, &mut self.page] {
+        for run in [&mut self.flash, &mut self.codes, &mut self.pspace, &mut self.bspace, &mut self.shelf, &mut self.page] {
             run.start = self.random.below(256) as usize * 16;
         }
         codes::encode(self.codes.part(), self.flash.part());
@@ -132,6 +135,17 @@ const WRITE: Calls = Sides {
     },
 };
 
+const TAKE_BACK: Calls = Sides {
+    idle: lend,
+    proved: |c, _, l| c.take_back(&mut l.parts().0),
+    plain: |c, _, l| c.take_back(&mut l.plain_parts().0),
+    by_value: |c, _, l| {
+        let (next, answer) = c.take_back_by_value(&mut l.plain_parts().0);
+        *c = next;
+        answer
+    },
+};
+
 const STEP: Calls = Sides {
     idle: lend,
     proved: |c, _, l| c.step(&mut l.parts().0),
@@ -181,6 +195,13 @@ impl Bench {
         let cases = &self.cases.writes[way as usize - 1];
         same(cases, &mut self.lent, &WRITE, |answer| matches!(answer, Answer::Write { way: gone, .. } if gone == way));
         Row { name: format!("write {way}"), times: measure(cases, &mut self.lent, TIME, Lent::place, &WRITE) }
+    }
+
+    /// Of a store with shelf pages: by the way that a write of the page would go.
+    pub fn take_back(&mut self, way: u32) -> Row {
+        let cases = &self.cases.writes[way as usize - 1];
+        same(cases, &mut self.lent, &TAKE_BACK, |answer| matches!(answer, Answer::Write { way: gone, .. } if gone == way));
+        Row { name: format!("take back {way}"), times: measure(cases, &mut self.lent, TIME, Lent::place, &TAKE_BACK) }
     }
 
     pub fn step(&mut self) -> Row {

@@ -1,1 +1,2 @@
 pub mod Heeding
+pub mod Refusals

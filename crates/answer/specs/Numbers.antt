@@ -23,6 +23,7 @@ refusalOf refusals.Record = refused 4 vacant
 refusalOf refusals.Page = refused 5 vacant
 refusalOf (refusals.Worn b) = refused 6 (b .0)
 refusalOf refusals.Unreadable = refused 7 vacant
+refusalOf refusals.Empty = refused 8 vacant
 refusalOf refusals.Torn = refused 14 vacant
 
 abbrev pub openingOf : Opening → Answer

@@ -23,6 +23,8 @@ pub enum Refusal {
     Worn(BlockNo),
     // 7: a flash page that the call reads is unreadable (request A6)
     Unreadable,
+    // 8: there is no entry on the shelf to take back (request A8)
+    Empty,
     // 14: a flash page that the call reads is torn (request A12)
     Torn,
 }

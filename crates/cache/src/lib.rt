@@ -51,8 +51,8 @@ impl Sizes {
         }
     }
 
-    // Whether each size and the wear limit are within their limits, and the policy is one of the three. Of the other options only codes are
-    // in force yet, where a page is a whole number of chunks.
+    // Whether each size and the wear limit are within their limits, and the policy is one of the three. Of the other options codes are in
+    // force, where a page is a whole number of chunks, and 1 to 8 shelf pages.
     pub fn ok(self) -> bool
         ensures { λ r. ⌜ r ≡ sizesOk (sizesOf self) ⌝ }
     {
@@ -70,7 +70,7 @@ impl Sizes {
             & (self.wear_limit <= 1000000)
             & (self.policy <= 2)
             & (self.coded <= 1)
-            & (self.shelf_pages == 0)
+            & (self.shelf_pages <= 8)
             & (self.marked == 0)
             & ((self.coded == 0) | (self.page_size % 256 == 0))
     }

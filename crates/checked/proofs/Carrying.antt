@@ -34,7 +34,7 @@ use Rattle.chip.proofs.Cells.{lent-of}
 use Rattle.chip.proofs.Looking.{fault-none, mends-none, met-late}
 use Rattle.reads.specs.declared.Answered.{Answered}
 use Rattle.reads.specs.Reads.{Readable, ReadOut}
-use Rattle.writes.specs.Writes.{Writable, Beside, writeReads, Wrote}
+use Rattle.writes.specs.Writes.{Writable, Beside, writeReads, WroteWith, Wrote}
 use Rattle.flushes.specs.Flushes.{StepCarried, flushMerges, FlushCarried}
 use Rattle.parts.specs.Parts.{PartReady, PartWrote, combinedOf}
 
@@ -48,7 +48,14 @@ or-swap true false = refl
 or-swap false true = refl
 or-swap false false = refl
 
-module _ (pick : Choice) (s : Store) (c : Call Page) where
+or-again : (x y : Bool) → ((x || y) || x) ≡ (y || x)
+or-again true true = refl
+or-again true false = refl
+or-again false true = refl
+or-again false false = refl
+
+-- a call that may read flash pages besides its own
+module _ (pick : Choice) (s : Store) (c : Call Page) (besides : ℕ → Bool) where
   abbrev sz : Sizes
   sz = s .cache .sizes
 
@@ -57,7 +64,7 @@ module _ (pick : Choice) (s : Store) (c : Call Page) where
 
   -- the flash pages that the call reads
   abbrev reading : ℕ → Bool
-  reading = readsAll storeFormat pick (s .cache .sizes) (stateOf s) c (λ i. false)
+  reading = readsAll storeFormat pick (s .cache .sizes) (stateOf s) c besides
 
   -- the refusal that it meets there
   abbrev late : ℕ
@@ -66,14 +73,14 @@ module _ (pick : Choice) (s : Store) (c : Call Page) where
   abbrev decided : Outcome
   decided = decide pick (s .cache .sizes) (stateOf s) (told c)
 
-  pub call-record : sounds ≡ false → call storeFormat pick s c ≡ unaltered (refused 4 vacant) s c
-  unfolding call callReading
-  call-record a = rw (a, callReading)
+  pub reading-record : sounds ≡ false → callReading storeFormat pick besides s c ≡ unaltered (refused 4 vacant) s c
+  unfolding callReading
+  reading-record a = rw (a, callReading)
 
-  pub call-buffer : sounds ≡ true → lentOk storeFormat (s .cache .sizes) (s .lent) ≡ false
-      → call storeFormat pick s c ≡ unaltered (refused 2 vacant) s c
-  unfolding call callReading
-  call-buffer a b = rw (a, callReading) (rw b)
+  pub reading-buffer : sounds ≡ true → lentOk storeFormat (s .cache .sizes) (s .lent) ≡ false
+      → callReading storeFormat pick besides s c ≡ unaltered (refused 2 vacant) s c
+  unfolding callReading
+  reading-buffer a b = rw (a, callReading) (rw b)
 
   -- buffers are their pages and wear
   joined-again : (u : Buffers) → Fits storeFormat sz u → buffersOf (memoryOf storeFormat sz u) (u .wear) ≡ u
@@ -84,14 +91,14 @@ module _ (pick : Choice) (s : Store) (c : Call Page) where
       (memoryOf storeFormat sz (s .lent)) c)
 
   module _ (a : sounds ≡ true) (b : lentOk storeFormat (s .cache .sizes) (s .lent) ≡ true) where
-    call-carried : call storeFormat pick s c ≡ carriedOut storeFormat pick s c (λ i. false) (heeding (stateOf s) late decided)
-    unfolding call callReading
-    call-carried = rw (a, callReading) (rw b)
+    reading-carried : callReading storeFormat pick besides s c ≡ carriedOut storeFormat pick s c besides (heeding (stateOf s) late decided)
+    unfolding callReading
+    reading-carried = rw (a, callReading) (rw b)
 
     -- a refused outcome hands everything back, whatever is met in flash
-    pub call-down : (n x : ℕ) → decided ≡ turnedDown (stateOf s) n x → call storeFormat pick s c ≡ unaltered (refused n x) s c
+    pub reading-down : (n x : ℕ) → decided ≡ turnedDown (stateOf s) n x → callReading storeFormat pick besides s c ≡ unaltered (refused n x) s c
     unfolding carriedOut
-    call-down n x e = call-carried ∙ ap (carriedOut storeFormat pick s c (λ i. false)) (heeds-rule (stateOf s) late decided .0
+    reading-down n x e = reading-carried ∙ ap (carriedOut storeFormat pick s c besides) (heeds-rule (stateOf s) late decided .0
         (ap (λ (o : Outcome). isRefused (o .answer)) e) ∙ e)
 
     module _ (u′ : Buffers) (f′ : Fits storeFormat sz u′) (answer : Answer) (mended : ℕ) (d′ : Directory) (page′ : Page) where
@@ -109,7 +116,7 @@ module _ (pick : Choice) (s : Store) (c : Call Page) where
             store = record { cache = record { sizes = sz; directory = d′ }; lent = u′ };
             page = page′;
           }
-          ≡ carriedOut storeFormat pick s c (λ i. false) o
+          ≡ carriedOut storeFormat pick s c besides o
       unfolding carriedOut
       carried-call o keeps h p =
           by-test (isRefused (o .answer))
@@ -154,7 +161,7 @@ module _ (pick : Choice) (s : Store) (c : Call Page) where
         mends-are = λ j. mendsIn sz (s .lent) (λ i. same i j)
 
         -- an inner call did what the outcome says, once what it reads is heeded
-        pub call-done : (o : Outcome) → decided ≡ o
+        pub reading-done : (o : Outcome) → decided ≡ o
             → Carried (heeding (stateOf s) (faultIn sz (s .lent) reads) o) (mendsIn sz (s .lent) reads) (memoryOf storeFormat sz (s .lent))
             (callPages (chipFor sz) (zeroPage sz) pick sz (stateOf s) (memoryOf storeFormat sz (s .lent)) c) answer mended d′ (u′ .wear)
             (memoryOf storeFormat sz u′)
@@ -164,12 +171,42 @@ module _ (pick : Choice) (s : Store) (c : Call Page) where
               mends = mended;
               store = record { cache = record { sizes = sz; directory = d′ }; lent = u′ };
               page = page′;
-            } ≡ call storeFormat pick s c
-        call-done o e h p =
+            } ≡ callReading storeFormat pick besides s c
+        reading-done o e h p =
             let says : heeding (stateOf s) late decided ≡ heeding (stateOf s) (faultIn sz (s .lent) reads) o =
             (ap (λ (x : ℕ). heeding (stateOf s) x decided) late-is ∙ ap (heeding (stateOf s) (faultIn sz (s .lent) reads)) e) in
             carried-call (heeding (stateOf s) late decided) (heeding-keeps sz (stateOf s) late decided (decide-keeps sz (stateOf s) pick
-            (told c))) (rw (says, mends-are) h) (rw says p) ∙ sym call-carried
+            (told c))) (rw (says, mends-are) h) (rw says p) ∙ sym reading-carried
+
+-- a call that reads no others
+module _ (pick : Choice) (s : Store) (c : Call Page) where
+  pub call-record : sound (s .cache .sizes) (s .cache .directory) ≡ false → call storeFormat pick s c ≡ unaltered (refused 4 vacant) s c
+  unfolding call
+  call-record a = reading-record pick s c (λ i. false) a
+
+  pub call-buffer : sound (s .cache .sizes) (s .cache .directory) ≡ true → lentOk storeFormat (s .cache .sizes) (s .lent) ≡ false
+      → call storeFormat pick s c ≡ unaltered (refused 2 vacant) s c
+  unfolding call
+  call-buffer a b = reading-buffer pick s c (λ i. false) a b
+
+  module _ (a : sound (s .cache .sizes) (s .cache .directory) ≡ true) (b : lentOk storeFormat (s .cache .sizes) (s .lent) ≡ true) where
+    call-done : (u′ : Buffers) → Fits storeFormat (s .cache .sizes) u′ → (answer : Answer) (mended : ℕ) (d′ : Directory) (page′ : Page)
+        (reads : ℕ → Bool) → ((i : ℕ) → reading pick s c (λ i. false) i ≡ reads i) → (o : Outcome)
+        → decide pick (s .cache .sizes) (stateOf s) (told c) ≡ o
+        → Carried (heeding (stateOf s) (faultIn (s .cache .sizes) (s .lent) reads) o) (mendsIn (s .cache .sizes) (s .lent) reads)
+        (memoryOf storeFormat (s .cache .sizes) (s .lent))
+        (callPages (chipFor (s .cache .sizes)) (zeroPage (s .cache .sizes)) pick (s .cache .sizes) (stateOf s)
+        (memoryOf storeFormat (s .cache .sizes) (s .lent)) c) answer mended d′ (u′ .wear) (memoryOf storeFormat (s .cache .sizes) u′)
+        → page′ ≡ bufferAfter pick s c (λ i. false) (heeding (stateOf s) (faultIn (s .cache .sizes) (s .lent) reads) o)
+        → record {
+          answer = answer;
+          mends = mended;
+          store = record { cache = record { sizes = s .cache .sizes; directory = d′ }; lent = u′ };
+          page = page′;
+        } ≡ call storeFormat pick s c
+    unfolding call
+    call-done u′ f′ answer mended d′ page′ reads same o e h p =
+        reading-done pick s c (λ i. false) a b u′ f′ answer mended d′ page′ reads same o e h p
 
 -- ---- the checks of a read and a write
 
@@ -190,12 +227,24 @@ module _ (sz : Sizes) (k : State) (n long : ℕ) (o : Outcome) where
 module _ (s : Store) (c : Call Page) (n long : ℕ) (o : Outcome)
     (is : decide policyChoice (s .cache .sizes) (stateOf s) (told c) ≡ checked (s .cache .sizes) (stateOf s) n long o)
     (a : sound (s .cache .sizes) (s .cache .directory) ≡ true) (b : lentOk storeFormat (s .cache .sizes) (s .lent) ≡ true) where
+  module _ (besides : ℕ → Bool) where
+    pub reading-page-buffer : (long ≡ s .cache .sizes .S → ⊥)
+        → callReading storeFormat policyChoice besides s c ≡ unaltered (refused 2 vacant) s c
+    reading-page-buffer e = reading-down policyChoice s c besides a b 2 vacant
+        (is ∙ checked-buffer (s .cache .sizes) (stateOf s) n long o e)
+
+    pub reading-page : long ≡ s .cache .sizes .S → s .cache .sizes .N * s .cache .sizes .K ≤ n
+        → callReading storeFormat policyChoice besides s c ≡ unaltered (refused 5 vacant) s c
+    reading-page e l = reading-down policyChoice s c besides a b 5 vacant (is ∙ checked-page (s .cache .sizes) (stateOf s) n long o e l)
+
   pub call-page-buffer : (long ≡ s .cache .sizes .S → ⊥) → call storeFormat policyChoice s c ≡ unaltered (refused 2 vacant) s c
-  call-page-buffer e = call-down policyChoice s c a b 2 vacant (is ∙ checked-buffer (s .cache .sizes) (stateOf s) n long o e)
+  unfolding call
+  call-page-buffer e = reading-page-buffer (λ i. false) e
 
   pub call-page : long ≡ s .cache .sizes .S → s .cache .sizes .N * s .cache .sizes .K ≤ n
       → call storeFormat policyChoice s c ≡ unaltered (refused 5 vacant) s c
-  call-page e l = call-down policyChoice s c a b 5 vacant (is ∙ checked-page (s .cache .sizes) (stateOf s) n long o e l)
+  unfolding call
+  call-page e l = reading-page (λ i. false) e l
 
 same-either : (x : Page) (t : Bool) → x ≡ cond t x x
 same-either x true = refl
@@ -215,14 +264,16 @@ module _ (s : Store) (n : ℕ) (x : Page) where
   unfolding decide
   write-checked = refl
 
-  read-reads : (i : ℕ) → reading policyChoice s (read n x) i ≡ readsPage (s .cache .sizes) (s .cache .directory) n i
+  read-reads : (i : ℕ) → reading policyChoice s (read n x) (λ i. false) i ≡ readsPage (s .cache .sizes) (s .cache .directory) n i
   unfolding readsAll readsFlash
   read-reads i = or-false (readsPage (s .cache .sizes) (s .cache .directory) n i)
 
-  write-reads : (i : ℕ) → reading policyChoice s (write n x) i ≡ writeReads (s .cache .sizes) (s .cache .directory)
-      (plan policyChoice (s .cache .sizes) (s .cache .directory) (s .lent .wear) n) (λ i. false) i
+  write-reads : (besides seen : ℕ → Bool) → ((i : ℕ) → besides i ≡ seen i) → (i : ℕ) → reading policyChoice s (write n x) besides i
+      ≡ writeReads (s .cache .sizes) (s .cache .directory)
+      (plan policyChoice (s .cache .sizes) (s .cache .directory) (s .lent .wear) n) seen i
   unfolding readsAll readsFlash
-  write-reads i = refl
+  write-reads besides seen same i = ap (λ (t : Bool). writeMerges (s .cache .sizes) (s .cache .directory)
+      (plan policyChoice (s .cache .sizes) (s .cache .directory) (s .lent .wear) n) i || t) (same i)
 
   module _ (a : sound (s .cache .sizes) (s .cache .directory) ≡ true) (b : lentOk storeFormat (s .cache .sizes) (s .lent) ≡ true)
       (e : length x ≡ s .cache .sizes .S) (l : n < s .cache .sizes .N * s .cache .sizes .K) where
@@ -317,32 +368,47 @@ module _ (s : Store) (n : ℕ) (x : Page) where
             pages-are = rw (down .0);
           }) (rw (down .0) same)
 
-    pub write-done : (u′ : Buffers) → Fits storeFormat (s .cache .sizes) u′ → (answer : Answer) (mended : ℕ) (d′ : Directory) (ops : ℕ)
-        → suc (s .cache .sizes .K) ≤ ops
-        → Wrote (s .cache .sizes) (s .cache .directory) (s .lent) n x
-        (plan policyChoice (s .cache .sizes) (s .cache .directory) (s .lent .wear) n) (record { fault = 0; mends = 0 }) ops answer mended
-        d′ u′
-        → record {
-          answer = answer;
-          mends = mended;
-          store = record { cache = record { sizes = s .cache .sizes; directory = d′ }; lent = u′ };
-          page = x;
-        }
-        ≡ call storeFormat policyChoice s (write n x)
-    unfolding callPages
-    write-done u′ f′ answer mended d′ ops enough h =
-        let sz : Sizes = s .cache .sizes in
-        let q = plan policyChoice sz (s .cache .directory) (s .lent .wear) n in
-        let o : Outcome = writeOutcome sz (stateOf s) n q in
-        let beside : Beside sz (s .cache .directory) (s .lent) n (λ i. false) (record { fault = 0; mends = 0 }) = record {
-          within = λ i t. clash t refl;
-          fault-is = sym (fault-none sz (s .lent .flash) (s .lent .codes) (s .lent .marks) (λ i. false) (λ i. refl));
-          mends-are = sym (mends-none sz (s .lent .flash) (s .lent .codes) (s .lent .marks) (λ i. false) (λ i. refl));
-        } in
-        call-done policyChoice s (write n x) a b u′ f′ answer mended d′ x (writeReads sz (s .cache .directory) q (λ i. false)) write-reads o
-        (write-checked ∙ checked-passed sz (stateOf s) n (length x) o e l) (h (λ i. false) beside .whole enough)
-        (same-either x (isRefused (heeding (stateOf s)
-        (faultIn sz (s .lent) (writeReads sz (s .cache .directory) q (λ i. false))) o .answer)))
+    module _ (u′ : Buffers) (f′ : Fits storeFormat (s .cache .sizes) u′) (answer : Answer) (mended : ℕ) (d′ : Directory) (ops : ℕ)
+        (enough : suc (s .cache .sizes .K) ≤ ops) where
+      -- the write, with those pages read besides
+      pub write-reading : (besides seen : ℕ → Bool) → ((i : ℕ) → besides i ≡ seen i)
+          → WroteWith (s .cache .sizes) (s .cache .directory) (s .lent) n x
+          (plan policyChoice (s .cache .sizes) (s .cache .directory) (s .lent .wear) n) seen ops answer mended d′ u′
+          → record {
+            answer = answer;
+            mends = mended;
+            store = record { cache = record { sizes = s .cache .sizes; directory = d′ }; lent = u′ };
+            page = x;
+          }
+          ≡ callReading storeFormat policyChoice besides s (write n x)
+      unfolding callPages
+      write-reading besides seen same h =
+          let sz : Sizes = s .cache .sizes in
+          let q = plan policyChoice sz (s .cache .directory) (s .lent .wear) n in
+          let o : Outcome = writeOutcome sz (stateOf s) n q in
+          reading-done policyChoice s (write n x) besides a b u′ f′ answer mended d′ x (writeReads sz (s .cache .directory) q seen)
+          (write-reads besides seen same) o (write-checked ∙ checked-passed sz (stateOf s) n (length x) o e l) (h .whole enough)
+          (same-either x (isRefused (heeding (stateOf s) (faultIn sz (s .lent) (writeReads sz (s .cache .directory) q seen)) o .answer)))
+
+      pub write-done : Wrote (s .cache .sizes) (s .cache .directory) (s .lent) n x
+          (plan policyChoice (s .cache .sizes) (s .cache .directory) (s .lent .wear) n) (record { fault = 0; mends = 0 }) ops answer mended
+          d′ u′
+          → record {
+            answer = answer;
+            mends = mended;
+            store = record { cache = record { sizes = s .cache .sizes; directory = d′ }; lent = u′ };
+            page = x;
+          }
+          ≡ call storeFormat policyChoice s (write n x)
+      unfolding call
+      write-done h =
+          let sz : Sizes = s .cache .sizes in
+          let beside : Beside sz (s .cache .directory) (s .lent) n (λ i. false) (record { fault = 0; mends = 0 }) = record {
+            within = λ i t. clash t refl;
+            fault-is = sym (fault-none sz (s .lent .flash) (s .lent .codes) (s .lent .marks) (λ i. false) (λ i. refl));
+            mends-are = sym (mends-none sz (s .lent .flash) (s .lent .codes) (s .lent .marks) (λ i. false) (λ i. refl));
+          } in
+          write-reading (λ i. false) (λ i. false) (λ i. refl) (h (λ i. false) beside)
 
 -- ---- a part write
 
@@ -373,15 +439,24 @@ module _ (s : Store) (n first : ℕ) (x page : Page) where
   part-checked = refl
 
   -- with no bytes nothing is read
-  none-read : noBytes x ≡ true → (i : ℕ) → reading policyChoice s (part n first x page) i ≡ false
+  none-read : noBytes x ≡ true → (i : ℕ) → reading policyChoice s (part n first x page) (λ i. false) i ≡ false
   unfolding readsAll readsFlash
   none-read q i = rw q
 
   -- else page n, and what the write merges
-  part-reads : noBytes x ≡ false → (i : ℕ) → reading policyChoice s (part n first x page) i
+  part-reads : noBytes x ≡ false → (i : ℕ) → reading policyChoice s (part n first x page) (λ i. false) i
       ≡ writeReads (s .cache .sizes) (s .cache .directory) planned (readsPage (s .cache .sizes) (s .cache .directory) n) i
   unfolding readsAll readsFlash
   part-reads q i = rw q (or-false _ ∙ or-swap (readsPage (s .cache .sizes) (s .cache .directory) n i)
+      (writeMerges (s .cache .sizes) (s .cache .directory) planned i))
+
+  -- page n is read besides: it is read anyhow
+  part-reads-again : noBytes x ≡ false → (besides : ℕ → Bool)
+      → ((i : ℕ) → besides i ≡ readsPage (s .cache .sizes) (s .cache .directory) n i)
+      → (i : ℕ) → reading policyChoice s (part n first x page) besides i
+      ≡ writeReads (s .cache .sizes) (s .cache .directory) planned (readsPage (s .cache .sizes) (s .cache .directory) n) i
+  unfolding readsAll readsFlash
+  part-reads-again q besides same i = rw (q, same i) (or-again (readsPage (s .cache .sizes) (s .cache .directory) n i)
       (writeMerges (s .cache .sizes) (s .cache .directory) planned i))
 
   module _ (a : sound (s .cache .sizes) (s .cache .directory) ≡ true) (b : lentOk storeFormat (s .cache .sizes) (s .lent) ≡ true)
@@ -392,10 +467,15 @@ module _ (s : Store) (n first : ℕ) (x page : Page) where
     passed-as o h = part-checked ∙ ap (checked (s .cache .sizes) (stateOf s) n (length page)) h
         ∙ checked-passed (s .cache .sizes) (stateOf s) n (length page) o e l
 
+    pub reading-reach : (besides : ℕ → Bool) → leb (first + length x) (s .cache .sizes .S) ≡ false
+        → callReading storeFormat policyChoice besides s (part n first x page) ≡ unaltered (refused 2 vacant) s (part n first x page)
+    reading-reach besides h = reading-down policyChoice s (part n first x page) besides a b 2 vacant
+        (passed-as (turnedDown (stateOf s) 2 vacant) (part-past (s .cache .sizes) (stateOf s) first (length x) asWrite h))
+
     pub call-reach : leb (first + length x) (s .cache .sizes .S) ≡ false
         → call storeFormat policyChoice s (part n first x page) ≡ unaltered (refused 2 vacant) s (part n first x page)
-    call-reach h = call-down policyChoice s (part n first x page) a b 2 vacant
-        (passed-as (turnedDown (stateOf s) 2 vacant) (part-past (s .cache .sizes) (stateOf s) first (length x) asWrite h))
+    unfolding call
+    call-reach h = reading-reach (λ i. false) h
 
     module _ (r : leb (first + length x) (s .cache .sizes .S) ≡ true) where
       -- way 0
@@ -429,27 +509,48 @@ module _ (s : Store) (n first : ℕ) (x page : Page) where
         reach = leb-true _ _ r;
       }
 
-      pub part-done : noBytes x ≡ false → (u′ : Buffers) → Fits storeFormat (s .cache .sizes) u′
-          → (answer : Answer) (mended : ℕ) (d′ : Directory) (page′ : Page) (ops : ℕ) → suc (s .cache .sizes .K) ≤ ops
-          → PartWrote (s .cache .sizes) (s .cache .directory) (s .lent) n first x page ops answer mended d′ u′ page′
-          → record {
-            answer = answer;
-            mends = mended;
-            store = record { cache = record { sizes = s .cache .sizes; directory = d′ }; lent = u′ };
-            page = page′;
-          } ≡ call storeFormat policyChoice s (part n first x page)
-      unfolding callPages
-      part-done q u′ f′ answer mended d′ page′ ops enough h =
-          let sz : Sizes = s .cache .sizes in
-          let y : Page = combinedOf sz (s .cache .directory) (s .lent) n first x in
-          let k = h .wrote .whole enough in
-          let o : Outcome = heeding (stateOf s) (faultIn sz (s .lent) (writeReads sz (s .cache .directory) planned
-          (readsPage sz (s .cache .directory) n))) asWrite in
-          let p : page′ ≡ cond (isRefused (o .answer)) page y = h .page-is
-          ∙ ap (λ (t : Answer). cond (isRefused t) page y) (k .answer-is) in
-          call-done policyChoice s (part n first x page) a b u′ f′ answer mended d′ page′
-          (writeReads sz (s .cache .directory) planned (readsPage sz (s .cache .directory) n)) (part-reads q) asWrite
-          (passed-as asWrite (part-some sz (stateOf s) first (length x) asWrite r q)) (rw (q, callPages) k) (rw q p)
+      module _ (q : noBytes x ≡ false) (u′ : Buffers) (f′ : Fits storeFormat (s .cache .sizes) u′) (answer : Answer) (mended : ℕ)
+          (d′ : Directory) (page′ : Page) (ops : ℕ) (enough : suc (s .cache .sizes .K) ≤ ops)
+          (h : PartWrote (s .cache .sizes) (s .cache .directory) (s .lent) n first x page ops answer mended d′ u′ page′) where
+        -- the part write, with pages read besides that it reads anyhow
+        part-carried : (besides : ℕ → Bool) → ((i : ℕ) → reading policyChoice s (part n first x page) besides i
+            ≡ writeReads (s .cache .sizes) (s .cache .directory) planned (readsPage (s .cache .sizes) (s .cache .directory) n) i)
+            → record {
+              answer = answer;
+              mends = mended;
+              store = record { cache = record { sizes = s .cache .sizes; directory = d′ }; lent = u′ };
+              page = page′;
+            } ≡ callReading storeFormat policyChoice besides s (part n first x page)
+        unfolding callPages
+        part-carried besides same =
+            let sz : Sizes = s .cache .sizes in
+            let y : Page = combinedOf sz (s .cache .directory) (s .lent) n first x in
+            let k = h .wrote .whole enough in
+            let o : Outcome = heeding (stateOf s) (faultIn sz (s .lent) (writeReads sz (s .cache .directory) planned
+            (readsPage sz (s .cache .directory) n))) asWrite in
+            let p : page′ ≡ cond (isRefused (o .answer)) page y = h .page-is
+            ∙ ap (λ (t : Answer). cond (isRefused t) page y) (k .answer-is) in
+            reading-done policyChoice s (part n first x page) besides a b u′ f′ answer mended d′ page′
+            (writeReads sz (s .cache .directory) planned (readsPage sz (s .cache .directory) n)) same asWrite
+            (passed-as asWrite (part-some sz (stateOf s) first (length x) asWrite r q)) (rw (q, callPages) k) (rw q p)
+
+        pub part-done : record {
+          answer = answer;
+          mends = mended;
+          store = record { cache = record { sizes = s .cache .sizes; directory = d′ }; lent = u′ };
+          page = page′;
+        } ≡ call storeFormat policyChoice s (part n first x page)
+        unfolding call
+        part-done = part-carried (λ i. false) (part-reads q)
+
+        pub part-reading : (besides : ℕ → Bool) → ((i : ℕ) → besides i ≡ readsPage (s .cache .sizes) (s .cache .directory) n i)
+            → record {
+              answer = answer;
+              mends = mended;
+              store = record { cache = record { sizes = s .cache .sizes; directory = d′ }; lent = u′ };
+              page = page′;
+            } ≡ callReading storeFormat policyChoice besides s (part n first x page)
+        part-reading besides same = part-carried besides (part-reads-again q besides same)
 
 -- ---- the calls without a page buffer
 
@@ -459,12 +560,12 @@ operations-small sz h = let l : suc (sz .K) ≤ 65 = (let k = h .K-high in omega
     let a : sz .N * suc (sz .K) ≤ 4096 * 65 = mul-le-mul (h .N-high) l in omega arith
 
 module _ (s : Store) where
-  step-reads : (i : ℕ) → reading policyChoice s step i
+  step-reads : (i : ℕ) → reading policyChoice s step (λ i. false) i
       ≡ stepMerges (s .cache .sizes) (s .cache .directory) (dueOf policyChoice (s .cache .sizes) (s .cache .directory)) i
   unfolding readsAll readsFlash
   step-reads i = or-false _
 
-  flush-reads : (i : ℕ) → reading policyChoice s flush i
+  flush-reads : (i : ℕ) → reading policyChoice s flush (λ i. false) i
       ≡ stepsMerge policyChoice (s .cache .sizes) (s .cache .sizes .N) (s .cache .directory) i
   unfolding readsAll readsFlash
   flush-reads i = or-false _

@@ -1,7 +1,14 @@
 -- A store of sizes and the directory's lists, and what a call on them leaves.
-use Prim.Native.Nat.{ℕ}
+use mathlib.Core.Path.{_≡_}
+use mathlib.Core.Bool.{Bool, true, false}
+use mathlib.Core.List.{List}
+use Prim.Native.Nat.{ℕ, _*_, _<_}
+use Rattle.prelude.specs.Pages.{pageAt}
 use Rattle.model.specs.Directory.{Directory}
-use Rattle.model.specs.Calls.{Answer, Buffers, Page, Result, Store}
+use Rattle.model.specs.Soundness.{sound}
+use Rattle.model.specs.Policy.{policyChoice}
+use Rattle.model.specs.Formats.{storeFormat}
+use Rattle.model.specs.Calls.{Answer, isRefused, Call, readsPage, Buffers, Page, Result, Store, callReading, pageSeen}
 use Rattle.cache.specs.declared.Sizes.{Sizes}
 use Rattle.cache.specs.View.{sizesOf}
 
@@ -12,3 +19,12 @@ storeWith z d u = record { cache = record { sizes = sizesOf z; directory = d }; 
 -- the answer and its mends, the store left and the page buffer
 abbrev pub resultWith : Answer → ℕ → Sizes → Directory → Buffers → Page → Result
 resultWith a mends z d u page = record { answer = a; mends = mends; store = storeWith z d u; page = page }
+
+-- The call c gives r, reading page n besides, as no use; and where it is accepted, the record is sound, there is a page n, and the first
+-- page of kept is that page as it was.
+pub record Keeping (z : Sizes) (d : Directory) (u : Buffers) (n : ℕ) (c : Call Page) (r : Result) (kept : List ℕ) : Type 0 where
+  pub accepted : isRefused (r .answer) ≡ false → (sound (sizesOf z) d ≡ true) × (n < z .blocks * z .«pages_per_block»)
+  pub result-is : (besides : ℕ → Bool)
+      → (sound (sizesOf z) d ≡ true → n < z .blocks * z .«pages_per_block» → (i : ℕ) → besides i ≡ readsPage (sizesOf z) d n i)
+      → r ≡ callReading storeFormat policyChoice besides (storeWith z d u) c
+  pub kept-is : isRefused (r .answer) ≡ false → pageAt (z .«page_size») kept 0 ≡ pageSeen storeFormat (storeWith z d u) n

@@ -2,18 +2,19 @@
 use mathlib.Core.Path.{_≡_, refl, sym, ap, _∙_, subst}
 use mathlib.Core.Bool.{false}
 use mathlib.Core.List.{List, [], _∷_}
-use Prim.Native.Nat.{ℕ}
+use Prim.Native.Nat.{ℕ, _*_, _<_}
 use native.Mathlib.Omega.{arith}
 use Rattle.model.specs.Sizes as model
 use Rattle.model.specs.Sizes.{vacant}
 use Rattle.model.specs.Policy.{policyChoice}
 use Rattle.model.specs.Calls.{Answer, readDone, writeDone, stepDone, stepClean, flushDone, isRefused, refused, Page, Outcome, flashCells}
-use Rattle.model.specs.Calls.{openDone}
+use Rattle.model.specs.Calls.{openDone, pageSeen}
 use Rattle.model.specs.Formats.{storeFormat, StoreNear}
-use Rattle.model.specs.Lists.{Borne}
-use Rattle.model.specs.Shelf.{plainly, ShelfStore, ShelfResult, ShelfReference, ShelfChosen, storeOpen}
+use Rattle.model.specs.Lists.{flipped, Borne}
+use Rattle.model.specs.Shelf.{ShelfStore, ShelfResult, ShelfReference, ShelfChosen, storeOpen}
 use Rattle.model.specs.Shelf.{shelfCall, shelfBookSays, shelfFed, ShelfGives, ShelfClaim}
 use Rattle.model.specs.Legible.{ShelfLegible}
+use Rattle.model.specs.Undo as undo
 use Rattle.model.proofs.Plan.{policyChoice-picks}
 use Rattle.model.proofs.Shelf.{AllShelfPick, sizes-stay}
 use Rattle.cache.specs.declared.Sizes.{Sizes}
@@ -23,15 +24,15 @@ use Rattle.replies.specs.Numbers.{numbersOf}
 use Rattle.store.specs.declared.Cache.{Cache}
 use Rattle.store.specs.View.{Lent, storeOf}
 use Rattle.store.specs.Histories.{begun}
-use Rattle.store.proofs.Demand3.{beginning, begins, begins-sizes, claimed, legible}
+use Rattle.store.proofs.Demand3.{beginning, begins, begins-sizes, claimed, legible, undoing}
 use Rattle.clash_c.specs.declared.Reply.{Reply}
 use Rattle.clash_c.specs.Replies.{OpeningReply, CallReply, replied, inNumbers}
-use Rattle.clash_c.specs.Histories.{Made, read, write, part, step, flush, callOf, replyOf, lentAfter, pageAfter, Turn, lentTo}
+use Rattle.clash_c.specs.Histories.{Made, read, write, part, step, flush, back, callOf, replyOf, lentAfter, pageAfter, Turn, lentTo}
 use Rattle.clash_c.specs.Histories.{AsContracted, byPolicy, saidBy, fedBy, ReadGives, Claim, Demand3}
-use Rattle.clash_c.specs.Histories.{Contract, OpeningContract, Legible, NeverUnreadable}
+use Rattle.clash_c.specs.Histories.{Contract, OpeningContract, Legible, NeverUnreadable, UndoneBy, Undoes, TakenBack}
 use Rattle.clash_c.proofs.Numbered.{Numbered, book-numbered, said-same, opening-numbered}
 
--- the calls of a list, each by the least recently used block
+-- the calls of a list, each by the policy of the record
 abbrev chosen : List Turn → List ShelfChosen
 chosen [] = []
 chosen (t ∷ ts) = byPolicy (t .made) ∷ chosen ts
@@ -41,13 +42,14 @@ chosen-pick [] = tt
 chosen-pick (t ∷ ts) = (policyChoice-picks, chosen-pick ts)
 
 -- from what the model's result x gives to what the page buffer has
-gives : (a : List Page) (m : Made) (x : ShelfResult) → ShelfGives a (plainly (callOf m)) x → pageAfter m ≡ x .page
+gives : (a : List Page) (m : Made) (x : ShelfResult) → ShelfGives a (callOf m) x → pageAfter m ≡ x .page
     → (replyOf m .answer .refusal ≡ 0 → isRefused (x .answer) ≡ false) → ReadGives a m
 gives a (read n page r page′) x g p t = λ h. p ∙ g (t h)
 gives a (write n page r u′) x g p t = tt
 gives a (part n first y page r u′ page′) x g p t = λ h. p ∙ g (t h)
 gives a (step r flash′ codes′ marks′ wear′ bspace′) x g p t = tt
 gives a (flush r flash′ codes′ marks′ wear′ bspace′) x g p t = tt
+gives a (back r below′) x g p t = tt
 
 -- an answer in numbers has the mends that it was given, where it has any
 own-mends : (a : Answer) (mended : ℕ) → numbersOf a mended ≡ numbersOf a (numbersOf a mended .mended)
@@ -66,10 +68,10 @@ alike a mended y e = own-mends a mended ∙ ap (λ (z : replies.Answer). numbers
 module _ (sz : model.Sizes) (c : Cache) (v : Lent) (m : Made) (e : sizesOf (c .sizes) ≡ sz) (h : Contract c v m) where
   -- what the model gives
   abbrev given : ShelfResult
-  given = shelfCall storeFormat (sz .shelfPages) policyChoice (storeOf c v) (plainly (callOf m))
+  given = shelfCall storeFormat (sz .shelfPages) policyChoice (storeOf c v) (callOf m)
 
   called : replied (replyOf m) (lentAfter v m) (pageAfter m) ≡ inNumbers given
-  called = h ∙ ap (λ (w : model.Sizes). inNumbers (shelfCall storeFormat (w .shelfPages) policyChoice (storeOf c v) (plainly (callOf m)))) e
+  called = h ∙ ap (λ (w : model.Sizes). inNumbers (shelfCall storeFormat (w .shelfPages) policyChoice (storeOf c v) (callOf m))) e
 
   given-answer : replyOf m .answer ≡ numbersOf (given .answer) (given .mends)
   given-answer = ap (λ (y : CallReply). y .answer) called
@@ -79,7 +81,7 @@ module _ (sz : model.Sizes) (c : Cache) (v : Lent) (m : Made) (e : sizesOf (c .s
 
   same-sizes : sizesOf (replyOf m .cache .sizes) ≡ sz
   same-sizes = ap (λ (s : ShelfStore). s .store .cache .sizes) (sym given-store)
-      ∙ sizes-stay storeFormat policyChoice (sz .shelfPages) (storeOf c v) (plainly (callOf m)) ∙ e
+      ∙ sizes-stay storeFormat policyChoice (sz .shelfPages) (storeOf c v) (callOf m) ∙ e
 
   -- the book says the same by the number of the answer
   said : (r : ShelfReference) → shelfBookSays sz (sz .shelfPages) r (byPolicy m) (given .answer) ≡ saidBy sz r m
@@ -194,3 +196,77 @@ never-unreadable z u o is done match ts h = let sz : model.Sizes = sizesOf z in
     legible-from sz ts (o .cache) u (begun sz u) (start-sizes z u o is done) h
     (subst (λ (s : ShelfStore). Readable sz ts s (begun sz u)) (sym (start z u o is done))
     (legible sz u (open-done z u o is done) match (chosen ts) (chosen-pick ts)))
+
+-- ---- request A8: taking back undoes a write
+
+module _ (sz : model.Sizes) where
+  abbrev Undoing : List Turn → ShelfStore → ShelfReference → Type 0
+  Undoing ts s r = undo.ShelfUndoes storeFormat StoreNear sz (sz .shelfPages) (chosen ts) s r
+
+  abbrev Undone : ShelfStore → ShelfReference → ShelfStore → ShelfReference → List Turn → Type 0
+  Undone s r s₁ r₁ ts = undo.UndoneBy storeFormat StoreNear sz (sz .shelfPages) s r s₁ r₁ (chosen ts)
+
+  -- refusal 0 is an accepted call
+  accepts : (c : Cache) (v : Lent) (m : Made) (e : sizesOf (c .sizes) ≡ sz) (h : Contract c v m) → Numbered (given sz c v m e h .answer)
+      → replyOf m .answer .refusal ≡ 0 → isRefused (given sz c v m e h .answer) ≡ false
+  accepts c v m e h numbered ok = numbered (given sz c v m e h .mends)
+      (sym (ap (λ (y : replies.Answer). y .refusal) (given-answer sz c v m e h)) ∙ ok)
+
+  undone-from : (u₀ : Lent) (c : Cache) (u : Lent) (r : ShelfReference) (c₁ : Cache) (u₁ : Lent) (r₁ : ShelfReference) (ts : List Turn)
+      → sizesOf (c₁ .sizes) ≡ sz → AsContracted c₁ u₁ ts → Left sz u₀ ts (storeOf c₁ u₁) r₁
+      → Undone (storeOf c u) r (storeOf c₁ u₁) r₁ ts → UndoneBy sz c u r c₁ u₁ r₁ ts
+  undone-from u₀ c u r c₁ u₁ r₁ [] e h l a = tt
+  undone-from u₀ c u r c₁ u₁ r₁ (t ∷ ts) e h l a = λ near is ok.
+      let m : Made = t .made in
+      let v : Lent = lentTo u₁ t in
+      let x : ShelfResult = given sz c₁ v m e (h .0) in
+      let store = given-store sz c₁ v m e (h .0) in
+      let says = said sz c₁ v m e (h .0) r₁ in
+      let numbered : Numbered (x .answer) = subst Numbered (sym (l (t .flash) (t .codes) near .answers))
+      (book-numbered sz (sz .shelfPages) r₁ policyChoice (callOf m) (x .answer)) in
+      let b = a (t .flash) (t .codes) near is (accepts c₁ v m e (h .0) numbered ok) in
+      record {
+        array-is = ap (λ (s : ShelfStore). fedWith sz r₁ m (saidBy sz r₁ m) s .reference .array) (sym store)
+            ∙ ap (λ (o : Outcome). fedWith sz r₁ m o (x .store) .reference .array) (sym says) ∙ b .array-is;
+        shows = subst (λ (s : ShelfStore). (fl cd : List ℕ) → Borne storeFormat StoreNear sz (fedWith sz r₁ m (saidBy sz r₁ m) s .reference)
+            (flipped (s .store) fl cd .lent) → (n : ℕ) → n < sz .N * sz .K
+            → pageSeen storeFormat (flipped (s .store) fl cd) n ≡ pageSeen storeFormat (storeOf c u .store) n) store
+            (subst (λ (o : Outcome). (fl cd : List ℕ) → Borne storeFormat StoreNear sz (fedWith sz r₁ m o (x .store) .reference)
+            (flipped (x .store .store) fl cd .lent) → (n : ℕ) → n < sz .N * sz .K
+            → pageSeen storeFormat (flipped (x .store .store) fl cd) n ≡ pageSeen storeFormat (storeOf c u .store) n) says (b .shows));
+      }
+
+  undoes-from : (u₀ : Lent) (ts : List Turn) (c : Cache) (u : Lent) (r : ShelfReference) → sizesOf (c .sizes) ≡ sz → AsContracted c u ts
+      → Left sz u₀ ts (storeOf c u) r → Undoing ts (storeOf c u) r → Undoes sz c u r ts
+  undoes-from u₀ [] c u r e h l a = tt
+  undoes-from u₀ (t ∷ ts) c u r e h l a = λ near.
+      let m : Made = t .made in
+      let v : Lent = lentTo u t in
+      let x : ShelfResult = given sz c v m e (h .0) in
+      let b = a (t .flash) (t .codes) near in
+      let k = l (t .flash) (t .codes) near in
+      let same = same-sizes sz c v m e (h .0) in
+      let store = given-store sz c v m e (h .0) in
+      let says = said sz c v m e (h .0) r in
+      let numbered : Numbered (x .answer) = subst Numbered (sym (k .answers))
+      (book-numbered sz (sz .shelfPages) r policyChoice (callOf m) (x .answer)) in
+      let left : Left sz u₀ ts (storeOf (replyOf m .cache) (lentAfter v m)) (fedBy sz r v m) = subst (λ (s : ShelfStore). Left sz u₀ ts s
+      (fedWith sz r m (saidBy sz r m) s)) store (subst (λ (o : Outcome). Left sz u₀ ts (x .store) (fedWith sz r m o (x .store))) says
+      (k .then)) in
+      record {
+        undone = λ w ok. undone-from u₀ c v r (replyOf m .cache) (lentAfter v m) (fedBy sz r v m) ts same (h .1) left
+            (subst (λ (s : ShelfStore). Undone (storeOf c v) r s (fedWith sz r m (saidBy sz r m) s) ts) store
+            (subst (λ (o : Outcome). Undone (storeOf c v) r (x .store) (fedWith sz r m o (x .store)) ts) says
+            (b .undone w (accepts c v m e (h .0) numbered ok))));
+        then = undoes-from u₀ ts (replyOf m .cache) (lentAfter v m) (fedBy sz r v m) same (h .1) left
+            (subst (λ (s : ShelfStore). Undoing ts s (fedWith sz r m (saidBy sz r m) s)) store
+            (subst (λ (o : Outcome). Undoing ts (x .store) (fedWith sz r m o (x .store))) says (b .then)));
+      }
+
+pub taken-back : TakenBack
+taken-back z u o is done match ts h = let sz : model.Sizes = sizesOf z in
+    undoes-from sz u ts (o .cache) u (begun sz u) (start-sizes z u o is done) h
+    (subst (λ (s : ShelfStore). Left sz u ts s (begun sz u)) (sym (start z u o is done))
+    (claimed sz u (open-done z u o is done) match (chosen ts) (chosen-pick ts)))
+    (subst (λ (s : ShelfStore). Undoing sz ts s (begun sz u)) (sym (start z u o is done))
+    (undoing sz u (open-done z u o is done) match (chosen ts) (chosen-pick ts)))

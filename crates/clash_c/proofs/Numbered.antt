@@ -14,10 +14,10 @@ use Rattle.model.specs.Policy.{Choice, Plan, erasedBy, Due, clean, due, dueOf, 
 use Rattle.model.specs.Calls.{Answer, openDone, readDone, writeDone, stepDone, stepClean, flushDone, refused, isRefused, Call, read}
 use Rattle.model.specs.Calls.{write, part, step, flush, State, Outcome, checked, readOutcome}
 use Rattle.model.specs.Calls.{writeOutcome, partOutcome, stepOutcome, flushOutcome, decide, Buffers, lentOk, openStore, heeding}
-use Rattle.model.specs.Calls.{Page, told}
+use Rattle.model.specs.Calls.{told}
 use Rattle.model.specs.Formats.{storeFormat}
 use Rattle.model.specs.Lists.{addedCause}
-use Rattle.model.specs.Shelf.{plainly, ShelfReference, shelfBookSays, openShelf, storeOpen}
+use Rattle.model.specs.Shelf.{shelved, ShelfCall, isBack, meant, ShelfReference, shelfBookSays, openShelf, storeOpen}
 use Rattle.replies.specs.Numbers.{numbersOf}
 
 -- the number says whether the call is refused
@@ -69,12 +69,13 @@ unfolding heeding
 heeding-numbered k late o g = by-test (isRefused (o .answer)) (λ e. rw (e, heeding) g)
     (λ e. rw (e, heeding) (by-test (eqb late 0) (λ t. rw t g) (λ t. rw t (λ m q. absurd (eqb-false late 0 t q)))))
 
--- what the book says of a call of the store below
-pub book-numbered : (sz : Sizes) (h : ℕ) (r : ShelfReference) (pick : Choice) (c : Call Page) (a : Answer)
-    → Numbered (shelfBookSays sz h r (record { choice = pick; call = plainly c }) a .answer)
+-- what the book says of a call
+pub book-numbered : (sz : Sizes) (h : ℕ) (r : ShelfReference) (pick : Choice) (c : ShelfCall) (a : Answer)
+    → Numbered (shelfBookSays sz h r (record { choice = pick; call = c }) a .answer)
 unfolding shelfBookSays
-book-numbered sz h r pick c a = heeding-numbered (r .reference .book) (addedCause a) _
-    (decide-numbered sz (r .reference .book) pick (told c))
+book-numbered sz h r pick c a = by-test (isBack c && eqb (shelved (r .entries)) 0) (λ e. rw (e, shelfBookSays) (λ m. not-0 7))
+    (λ e. rw (e, shelfBookSays) (heeding-numbered (r .reference .book) (addedCause a) _
+    (decide-numbered sz (r .reference .book) pick (told (meant (r .entries) (r .shelf) c)))))
 
 -- the number of a refusal tells the book as much as the answer
 told-same : (a : Answer) (mended : ℕ) → addedCause (refused (numbersOf a mended .refusal) vacant) ≡ addedCause a
@@ -86,12 +87,13 @@ told-same stepClean mended = refl
 told-same (flushDone r m) mended = refl
 told-same (refused n b) mended = refl
 
-pub said-same : (sz : Sizes) (h : ℕ) (r : ShelfReference) (pick : Choice) (c : Call Page) (a : Answer) (mended : ℕ)
-    → shelfBookSays sz h r (record { choice = pick; call = plainly c }) (refused (numbersOf a mended .refusal) vacant)
-    ≡ shelfBookSays sz h r (record { choice = pick; call = plainly c }) a
+pub said-same : (sz : Sizes) (h : ℕ) (r : ShelfReference) (pick : Choice) (c : ShelfCall) (a : Answer) (mended : ℕ)
+    → shelfBookSays sz h r (record { choice = pick; call = c }) (refused (numbersOf a mended .refusal) vacant)
+    ≡ shelfBookSays sz h r (record { choice = pick; call = c }) a
 unfolding shelfBookSays
-said-same sz h r pick c a mended = ap (λ (n : ℕ). heeding (r .reference .book) n (decide pick sz (r .reference .book) (told c)))
-    (told-same a mended)
+said-same sz h r pick c a mended = by-test (isBack c && eqb (shelved (r .entries)) 0) (λ e. rw (e, shelfBookSays))
+    (λ e. rw (e, shelfBookSays) (ap (λ (n : ℕ). heeding (r .reference .book) n (decide pick sz (r .reference .book)
+    (told (meant (r .entries) (r .shelf) c)))) (told-same a mended)))
 
 below-numbered : (sz : Sizes) (u : Buffers) → numbersOf (openStore storeFormat sz u .answer) 0 .refusal ≡ 0
     → openStore storeFormat sz u .answer ≡ openDone

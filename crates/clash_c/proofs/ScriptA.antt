@@ -13,7 +13,7 @@ use Rattle.store.proofs.ScriptA.{sizes, lentA, opening, turns, accepted, accept
 use Rattle.store.proofs.Demand3.{codes-match}
 use Rattle.clash_c.specs.declared.Reply.{Reply}
 use Rattle.clash_c.specs.Replies.{openedInNumbers, inNumbers}
-use Rattle.clash_c.specs.Histories.{Made, read, write, part, step, flush, replyOf, lentAfter, Contract, Turn, AsContracted, Claim}
+use Rattle.clash_c.specs.Histories.{Made, read, write, part, step, flush, back, replyOf, lentAfter, Contract, Turn, AsContracted, Claim}
 use Rattle.clash_c.proofs.Demand3.{demand-3}
 
 abbrev reply : Cache → Answer → ℕ → Reply
@@ -29,6 +29,7 @@ forC (store.step out flash′ codes′ marks′ wear′ bspace′) = step (reply
     (mendsOfStep (out .answer))) flash′ codes′ marks′ wear′ bspace′
 forC (store.flush out flash′ codes′ marks′ wear′ bspace′) = flush (reply (out .cache) (flushOf (out .answer))
     (mendsOfFlush (out .answer))) flash′ codes′ marks′ wear′ bspace′
+forC (store.back out below′) = back (reply (out .cache) (writeOf (out .answer)) (mendsOfWrite (out .answer))) below′
 
 abbrev allForC : List store.Turn → List Turn
 allForC [] = []
@@ -41,6 +42,7 @@ forC-contracted c u (store.write n page out u′) h = ap inNumbers h
 forC-contracted c u (store.part n first x page out u′ page′) h = ap inNumbers h
 forC-contracted c u (store.step out flash′ codes′ marks′ wear′ bspace′) h = ap inNumbers h
 forC-contracted c u (store.flush out flash′ codes′ marks′ wear′ bspace′) h = ap inNumbers h
+forC-contracted c u (store.back out below′) h = ap inNumbers h
 
 cache-same : (m : store.Made) → store.cacheAfter m ≡ replyOf (forC m) .cache
 cache-same (store.read n page out page′) = refl
@@ -48,6 +50,7 @@ cache-same (store.write n page out u′) = refl
 cache-same (store.part n first x page out u′ page′) = refl
 cache-same (store.step out flash′ codes′ marks′ wear′ bspace′) = refl
 cache-same (store.flush out flash′ codes′ marks′ wear′ bspace′) = refl
+cache-same (store.back out below′) = refl
 
 lent-same : (u : Lent) (m : store.Made) → store.lentAfter u m ≡ lentAfter u (forC m)
 lent-same u (store.read n page out page′) = refl
@@ -55,6 +58,7 @@ lent-same u (store.write n page out u′) = refl
 lent-same u (store.part n first x page out u′ page′) = refl
 lent-same u (store.step out flash′ codes′ marks′ wear′ bspace′) = refl
 lent-same u (store.flush out flash′ codes′ marks′ wear′ bspace′) = refl
+lent-same u (store.back out below′) = refl
 
 contracted : (c : Cache) (u : Lent) (ts : List store.Turn) → store.AsContracted c u ts → AsContracted c u (allForC ts)
 contracted c u [] h = tt

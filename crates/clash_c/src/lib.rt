@@ -4,6 +4,7 @@ use cache::Sizes;
 use replies::Answer;
 use store::Cache;
 ghost use mathlib.Core.Path.{_≡_};
+ghost use Rattle.answer.specs.Carried.{buffers};
 ghost use Rattle.store.specs.View.{lent};
 ghost use Rattle.clash_c.specs.Histories.{withOptions, Contract, OpeningContract};
 ghost use Rattle.clash_c.specs.Histories as made;
@@ -189,6 +190,31 @@ pub extern "C" fn clash_part(
         bytes,
         page,
     );
+    let cache = o.cache;
+    let said = o.answer;
+    let answer = replies::of_write(said);
+    Reply { cache, answer }
+}
+
+// Takes the latest write back that is on the shelf.
+#[no_mangle]
+pub extern "C" fn clash_take_back(
+    c: Cache,
+    flash: &mut [u8],
+    codes: &mut [u8],
+    marks: &mut [u8],
+    wear: &mut [u32],
+    pspace: &mut [u8],
+    bspace: &mut [u8],
+    shelf: &[u8],
+) -> Reply
+    ensures { λ r. ⌜ (
+        let u = lent (now (flash .entry)) (now (codes .entry)) (now (marks .entry))
+        (now (wear .entry)) (now (pspace .entry)) (now (bspace .entry)) (now (shelf .entry)) in
+        Contract c u (made.back r (buffers (now (flash .exit)) (now (codes .exit)) (now (marks .exit)) (now (wear .exit))
+        (now (pspace .exit)) (now (bspace .exit))))) ⌝ }
+{
+    let o = c.take_back(flash, codes, marks, wear, pspace, bspace, shelf);
     let cache = o.cache;
     let said = o.answer;
     let answer = replies::of_write(said);

@@ -116,8 +116,8 @@ pub fn options() {
     opted(b"policy 4294967295", 4294967295, 0, 0, 0);
     opted(b"coded 1", 0, 1, 0, 0);
     opted(b"coded 2", 0, 2, 0, 0);
-    opted(b"1 shelf page", 0, 0, 1, 0);
     opted(b"9 shelf pages", 0, 0, 9, 0);
+    opted(b"4294967295 shelf pages", 0, 0, 4294967295, 0);
     opted(b"marked 1", 0, 0, 0, 1);
     opted(b"marked 2", 0, 0, 0, 2);
 }
@@ -141,15 +141,52 @@ fn vacant(name: &[u8], s: Sizes) {
     report::tally(name, 1, refuses::every_call(c));
 }
 
-// Each shelf entry alone in use.
+// Each shelf entry alone in use, without shelf pages and with 2 of them, where the first may be; and the first ones in use, as many as there
+// are shelf pages and more.
 fn shelf() {
-    report::tally(b"page 0 on the shelf", 8, shelved(0));
-    report::tally(b"page vacant less 1 on the shelf", 8, shelved(4294967294));
+    report::tally(b"page 0 on the shelf", 8, shelved(0, 0));
+    report::tally(
+        b"page vacant less 1 on the shelf",
+        8,
+        shelved(0, 4294967294),
+    );
+    report::tally(b"page 0 behind a vacant entry", 7, shelved(2, 0));
+    report::tally(b"page 32 on a shelf of 2 pages", 8, shelved(2, 32));
+    report::tally(
+        b"page vacant less 1 on a shelf of 2 pages",
+        8,
+        shelved(2, 4294967294),
+    );
+    report::tally(b"more entries than 2 shelf pages", 6, crowded(2));
 }
 
-// How many of the records with one shelf entry n every call refuses.
-fn shelved(n: u32) -> u64 {
+// The sound record with so many shelf pages.
+fn with_shelf(pages: u32) -> Cache {
     let c = sound();
+    let d = c.directory;
+    Cache {
+        sizes: records::with_options(c.sizes, 0, 0, pages, 0),
+        entries: [VACANT; 8],
+        directory: d,
+    }
+}
+
+// How many of the records with so many shelf pages, and page 0 in the first 1 to 8 entries, every call refuses.
+fn crowded(pages: u32) -> u64 {
+    let mut record = with_shelf(pages);
+    let mut count = 0u64;
+    let mut i = 0;
+    while i < 8 {
+        record.entries[i] = 0;
+        count = std::num::wrapping_add_u64(count, refuses::every_call(record));
+        i += 1;
+    }
+    count
+}
+
+// How many of the records with so many shelf pages, and one shelf entry n, every call refuses.
+fn shelved(pages: u32, n: u32) -> u64 {
+    let c = with_shelf(pages);
     let mut count = 0u64;
     let mut i = 0;
     while i < 8 {

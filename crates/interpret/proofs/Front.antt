@@ -37,13 +37,13 @@ use Rattle.interpret.specs.View.{Held, PartsOf, front, Sized, InSizes, C
 -- ---- what a form asks of the buffers lent
 
 module _ (old : model.Sizes) (u : Lent) (page out : List ℕ) (f : Form) (l : InSizes (sizesAfter old (meant f)) u page out) where
-  pub lent-open : (sizes : Sizes) → f ≡ Open sizes → (sizesOk (sizesOf sizes) ≡ true → Fits storeFormat (sizesOf sizes) (u .below)) ×
-      (lineRoom ≤ length out)
+  pub lent-open : (sizes : Sizes) → f ≡ Open sizes → (sizesOk (sizesOf sizes) ≡ true → Fits storeFormat (sizesOf sizes) (u .below)
+      × (sizesOf sizes .shelfPages ≡ 0)) × (lineRoom ≤ length out)
   lent-open sizes e =
       let h : InSizes (sizesAfter old (meant (Open sizes))) u page out = subst (λ (g : Form). InSizes (sizesAfter old
       (meant g)) u page out) e
       l in
-      ((λ t. rw t at (h .fits)), let k = l .room in omega arith)
+      ((λ t. ((rw t at (h .fits)), (rw t at (h .no-shelf)))), let k = l .room in omega arith)
 
   pub lent-page : (g : Form) → f ≡ g → sizesAfter old (meant g) ≡ old → (length page ≡ old .S) × (lineRoom ≤ length out)
   lent-page g e s =
@@ -58,6 +58,7 @@ held-open sz k ok =
     record {
       no-codes = k .0;
       no-marks = k .1;
+      no-shelf = k .3;
       S-high = h .S-high;
       K-high = h .K-high;
       N-high = h .N-high;
@@ -81,7 +82,7 @@ held-as old sz f e h k = subst Held (sym e) (held-after old f h k)
 
 opened-keeps : (s : ShelfStore) (sz : model.Sizes) → Sized (form.opens sz) → opened s sz .store .store .cache .sizes
     ≡ sizesAfter (s .store .cache .sizes) (form.opens sz)
-opened-keeps s sz k = let none = none-asked sz (k .0) (k .1) in
+opened-keeps s sz k = let none = none-asked sz (k .0) (k .1) (k .3) in
     by-test (sizesOk sz) (λ t. ap (λ (e : Effect). e .store .store .cache .sizes) (opened-done sz s none t)
     ∙ opened-sizes sz none t ∙ rw t)
     (λ t. ap (λ (e : Effect). e .store .store .cache .sizes) (opened-refused sz s t) ∙ rw t)
@@ -104,7 +105,7 @@ carried-front : (c : Cache) (f : form.Form) (n : ℕ) → Sized f → (flash wea
     → carried (storeOf c (front (sizesAfter (sizesOf (c .sizes)) f) flash wear pspace bspace)) f n
     ≡ carried (storeOf c (front (sizesOf (c .sizes)) flash wear pspace bspace)) f n
 carried-front c (form.opens sz) n k flash wear pspace bspace =
-    let none = none-asked sz (k .0) (k .1) in by-test (sizesOk sz) (λ t. opened-done sz _ none t ∙ sym (opened-done sz _ none t))
+    let none = none-asked sz (k .0) (k .1) (k .3) in by-test (sizesOk sz) (λ t. opened-done sz _ none t ∙ sym (opened-done sz _ none t))
     (λ t. rw t)
 carried-front c (form.writes m b) n k flash wear pspace bspace = refl
 carried-front c (form.reads m) n k flash wear pspace bspace = refl
@@ -159,6 +160,7 @@ module _ (sz : model.Sizes) (p : Parts) (q : PartsOf sz p) where
             pspace-length = length-take-le (p .pspace) pspace (omega arith) ∙ q .pspace-is;
             bspace-length = length-take-le (p .bspace) bspace (omega arith) ∙ q .bspace-is;
           };
+          no-shelf = held .no-shelf;
           page-length = length-take-le (p .page) page (omega arith) ∙ q .page-is;
           wear-room = omega arith;
           room = omega arith;

@@ -18,10 +18,11 @@ use Rattle.interpret.specs.declared.parts.Parts.{Parts}
 
 -- ---- the store's own buffers stand at the front of the program's memory
 
--- the sizes are small enough for the memory, and there are no codes and no marks; a blank record's are
+-- the sizes are small enough for the memory, and there are no codes, no marks and no shelf; a blank record's are
 pub record Held (sz : Sizes) : Type 0 where
   pub no-codes : isCoded sz ≡ false
   pub no-marks : isMarked sz ≡ false
+  pub no-shelf : sz .shelfPages ≡ 0
   pub S-high : sz .S ≤ 2048
   pub K-high : sz .K ≤ 64
   pub N-high : sz .N ≤ 4096
@@ -45,9 +46,9 @@ front sz flash wear pspace bspace = plainLent (take (sz .N * sz .K * sz .S) flas
 
 -- ---- what is asked, and what a line leaves
 
--- an opening asks for no codes and no marks, and with sizes within limits it has buffers that fit: the form of every line is such
+-- an opening asks for no codes, no marks and no shelf, and with sizes within limits it has buffers that fit: the form of every line is such
 abbrev pub Sized : Form → Type 0
-Sized (opens sz) = (isCoded sz ≡ false) × (isMarked sz ≡ false) × (sizesOk sz ≡ true → buffersFit sz ≡ true)
+Sized (opens sz) = (isCoded sz ≡ false) × (isMarked sz ≡ false) × (sizesOk sz ≡ true → buffersFit sz ≡ true) × (sz .shelfPages ≡ 0)
 Sized (writes n b) = Unit {0}
 Sized (reads n) = Unit {0}
 Sized steps = Unit {0}
@@ -55,9 +56,10 @@ Sized flushes = Unit {0}
 Sized wears = Unit {0}
 Sized bad = Unit {0}
 
--- buffers and a page buffer in their sizes, and room for the line
+-- buffers and a page buffer in their sizes, no shelf pages, and room for the line
 pub record InSizes (sz : Sizes) (u : Lent) (page out : List ℕ) : Type 0 where
   pub fits : Fits storeFormat sz (u .below)
+  pub no-shelf : sz .shelfPages ≡ 0
   pub page-length : length page ≡ sz .S
   pub wear-room : length (u .below .wear) ≤ 4096
   pub room : wearRoom 4096 ≤ length out

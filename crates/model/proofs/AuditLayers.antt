@@ -162,7 +162,7 @@ unfolding start holding spoilt each-call all-left all-refused shelfCall shelfOk 
     all allPairs tab tabFrom bit mask nth argmax least pageAt pagesOf flat isCoded isMarked
 unshelved-rows = refl
 
--- openings: with no shelf, with one of a byte, with one and a size beyond its limits, with a shelf page and its byte
+-- openings: with no shelf, with one of a byte, with one and a size beyond its limits; with a shelf page and its byte, none and two
 abbrev lentA : Buffers
 lentA = start 0 .store .lent
 
@@ -185,9 +185,10 @@ unopened n = record { answer = refused n vacant; cache = blankCache; entries = n
 
 opening-rows :
     storeOpen sizesA lentA [] ∷ storeOpen sizesA lentA (0 ∷ []) ∷ storeOpen (plainSizes 1 1 3 1 1 9) lentA (0 ∷ [])
-    ∷ storeOpen shelfOf1 lentA (0 ∷ []) ∷ []
+    ∷ storeOpen shelfOf1 lentA (0 ∷ []) ∷ storeOpen shelfOf1 lentA [] ∷ storeOpen shelfOf1 lentA (0 ∷ 0 ∷ []) ∷ []
     ≡ record { answer = openDone; cache = record { sizes = sizesA; directory = vacantDirectory }; entries = noEntries } ∷ unopened 2
-    ∷ unopened 1 ∷ unopened 1 ∷ []
+    ∷ unopened 1 ∷ record { answer = openDone; cache = record { sizes = shelfOf1; directory = vacantDirectory }; entries = noEntries }
+    ∷ unopened 2 ∷ unopened 2 ∷ []
 unfolding shelfOf1 start openShelf shelfCall shelfOk shelved shelve entriesAfter shelfAfter shelvingReads ordinary pageSeen openStore call
     carriedOut memoryOf buffersOf zeroPage lentOk callPages stepsPages decide flushOutcome steps stepOutcome partOutcome writeOutcome
     readOutcome checked combined laid steppedPages writtenPages readPage stepped written readDirectory rewrittenPages merged vacated

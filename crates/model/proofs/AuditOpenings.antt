@@ -280,7 +280,7 @@ abbrev codesAndMarks : ℕ → ℕ → Buffers
 codesAndMarks codes marks = allLengths 1536 codes marks (0 ∷ 0 ∷ 0 ∷ []) 512 512
 
 -- The three policies open, on buffers as for LRU; another number is refused 1. Coded opens, at a multiple of 256 and lent 3 bytes of code
--- for each chunk, else it is refused 1 or 2. An opening with another option is refused 1, also lent what the option would ask for, and
+-- for each chunk, else it is refused 1 or 2. Up to 8 shelf pages open. An opening with another option is refused 1, also lent what the option would ask for, and
 -- before the buffers are looked at. A store without options is lent no codes and no marks, else it is refused 2, before the wear is looked
 -- at.
 abbrev pub options : List Opens
@@ -313,9 +313,11 @@ options =
     ∷ refusesLent (coded 128) (allLengths 768 18 0 (0 ∷ 0 ∷ 0 ∷ []) 256 256) 1
     ∷ refusesLent (withOptions 0 2 0 0) plainly 1
     ∷ refusesLent (withOptions 0 2 0 0) (codesAndMarks 18 0) 1
-    -- shelf pages: one, and one more than there will be
-    ∷ refusesLent (withOptions 0 0 1 0) plainly 1
+    -- shelf pages: one, as many as there may be, one more, and the highest number
+    ∷ opensLent (withOptions 0 0 1 0) plainly
+    ∷ opensLent (withOptions 0 0 8 0) plainly
     ∷ refusesLent (withOptions 0 0 9 0) plainly 1
+    ∷ refusesLent (withOptions 0 0 4294967295 0) plainly 1
     -- marked, without marks and with them
     ∷ refusesLent (withOptions 0 0 0 1) plainly 1
     ∷ refusesLent (withOptions 0 0 0 1) (codesAndMarks 0 6) 1

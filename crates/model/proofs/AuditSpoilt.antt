@@ -85,8 +85,12 @@ withOptions policy coded shelfPages marked = withOptionsAt 1 policy coded shelfP
 abbrev pub heldBy : ℕ → Unspoilt
 heldBy policy = record { store = withOptions policy 0 0 0; answer = readDone 1; page = 0 ∷ [] }
 
+-- and with 1 and 8 shelf pages
+abbrev pub heldWith : ℕ → Unspoilt
+heldWith pages = record { store = withOptions 0 0 pages 0; answer = readDone 1; page = 0 ∷ [] }
+
 abbrev pub unspoilt : List Unspoilt
-unspoilt = held ∷ vacantOnes ∷ highest ∷ heldBy 1 ∷ heldBy 2 ∷ []
+unspoilt = held ∷ vacantOnes ∷ highest ∷ heldBy 1 ∷ heldBy 2 ∷ heldWith 1 ∷ heldWith 8 ∷ []
 
 -- ---- the first of them spoilt at one place
 
@@ -154,9 +158,9 @@ spoilt =
     -- coded is 2
     ∷ withOptions 0 2 0 0
     ∷ withOptionsAt 256 0 2 0 0
-    -- there is 1 shelf page, there are 9
-    ∷ withOptions 0 0 1 0
+    -- there are 9 shelf pages, or the highest number
     ∷ withOptions 0 0 9 0
+    ∷ withOptions 0 0 4294967295 0
     -- marked is 1
     ∷ withOptions 0 0 0 1
     -- a slot holds page N×K

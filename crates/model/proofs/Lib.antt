@@ -33,6 +33,7 @@ pub mod Merges
 pub mod Plain
 pub mod Copies
 pub mod AuditLayers
+pub mod AuditShelf
 pub mod RulesWords
 pub mod RulesRecord
 pub mod RulesMoves
@@ -45,5 +46,6 @@ pub mod RulesReads
 pub mod RulesBytes
 pub mod RulesLists
 pub mod RulesDemand3
-pub mod Unshelved
+pub mod Shelving
 pub mod Legible
+pub mod Undo

@@ -53,7 +53,7 @@ sizes-rule sz = (
     B-is = (l .B-low, l .B-high);
     W-is = (l .W-low, l .W-high);
     policy-is = one-of-three (sz .policy) (l .policy-high);
-    options-are = (l .coded-high, l .shelf-is, l .marked-is);
+    options-are = (l .coded-high, l .shelf-high, l .marked-is);
     chunks-are = λ e. (sz .S / 256, sym (l .whole (coded-on sz e)));
   }),
   (λ l. limits-test sz (record {
@@ -71,7 +71,7 @@ sizes-rule sz = (
     W-high = l .W-is .1;
     policy-high = elim (l .policy-is) [ inl e ↦ omega arith | inr h ↦ elim h [ inl e ↦ omega arith | inr e ↦ omega arith ] ];
     coded-high = l .options-are .0;
-    shelf-is = l .options-are .1;
+    shelf-high = l .options-are .1;
     marked-is = l .options-are .2;
     whole = λ e. let m = l .chunks-are (coded-one sz e) in let q = m .1 in omega arith;
   })),

@@ -2,15 +2,15 @@
 use mathlib.Core.Path.{_≡_, refl, sym, ap, ap₂, _∙_, subst}
 use mathlib.Core.Bool.{Bool, true, false, cond, _&&_}
 use mathlib.Core.List.{List, [], _∷_}
-use Prim.Native.Nat.{ℕ, zero, suc, _+_, _-_, _*_, _≤_, _<_}
+use Prim.Native.Nat.{ℕ, zero, suc, _-_, _*_, _≤_, _<_}
 use native.Mathlib.Omega.{arith}
-use lib.Dec.{leb, ltb, eqb}
-use lib.ListN.{length, getD, set, replicate, length-set, length-replicate, getD-replicate}
+use lib.Dec.{ltb, eqb}
+use lib.ListN.{length, getD, set, length-set, length-replicate, getD-replicate}
 use lib.Seq.{getD-set-same, getD-set-other, set-getD, set-set}
 use borrow.Author.Tests.{ltb-true, ltb-false, eqb-true, eqb-false, lt-ltb, le-ltb, le-leb, eq-eqb, ne-eqb}
-use Rattle.prelude.specs.Scan.{first, all, tab}
-use Rattle.prelude.specs.Pages.{pagesOf, flat}
-use Rattle.prelude.proofs.Tests.{by-test, clash, and-l, and-i, each, every-of}
+use Rattle.prelude.specs.Scan.{first}
+use Rattle.prelude.specs.Pages.{laid, pagesOf, flat}
+use Rattle.prelude.proofs.Tests.{by-test, clash, and-l, and-i, every-of}
 use Rattle.prelude.proofs.Scan.{first-is, all-of}
 use Rattle.prelude.proofs.Tab.{length-tab, getD-tab}
 use Rattle.prelude.proofs.Pages.{length-pageAt, in-run, length-flat, pages-flat}
@@ -18,16 +18,18 @@ use Rattle.model.specs.Sizes.{Sizes, vacant, InLimits}
 use Rattle.model.specs.Directory.{Directory}
 use Rattle.model.specs.Soundness.{sound}
 use Rattle.model.specs.Policy.{Choice}
-use Rattle.model.specs.Calls.{refused, isRefused, Call, read, write, part, step, flush, State, Outcome, turnedDown, checked, decide}
+use Rattle.model.specs.Calls.{refused, isRefused, Call, read, write, part, step, flush, State, Outcome, checked, decide}
 use Rattle.model.specs.Calls.{heeding, Page, noBytes, Cell, Format, Buffers, Fits, lentOk, Store, flashCells, told, carriedOut}
 use Rattle.model.specs.Calls.{callReading}
 use Rattle.model.specs.Calls.{pageSeen, Result, buffersOf, openStore, openDone}
-use Rattle.model.specs.Lists.{arrayAfter, noCell, opened, Chosen, Picks, Reference, bookSays, addedCause, fed, ReadGives, flipped}
-use Rattle.model.specs.Lists.{Borne, After, Step, Bears}
+use Rattle.model.specs.Lists.{arrayAfter, noCell, Chosen, Picks, Reference, bookSays, fed, ReadGives, flipped}
+use Rattle.model.specs.Lists.{Borne, Step, Bears}
 use Rattle.model.specs.Shelf.{shelved, shelve, shelfOk, ShelfCall, plainly, back, isBack, meant, shelves, entriesAfter, shelfAfter}
 use Rattle.model.specs.Shelf.{ShelfStore, ShelfResult, pagesOfShelf, shelvingReads, ordinary, bufferOf, lentTo, shelfCall}
 use Rattle.model.specs.Shelf.{ShelfReference, ShelfChosen, taken, shelfBookSays, shelfFed, shelfFlipped, ShelfGives, ShelfStep}
 use Rattle.model.specs.Shelf.{noEntries, shelfOpened, ShelfClaim}
+-- the histories are checked before the proofs
+use Rattle.model.proofs.AuditShelf
 use Rattle.model.proofs.Soundness.{pages-small, limits-of}
 use Rattle.model.proofs.Opening.{Accept, open-accepted}
 use Rattle.model.proofs.Demand3.{Holds, holds-opened, holds-step, holds-refused, holds-long, holds-sound, holds-borne, holds-after}
@@ -129,7 +131,7 @@ module _ (sz : Sizes) (pick : Choice) (k : State) where
   unfolding heeding
   heeded late o = by-test (isRefused (o .answer)) (λ e. rw (e, heeding) (λ q. absurd (clash e q))) (λ e q. e)
 
-  shelved-lt : (es : List ℕ) (ps : List Page) (c : ShelfCall) (late : ℕ)
+  pub shelved-lt : (es : List ℕ) (ps : List Page) (c : ShelfCall) (late : ℕ)
       → isRefused (heeding k late (decide pick sz k (told (meant es ps c))) .answer) ≡ false → ltb (shelves c) vacant ≡ true
       → shelves c < sz .N * sz .K
   unfolding decide
@@ -423,15 +425,45 @@ module _ (sz : Sizes) (limits : InLimits sz) (h : ℕ) (h-le : h ≤ 8) (h-pos :
       shelve-full sz limits h h-le none k l x t (k - 1) (omega arith)
       ∙ rw (le-ltb (suc (k - 1)) h (omega arith), eq-eqb (suc (k - 1)) h e)))
 
-  module _ (r : ShelfReference) (k : ℕ) (run : Run sz limits h h-le k (r .entries)) (shelf-is : length (r .shelf) ≡ h) (n : ℕ) (x : Page)
-      (n-lt : n < sz .N * sz .K)
+  -- the page that a call which shelves puts into the array
+  abbrev putBy : List Page → ShelfCall → Page
+  putBy a (plainly (read n x)) = []
+  putBy a (plainly (write n x)) = x
+  putBy a (plainly (part n first x page)) = laid first x (getD a n [])
+  putBy a (plainly step) = []
+  putBy a (plainly flush) = []
+  putBy a back = []
+
+  puts : (a : List Page) (es : List ℕ) (ps : List Page) (c : ShelfCall) → ltb (shelves c) vacant ≡ true
+      → arrayAfter a (meant es ps c) false ≡ set a (shelves c) (putBy a c)
+  unfolding arrayAfter
+  puts a es ps (plainly (read n x)) t = clash t refl
+  puts a es ps (plainly (write n x)) t = refl
+  puts a es ps (plainly (part n first x page)) t = by-test (noBytes x) (λ e. clash (rw e at t) refl) (λ e. rw e)
+  puts a es ps (plainly step) t = clash t refl
+  puts a es ps (plainly flush) t = clash t refl
+  puts a es ps back t = clash t refl
+
+  not-back : (c : ShelfCall) → ltb (shelves c) vacant ≡ true → isBack c ≡ false
+  not-back (plainly c) t = refl
+  not-back back t = clash t refl
+
+  -- c is a write, or a part write with bytes
+  module _ (r : ShelfReference) (k : ℕ) (run : Run sz limits h h-le k (r .entries)) (shelf-is : length (r .shelf) ≡ h) (c : ShelfCall)
+      (n-lt : shelves c < sz .N * sz .K)
       (pick pick′ : Choice) (o o′ : Outcome) (ok : isRefused (o .answer) ≡ false) (ok′ : isRefused (o′ .answer) ≡ false)
       (cs cs′ : List Cell) where
+    abbrev n : ℕ
+    n = shelves c
+
     abbrev wrote : ShelfReference
-    wrote = shelfFed sz h r (record { choice = pick; call = plainly (write n x) }) o cs
+    wrote = shelfFed sz h r (record { choice = pick; call = c }) o cs
 
     abbrev undone : ShelfReference
     undone = shelfFed sz h wrote (record { choice = pick′; call = back }) o′ cs′
+
+    writes : ltb (shelves c) vacant ≡ true
+    writes = let s = pages-small sz limits in lt-ltb (shelves c) vacant (omega arith)
 
     after-run : Run sz limits h h-le (cond (ltb k h) (suc k) k) (shelve vacant h k (r .entries) n)
     after-run = by-test (ltb k h) (λ t. rw t (run-more sz limits h h-le k (r .entries) n run n-lt t))
@@ -439,15 +471,15 @@ module _ (sz : Sizes) (limits : InLimits sz) (h : ℕ) (h-le : h ≤ 8) (h-pos :
 
     entries-wrote : wrote .entries ≡ shelve vacant h k (r .entries) n
     unfolding shelfFed entriesAfter
-    entries-wrote = let s = pages-small sz limits in rw (ok, lt-ltb n vacant (omega arith), run-shelved sz limits h h-le k (r .entries) run)
+    entries-wrote = rw (ok, not-back c writes, writes, run-shelved sz limits h h-le k (r .entries) run)
 
     shelf-wrote : wrote .shelf ≡ shelve [] h k (r .shelf) (getD (r .reference .array) n [])
     unfolding shelfFed shelfAfter
-    shelf-wrote = let s = pages-small sz limits in rw (ok, lt-ltb n vacant (omega arith), run-shelved sz limits h h-le k (r .entries) run)
+    shelf-wrote = rw (ok, writes, run-shelved sz limits h h-le k (r .entries) run)
 
-    array-then : wrote .reference .array ≡ set (r .reference .array) n x
-    unfolding shelfFed fed arrayAfter
-    array-then = rw ok
+    array-then : wrote .reference .array ≡ set (r .reference .array) n (putBy (r .reference .array) c)
+    unfolding shelfFed fed
+    array-then = rw ok (puts (r .reference .array) (r .entries) (r .shelf) c writes)
 
     -- taking back is the write of what was there
     back-is : meant (wrote .entries) (wrote .shelf) back ≡ write n (getD (r .reference .array) n [])
@@ -459,7 +491,8 @@ module _ (sz : Sizes) (limits : InLimits sz) (h : ℕ) (h-le : h ≤ 8) (h-pos :
     pub taken-back : undone .reference .array ≡ r .reference .array
     unfolding shelfFed fed arrayAfter
     taken-back = ap (λ (c : Call Page). arrayAfter (wrote .reference .array) c (isRefused (o′ .answer))) back-is
-        ∙ rw (ok′, array-then) (set-set (r .reference .array) n x (getD (r .reference .array) n []) ∙ set-getD (r .reference .array) n [])
+        ∙ rw (ok′, array-then) (set-set (r .reference .array) n (putBy (r .reference .array) c) (getD (r .reference .array) n [])
+        ∙ set-getD (r .reference .array) n [])
 
 -- ---- demand 3 with the shelf, from an accepted opening; h is 0 to 8
 

@@ -9,6 +9,7 @@ pub mod Formats
 pub mod Cut
 pub mod Shelf
 pub mod Legible
+pub mod Undo
 pub mod RulesWords
 pub mod RulesRecord
 pub mod RulesMoves

@@ -20,8 +20,8 @@ abbrev pub VacantRule : Type 0
 VacantRule = vacant ≡ 4294967295
 
 -- Page bytes S 1 to 2,048; pages per block K 2 to 64; flash blocks N 1 to 4,096; page places P 1 to 128; block frames B 1 to 8; wear limit
--- W 1 to 1,000,000. The policy is 0 LRU, 1 FIFO or 2 LFU (request A5). Coded is 0 or 1, and 1 only where S is a multiple of 256 (A6). No
--- other option is taken yet: shelf pages and marked are 0.
+-- W 1 to 1,000,000. The policy is 0 LRU, 1 FIFO or 2 LFU (request A5). Coded is 0 or 1, and 1 only where S is a multiple of 256 (A6). There
+-- are 0 to 8 shelf pages (A8). Marks are not taken yet: marked is 0.
 pub record WithinLimits (sz : Sizes) : Type 0 where
   pub S-is : (1 ≤ sz .S) × (sz .S ≤ 2048)
   pub K-is : (2 ≤ sz .K) × (sz .K ≤ 64)
@@ -30,7 +30,7 @@ pub record WithinLimits (sz : Sizes) : Type 0 where
   pub B-is : (1 ≤ sz .B) × (sz .B ≤ 8)
   pub W-is : (1 ≤ sz .W) × (sz .W ≤ 1000000)
   pub policy-is : (sz .policy ≡ 0) ⊎ ((sz .policy ≡ 1) ⊎ (sz .policy ≡ 2))
-  pub options-are : (sz .coded ≤ 1) × (sz .shelfPages ≡ 0) × (sz .marked ≡ 0)
+  pub options-are : (sz .coded ≤ 1) × (sz .shelfPages ≤ 8) × (sz .marked ≡ 0)
   pub chunks-are : sz .coded ≡ 1 → (m : ℕ) × (sz .S ≡ m * 256)
 
 -- The test of the sizes passes exactly within these limits.

@@ -24,6 +24,7 @@ use Rattle.model.specs.Lists.{Chosen, Picks, Reference, opened, bookSays
 abbrev pub noEntries : List ℕ
 noEntries = replicate 8 vacant
 
+-- none is in use
 abbrev pub allVacant : List ℕ → Bool
 allVacant es = all 8 (λ i. eqb (getD es i 0) vacant)
 
@@ -41,6 +42,10 @@ unfoldable pub shelfOk : Sizes → ℕ → List ℕ → Bool
 shelfOk sz h es = every (
     eqb (length es) 8 ∷ leb (shelved es) h
     ∷ all 8 (λ i. cond (ltb i (shelved es)) (ltb (getD es i vacant) (sz .N * sz .K)) (eqb (getD es i vacant) vacant)) ∷ [])
+
+-- entries es are sound, and a shelf of so many bytes is as long as h shelf pages
+abbrev pub shelfFits : Sizes → ℕ → List ℕ → ℕ → Bool
+shelfFits sz h es long = shelfOk sz h es && eqb long (h * sz .S)
 
 -- ---- the calls
 

@@ -24,30 +24,20 @@ use Rattle.chip.proofs.Looking.{none-either, mends-few}
 use Rattle.writes.specs.Writes.{Writable, Beside, state, writeHeeding, Wrote}
 use Rattle.parts.specs.Parts.{PartReady, combinedOf, Combined, PartWrote}
 use Rattle.answer.specs.declared.Refusal.{Refusal}
-use Rattle.answer.specs.declared.Refusal.the-variants as why
 use Rattle.answer.specs.declared.Write.{Write}
 use Rattle.answer.specs.declared.Write.the-variants.{Refused}
-use Rattle.answer.specs.Numbers.{refusalOf, writeOf}
+use Rattle.answer.specs.Numbers.{writeOf}
 use Rattle.answer.proofs.Heeding.{met-nothing}
+use Rattle.answer.proofs.Refusals.{write-refused}
 
 -- laid in from the first byte on, as many bytes as there are take the place of all
 pub laid-whole : (x l : List ℕ) → length l ≡ length x → laid 0 x l ≡ x
 unfolding laid
 laid-whole x l e = rw (zero-add (length x), sym e, drop-length l) (append-nil x)
 
-why-refused : (why : Refusal) → isRefused (refusalOf why) ≡ true
-why-refused why.Size = refl
-why-refused why.Buffer = refl
-why-refused why.Overworn = refl
-why-refused why.Record = refl
-why-refused why.Page = refl
-why-refused (why.Worn b) = refl
-why-refused why.Unreadable = refl
-why-refused why.Torn = refl
-
 -- a refused write leaves the page buffer x
 pub stays : (a : Write) (why : Refusal) → a ≡ Refused why → (x y : List ℕ) → x ≡ cond (isRefused (writeOf a)) x y
-stays a why e x y = sym (ap (λ (t : Write). cond (isRefused (writeOf t)) x y) e ∙ ap (λ (t : Bool). cond t x y) (why-refused why))
+stays a why e x y = sym (ap (λ (t : Bool). cond t x y) (write-refused a why e))
 
 -- ---- from what a part write asks to what its read and its write ask, and back from what they leave
 

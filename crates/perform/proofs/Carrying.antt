@@ -7,7 +7,7 @@ use lib.ListN.{length, take, getD, replicate}
 use Rattle.model.specs.Policy.{policyChoice}
 use Rattle.model.specs.Calls.{Page, read, write, step, flush}
 use Rattle.model.specs.Shelf.{plainly, ShelfStore, ShelfResult, storeCall}
-use Rattle.model.proofs.Unshelved.{empty-is}
+use Rattle.model.proofs.Shelving.{empty-is}
 use Rattle.answer.specs.Numbers.{readOf, writeOf, stepOf, flushOf}
 use Rattle.print.specs.Print.{Printed, lineRoom, wearRoom, writeLine, readLine, stepLine, flushLine}
 use Rattle.print.proofs.Put.{printed-front, printed-as}

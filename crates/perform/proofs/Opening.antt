@@ -28,13 +28,17 @@ use Rattle.perform.specs.Effects.{fresh, opened, only}
 use Rattle.perform.specs.View.{Carries}
 use Rattle.perform.proofs.Carrying.{carries}
 
-module _ (sz : model.Sizes) where
-  -- the sizes ask for no codes and no marks
-  abbrev pub NoneAsked : Type 0
-  NoneAsked = (0 ≡ sz .N * sz .K * codeLong sz) × (0 ≡ sz .N * sz .K * markLong sz)
+-- no shelf page has no bytes
+pub no-pages : (h s : ℕ) → h ≡ 0 → 0 ≡ h * s
+no-pages h s e = rw e (omega arith)
 
-  pub none-asked : isCoded sz ≡ false → isMarked sz ≡ false → NoneAsked
-  none-asked c m = (rw (codeLong, c) (omega arith), rw (markLong, m) (omega arith))
+module _ (sz : model.Sizes) where
+  -- the sizes ask for no codes, no marks and no shelf
+  abbrev pub NoneAsked : Type 0
+  NoneAsked = (0 ≡ sz .N * sz .K * codeLong sz) × (0 ≡ sz .N * sz .K * markLong sz) × (0 ≡ sz .shelfPages * sz .S)
+
+  pub none-asked : isCoded sz ≡ false → isMarked sz ≡ false → sz .shelfPages ≡ 0 → NoneAsked
+  none-asked c m h = (rw (codeLong, c) (omega arith), rw (markLong, m) (omega arith), rw h (omega arith))
 
   lent-fresh : NoneAsked → lentOk storeFormat sz (fresh sz .below) ≡ true
   unfolding lentOk fresh
@@ -67,9 +71,9 @@ module _ (sz : model.Sizes) where
   within-fresh = all-of (length (replicate {A = ℕ} (sz .N) 0)) (λ b. leb (getD (replicate {A = ℕ} (sz .N) 0) b 0) (sz .W))
       (λ i l. le-leb _ _ (zero-least i l))
 
-  no-shelf : length (fresh sz .shelf) ≡ 0
+  no-shelf : NoneAsked → length (fresh sz .shelf) ≡ sz .shelfPages * sz .S
   unfolding fresh
-  no-shelf = refl
+  no-shelf none = none .2
 
   abbrev opens : ShelfOpened
   opens = storeOpen sz (fresh sz .below) (fresh sz .shelf)
@@ -80,7 +84,7 @@ module _ (sz : model.Sizes) where
     cache = record { sizes = sz; directory = vacantDirectory };
     entries = noEntries;
   }
-  open-fresh none ok = open-done sz (fresh sz .below) (fresh sz .shelf) ok (lent-fresh none) no-shelf within-fresh
+  open-fresh none ok = open-done sz (fresh sz .below) (fresh sz .shelf) ok (lent-fresh none) (no-shelf none) within-fresh
 
   pub opened-done : (s : ShelfStore) → NoneAsked → sizesOk sz ≡ true → opened s sz
       ≡ record {

@@ -45,7 +45,8 @@ pub fn opened(
 ) -> Lined
     requires { ⌜ (
         let u = plainLent (now flash) (now wear) (now pspace) (now bspace) in
-        (sizesOk (sizesOf sizes) ≡ true → Fits storeFormat (sizesOf sizes) (u .below)) × (lineRoom ≤ length (now out))) ⌝ }
+        (sizesOk (sizesOf sizes) ≡ true → Fits storeFormat (sizesOf sizes) (u .below) × (sizes .«shelf_pages» ≡ 0))
+        × (lineRoom ≤ length (now out))) ⌝ }
     ensures { λ r. ⌜ (
         let u = plainLent (now (flash .entry)) (now (wear .entry)) (now (pspace .entry)) (now (bspace .entry)) in
         let u′ = plainLent (now (flash .exit)) (now (wear .exit)) (now (pspace .exit)) (now (bspace .exit)) in

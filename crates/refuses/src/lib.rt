@@ -11,7 +11,7 @@ use store::Cache;
 ghost use Prim.Native.Nat.{_≤_};
 
 // How many calls there are on a record: each has a function below, and a place in `calls`.
-const CALLS: u64 = 5;
+const CALLS: u64 = 6;
 
 // 1 where every call refuses a record, else 0.
 pub fn every_call(c: Cache) -> u64 {
@@ -20,7 +20,7 @@ pub fn every_call(c: Cache) -> u64 {
 
 // How many of the calls refuse a record.
 pub fn calls(c: Cache) -> u64 {
-    one(reads(c)) + one(writes(c)) + one(parts(c)) + one(steps(c)) + one(flushes(c))
+    one(reads(c)) + one(writes(c)) + one(parts(c)) + one(steps(c)) + one(flushes(c)) + one(backs(c))
 }
 
 fn one(yes: bool) -> u64
@@ -169,6 +169,32 @@ fn flushes(c: Cache) -> bool {
     is_record(why) & same(c, next) & untouched(flash, wear, pspace, bspace)
 }
 
+// Whether taking back is.
+fn backs(c: Cache) -> bool {
+    let mut flash = [1u8; 32];
+    let mut wear = [2u32; 8];
+    let mut pspace = [3u8; 3];
+    let mut bspace = [4u8; 8];
+    let mut codes = [0u8; 0];
+    let mut marks = [0u8; 0];
+    let shelf = [0u8; 0];
+    let r = c.take_back(
+        &mut flash,
+        &mut codes,
+        &mut marks,
+        &mut wear,
+        &mut pspace,
+        &mut bspace,
+        &shelf,
+    );
+    let next = r.cache;
+    let answer = r.answer;
+    let Write::Refused(why) = answer else {
+        return false;
+    };
+    is_record(why) & same(c, next) & untouched(flash, wear, pspace, bspace)
+}
+
 // Whether a refusal is number 4.
 fn is_record(why: Refusal) -> bool {
     match why {
@@ -179,6 +205,7 @@ fn is_record(why: Refusal) -> bool {
         Refusal::Page => false,
         Refusal::Worn(_) => false,
         Refusal::Unreadable => false,
+        Refusal::Empty => false,
         Refusal::Torn => false,
     }
 }

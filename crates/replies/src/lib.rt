@@ -118,6 +118,7 @@ fn refused(why: Refusal) -> Answer
         Refusal::Page => turned_down(5, VACANT),
         Refusal::Worn(b) => turned_down(6, b.0),
         Refusal::Unreadable => turned_down(7, VACANT),
+        Refusal::Empty => turned_down(8, VACANT),
         Refusal::Torn => turned_down(14, VACANT),
     }
 }

@@ -4,7 +4,7 @@ use Prim.Native.Nat.{ℕ}
 use Rattle.model.specs.Sizes.{vacant}
 use Rattle.model.specs.Calls.{refused}
 use Rattle.answer.specs.declared.Refusal.{Refusal}
-use Rattle.answer.specs.declared.Refusal.the-variants.{Size, Buffer, Overworn, Record, Page, Worn, Unreadable, Torn}
+use Rattle.answer.specs.declared.Refusal.the-variants.{Size, Buffer, Overworn, Record, Page, Worn, Unreadable, Empty, Torn}
 use Rattle.answer.specs.Numbers.{refusalOf}
 use Rattle.print.specs.Print.{said}
 use Rattle.say.specs.Said.{numberOf}
@@ -18,6 +18,7 @@ same-refusal Record a b = refl
 same-refusal Page a b = refl
 same-refusal (Worn w) a b = refl
 same-refusal Unreadable a b = refl
+same-refusal Empty a b = refl
 same-refusal Torn a b = refl
 
 -- a refusal prints its number alone

@@ -87,6 +87,7 @@ fn number(why: Refusal) -> u32
         Refusal::Page => 5,
         Refusal::Worn(_) => 6,
         Refusal::Unreadable => 7,
+        Refusal::Empty => 8,
         Refusal::Torn => 14,
     }
 }

@@ -2,22 +2,28 @@
 use mathlib.Core.Path.{_≡_, sym, ap, _∙_}
 use mathlib.Core.Bool.{Bool, true, false}
 use mathlib.Core.List.{List}
-use Prim.Native.Nat.{ℕ}
+use Prim.Native.Nat.{ℕ, _*_, _≤_}
+use native.Mathlib.Nat.{mul-le-mul}
+use native.Mathlib.Omega.{arith}
 use lib.Dec.{leb, eqb}
 use lib.ListN.{length, getD}
 use borrow.Author.Tests.{eqb-true, eqb-false}
 use Rattle.prelude.specs.Scan.{all}
 use Rattle.prelude.proofs.Tests.{by-test, each}
-use Rattle.model.specs.Sizes.{Sizes, vacant, sizesOk}
+use Rattle.model.specs.Sizes.{Sizes, vacant, sizesOk, InLimits}
 use Rattle.model.specs.Directory.{vacantDirectory, blankCache}
 use Rattle.model.specs.Formats.{storeFormat}
 use Rattle.model.specs.Shelf.{ShelfOpened, noEntries, storeOpen}
 use Rattle.model.specs.Calls.{Buffers, openDone, refused, lentOk, openStore}
-use Rattle.model.proofs.Unshelved.{openedBelow, open-idle, open-busy, open-unsized}
+use Rattle.model.proofs.Shelving.{openedBelow, open-fit, open-unfit, open-unsized}
 
 pub wear-length : (sz : Sizes) (u : Buffers) → lentOk storeFormat sz u ≡ true → length (u .wear) ≡ sz .N
 unfolding lentOk
 wear-length sz u h = eqb-true _ _ (each _ h .1 .1 .1 .0)
+
+-- the shelf is short
+pub shelf-small : (sz : Sizes) → InLimits sz → sz .shelfPages * sz .S ≤ 16384
+shelf-small sz h = let a : sz .shelfPages * sz .S ≤ 8 * 2048 = mul-le-mul (h .shelf-high) (h .S-high) in omega arith
 
 module _ (sz : Sizes) (u : Buffers) where
   abbrev refusedAs : ℕ → ShelfOpened
@@ -47,17 +53,21 @@ module _ (sz : Sizes) (u : Buffers) where
     pub open-size : sizesOk sz ≡ false → storeOpen sz u sb ≡ refusedAs 1
     open-size a = open-unsized sz u sb a ∙ size-below a
 
-    pub open-shelf : sizesOk sz ≡ true → (length sb ≡ 0 → ⊥) → storeOpen sz u sb ≡ refusedAs 2
-    open-shelf a e = open-busy sz u sb a e
+    -- the shelf has the length that the sizes ask for
+    abbrev Fitting : Type 0
+    Fitting = length sb ≡ sz .shelfPages * sz .S
+
+    pub open-shelf : sizesOk sz ≡ true → (Fitting → ⊥) → storeOpen sz u sb ≡ refusedAs 2
+    open-shelf a e = open-unfit sz u sb a e
 
     pub open-buffer : sizesOk sz ≡ true → lentOk storeFormat sz u ≡ false → storeOpen sz u sb ≡ refusedAs 2
-    open-buffer a b = by-test (eqb (length sb) 0) (λ e. open-idle sz u sb (eqb-true _ 0 e) ∙ buffer-below a b)
-        (λ e. open-busy sz u sb a (eqb-false _ 0 e))
+    open-buffer a b = by-test (eqb (length sb) (sz .shelfPages * sz .S)) (λ e. open-fit sz u sb (eqb-true _ _ e) ∙ buffer-below a b)
+        (λ e. open-unfit sz u sb a (eqb-false _ _ e))
 
-    pub open-overworn : sizesOk sz ≡ true → lentOk storeFormat sz u ≡ true → length sb ≡ 0 → within (length (u .wear)) ≡ false
+    pub open-overworn : sizesOk sz ≡ true → lentOk storeFormat sz u ≡ true → Fitting → within (length (u .wear)) ≡ false
         → storeOpen sz u sb ≡ refusedAs 3
-    open-overworn a b e c = open-idle sz u sb e ∙ overworn-below a b c
+    open-overworn a b e c = open-fit sz u sb e ∙ overworn-below a b c
 
-    pub open-done : sizesOk sz ≡ true → lentOk storeFormat sz u ≡ true → length sb ≡ 0 → within (length (u .wear)) ≡ true
+    pub open-done : sizesOk sz ≡ true → lentOk storeFormat sz u ≡ true → Fitting → within (length (u .wear)) ≡ true
         → storeOpen sz u sb ≡ record { answer = openDone; cache = record { sizes = sz; directory = vacantDirectory }; entries = noEntries }
-    open-done a b e c = open-idle sz u sb e ∙ done-below a b c
+    open-done a b e c = open-fit sz u sb e ∙ done-below a b c

@@ -1,6 +1,7 @@
-// The calls on the directory's lists, with the shelf's entries and the shelf: a call that has either is refused, and every other is
-// checked and carried out.
-use crate::shelf;
+// The calls on the directory's lists, with the shelf's entries and the shelf: a call where they do not fit is refused, and every other is
+// checked and carried out. Writes of a store with shelf pages go their own way.
+use crate::keep;
+use crate::unfit;
 use address::PageNo;
 use answer::Flush;
 use answer::Read;
@@ -47,8 +48,8 @@ pub(crate) fn read(
         resultOn (readOf r) (mendsOfRead r) z d′ es u (now (page .exit))
         ≡ storeCall policyChoice (storeOn z d es u) (plainly (calls.read (n .0) (now (page .entry))))) ⌝ }
 {
-    if !shelf::idle(entries, shelf.len()) {
-        let why = shelf::refusal(z, entries, slots, frames, valid, recency, uses);
+    if !shelf::fitting(z, entries, shelf.len()) {
+        let why = unfit::refusal(z, entries, slots, frames, valid, recency, uses);
         return Read::Refused(why);
     }
     checked::read::read(
@@ -72,7 +73,7 @@ pub(crate) fn read(
 // Writing a page.
 pub(crate) fn write(
     z: Sizes,
-    entries: &[u32; 8],
+    entries: &mut [u32; 8],
     slots: &mut [u32; 128],
     frames: &mut [u32; 8],
     valid: &mut [u64; 8],
@@ -84,7 +85,7 @@ pub(crate) fn write(
     wear: &mut [u32],
     pspace: &mut [u8],
     bspace: &mut [u8],
-    shelf: &[u8],
+    shelf: &mut [u8],
     n: PageNo,
     page: &[u8],
 ) -> Write
@@ -93,16 +94,37 @@ pub(crate) fn write(
         let d = numbers (now (slots .entry)) (now (frames .entry)) (now (valid .entry)) (now (recency .entry)) (now (uses .entry)) in
         let d′ = numbers (now (slots .exit)) (now (frames .exit)) (now (valid .exit)) (now (recency .exit)) (now (uses .exit)) in
         let es = now (entries .entry) in
+        let es′ = now (entries .exit) in
         let u = lent (now (flash .entry)) (now (codes .entry)) (now (marks .entry))
         (now (wear .entry)) (now (pspace .entry)) (now (bspace .entry)) (now (shelf .entry)) in
         let u′ = lent (now (flash .exit)) (now (codes .exit)) (now (marks .exit))
-        (now (wear .exit)) (now (pspace .exit)) (now (bspace .exit)) (now (shelf .entry)) in
-        resultOn (writeOf r) (mendsOfWrite r) z d′ es u′ (now (page .entry))
+        (now (wear .exit)) (now (pspace .exit)) (now (bspace .exit)) (now (shelf .exit)) in
+        resultOn (writeOf r) (mendsOfWrite r) z d′ es′ u′ (now (page .entry))
         ≡ storeCall policyChoice (storeOn z d es u) (plainly (calls.write (n .0) (now (page .entry))))) ⌝ }
 {
-    if !shelf::idle(entries, shelf.len()) {
-        let why = shelf::refusal(z, entries, slots, frames, valid, recency, uses);
+    if !shelf::fitting(z, entries, shelf.len()) {
+        let why = unfit::refusal(z, entries, slots, frames, valid, recency, uses);
         return Write::Refused(why);
+    }
+    if z.shelf_pages != 0 {
+        return keep::write(
+            z,
+            entries,
+            slots,
+            frames,
+            valid,
+            recency,
+            uses,
+            flash,
+            codes,
+            marks,
+            wear,
+            pspace,
+            bspace,
+            shelf,
+            n,
+            page,
+        );
     }
     checked::write::write(
         z,
@@ -125,7 +147,7 @@ pub(crate) fn write(
 // Writing part of a page.
 pub(crate) fn part(
     z: Sizes,
-    entries: &[u32; 8],
+    entries: &mut [u32; 8],
     slots: &mut [u32; 128],
     frames: &mut [u32; 8],
     valid: &mut [u64; 8],
@@ -137,7 +159,7 @@ pub(crate) fn part(
     wear: &mut [u32],
     pspace: &mut [u8],
     bspace: &mut [u8],
-    shelf: &[u8],
+    shelf: &mut [u8],
     n: PageNo,
     first: u32,
     bytes: &[u8],
@@ -148,16 +170,39 @@ pub(crate) fn part(
         let d = numbers (now (slots .entry)) (now (frames .entry)) (now (valid .entry)) (now (recency .entry)) (now (uses .entry)) in
         let d′ = numbers (now (slots .exit)) (now (frames .exit)) (now (valid .exit)) (now (recency .exit)) (now (uses .exit)) in
         let es = now (entries .entry) in
+        let es′ = now (entries .exit) in
         let u = lent (now (flash .entry)) (now (codes .entry)) (now (marks .entry))
         (now (wear .entry)) (now (pspace .entry)) (now (bspace .entry)) (now (shelf .entry)) in
         let u′ = lent (now (flash .exit)) (now (codes .exit)) (now (marks .exit))
-        (now (wear .exit)) (now (pspace .exit)) (now (bspace .exit)) (now (shelf .entry)) in
-        resultOn (writeOf r) (mendsOfWrite r) z d′ es u′ (now (page .exit))
+        (now (wear .exit)) (now (pspace .exit)) (now (bspace .exit)) (now (shelf .exit)) in
+        resultOn (writeOf r) (mendsOfWrite r) z d′ es′ u′ (now (page .exit))
         ≡ storeCall policyChoice (storeOn z d es u) (plainly (calls.part (n .0) first (now (bytes .entry)) (now (page .entry))))) ⌝ }
 {
-    if !shelf::idle(entries, shelf.len()) {
-        let why = shelf::refusal(z, entries, slots, frames, valid, recency, uses);
+    if !shelf::fitting(z, entries, shelf.len()) {
+        let why = unfit::refusal(z, entries, slots, frames, valid, recency, uses);
         return Write::Refused(why);
+    }
+    if (z.shelf_pages != 0) & (bytes.len() != 0) {
+        return keep::part(
+            z,
+            entries,
+            slots,
+            frames,
+            valid,
+            recency,
+            uses,
+            flash,
+            codes,
+            marks,
+            wear,
+            pspace,
+            bspace,
+            shelf,
+            n,
+            first,
+            bytes,
+            page,
+        );
     }
     checked::part::write(
         z,
@@ -208,8 +253,8 @@ pub(crate) fn step(
         resultOn (stepOf r) (mendsOfStep r) z d′ es u′ []
         ≡ storeCall policyChoice (storeOn z d es u) (plainly calls.step)) ⌝ }
 {
-    if !shelf::idle(entries, shelf.len()) {
-        let why = shelf::refusal(z, entries, slots, frames, valid, recency, uses);
+    if !shelf::fitting(z, entries, shelf.len()) {
+        let why = unfit::refusal(z, entries, slots, frames, valid, recency, uses);
         return Step::Refused(why);
     }
     checked::flush::step(
@@ -257,8 +302,8 @@ pub(crate) fn flush(
         resultOn (flushOf r) (mendsOfFlush r) z d′ es u′ []
         ≡ storeCall policyChoice (storeOn z d es u) (plainly calls.flush)) ⌝ }
 {
-    if !shelf::idle(entries, shelf.len()) {
-        let why = shelf::refusal(z, entries, slots, frames, valid, recency, uses);
+    if !shelf::fitting(z, entries, shelf.len()) {
+        let why = unfit::refusal(z, entries, slots, frames, valid, recency, uses);
         return Flush::Refused(why);
     }
     checked::flush::flush(

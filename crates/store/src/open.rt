@@ -54,7 +54,8 @@ impl Cache {
         ) {
             return refused(Refusal::Buffer);
         }
-        if shelf.len() != 0 {
+        let long = sizes.shelf_pages as usize * (sizes.page_size as usize);
+        if shelf.len() != long {
             return refused(Refusal::Buffer);
         }
         if !lent::wear_ok(wear, sizes.wear_limit) {

@@ -34,7 +34,7 @@ impl Cache {
     {
         let z = self.sizes;
         let d = self.directory;
-        let entries = self.entries;
+        let mut entries = self.entries;
         let mut slots = d.page_numbers();
         let mut frames = d.block_numbers();
         let mut valid = d.valid;
@@ -42,7 +42,7 @@ impl Cache {
         let mut uses = d.uses;
         let answer = lists::part(
             z,
-            &entries,
+            &mut entries,
             &mut slots,
             &mut frames,
             &mut valid,

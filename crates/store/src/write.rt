@@ -31,7 +31,7 @@ impl Cache {
     {
         let z = self.sizes;
         let d = self.directory;
-        let entries = self.entries;
+        let mut entries = self.entries;
         let mut slots = d.page_numbers();
         let mut frames = d.block_numbers();
         let mut valid = d.valid;
@@ -39,7 +39,7 @@ impl Cache {
         let mut uses = d.uses;
         let answer = lists::write(
             z,
-            &entries,
+            &mut entries,
             &mut slots,
             &mut frames,
             &mut valid,

@@ -35,6 +35,7 @@ unfolding blankCache isCoded isMarked
 held-blank = record {
   no-codes = refl;
   no-marks = refl;
+  no-shelf = refl;
   S-high = omega arith;
   K-high = omega arith;
   N-high = omega arith;
@@ -74,7 +75,7 @@ five-ok sz ok =
       W-high = omega arith;
       policy-high = omega arith;
       coded-high = omega arith;
-      shelf-is = refl;
+      shelf-high = omega arith;
       marked-is = refl;
       whole = λ e. clash e (coded-off (five sz) (λ (q : _≡_ {A = ℕ} 0 1). omega arith));
     })
@@ -83,10 +84,10 @@ sized-cond : (b : Bool) (x y : Form) → Sized x → Sized y → Sized (cond b x
 sized-cond true x y h k = h
 sized-cond false x y h k = k
 
-sized-opening : (sz : Sizes) → sz .coded ≡ 0 → sz .marked ≡ 0 → Sized (opening sz)
+sized-opening : (sz : Sizes) → sz .coded ≡ 0 → sz .marked ≡ 0 → sz .shelfPages ≡ 0 → Sized (opening sz)
 unfolding opening
-sized-opening sz c m = by-test (sizesOk (five sz) && not (buffersFit sz)) (λ t. rw t tt)
-    (λ t. rw t (uncoded sz c, unmarked sz m, λ ok. not-f (and-not-l (five-ok sz ok) t)))
+sized-opening sz c m h = by-test (sizesOk (five sz) && not (buffersFit sz)) (λ t. rw t tt)
+    (λ t. rw t (uncoded sz c, unmarked sz m, (λ ok. not-f (and-not-l (five-ok sz ok) t)), h))
 
 module _ (w ns : List ℕ) where
   abbrev from-wear : Form
@@ -113,7 +114,7 @@ module _ (w ns : List ℕ) where
   sized-with : Sized (formWith w ns)
   unfolding formWith
   sized-with = sized-cond (same w (bytes "open") && eqb (length ns) 6) (opening (sizesFrom ns)) from-write
-      (sized-opening (sizesFrom ns) refl refl)
+      (sized-opening (sizesFrom ns) refl refl refl)
       (sized-cond (same w (bytes "write") && (eqb (length ns) 2 && leb (getD ns 1 0) 255)) (writes (getD ns 0 0) (getD ns 1 0)) from-read
       tt sized-read)
 

@@ -1,9 +1,11 @@
 use borrow.Author.Needs.{needs}
-use mathlib.Core.Path.{sym, ap, _∙_}
+use native.Mathlib.Omega.{arith}
+use Prim.Native.Nat.{_*_}
+use mathlib.Core.Path.{_≡_, sym, ap, _∙_}
 use lib.ListN.{length, length-replicate}
 use borrow.Author.Tests.{not-true, not-false}
 use Rattle.store.specs.View.{plainLent}
-use Rattle.perform.proofs.Opening.{fresh-is, refused-carries, open-carries}
+use Rattle.perform.proofs.Opening.{no-pages, fresh-is, refused-carries, open-carries}
 use Rattle.perform.proofs.opened.Statement.{statement}
 use Rattle.perform.proofs.opened.Tie as tie
 
@@ -139,8 +141,9 @@ returns-2 c =
     let start : tie.Start = search back in
     let a = start .args in
     let ok = sym (after-ok .ok .ensures) ∙ not-false _ (else1 .if1 .left) in
-    let fits = start .pre .0 ok in
-    rw (c .printed2 .ensures) (open-carries _ _ _ _ _ _ (fits .codes-length, fits .marks-length) ok
+    let fits = start .pre .0 ok .0 in
+    let none : 0 ≡ a .sizes .«shelf_pages» * a .sizes .«page_size» = no-pages _ _ (start .pre .0 ok .1) in
+    rw (c .printed2 .ensures) (open-carries _ _ _ _ _ _ (fits .codes-length, fits .marks-length, none) ok
     (fresh-is _ (plainLent (a .flash .now) (a .wear .now) (a .pspace .now) (a .bspace .now)) fits _ _ _ _
     (after-fill .fill .ensures) (after-clear .clear .ensures) (after-fill2 .fill2 .ensures) (after-fill3 .fill3 .ensures))
     (after-open .«open» .result) (after-open .«open» .ensures) (after-opening .opening .ensures))

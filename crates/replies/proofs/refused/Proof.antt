@@ -94,6 +94,17 @@ returns-8 c =
     let after-enum-told7 : tie.After-enum-told7 = search in
     rw (c .turned-down8 .ensures) (rw (after-enum-told7 .enum-told7 .given .1) refl)
 
+enum-told-8 : tie.Need-enum-told-8
+enum-told-8 c = search needs
+
+turned-down-requires-9 : tie.Need-turned-down-requires-9
+turned-down-requires-9 c κs = search needs
+
+returns-9 : tie.Need-returns-9
+returns-9 c =
+    let after-enum-told8 : tie.After-enum-told8 = search in
+    rw (c .turned-down9 .ensures) (rw (after-enum-told8 .enum-told8 .given .1) refl)
+
 pub refused-spec : {M : Type 1} → statement M
 refused-spec =
     tie.close
@@ -114,6 +125,8 @@ refused-spec =
     turned-down-requires-7
     enum-told-7
     turned-down-requires-8
+    enum-told-8
+    turned-down-requires-9
     returns
     returns-2
     returns-3
@@ -121,4 +134,5 @@ refused-spec =
     returns-5
     returns-6
     returns-7
-    returns-8)
+    returns-8
+    returns-9)

@@ -39,6 +39,7 @@ pub enum Form {
         seed: u32,
         len: u32,
     },
+    TakeBack,
     Step,
     Flush,
     Dump,
@@ -63,6 +64,7 @@ const FORMS: &[Row] = &[
     Row { word: "read", since: 0, make: |w| Some(Form::Read { n: w.number()?, len: None }) },
     Row { word: "readlen", since: 0, make: |w| Some(Form::Read { n: w.number()?, len: Some(w.number()?) }) },
     Row { word: "part", since: 1, make: |w| Some(Form::Part { n: w.number()?, first: w.number()?, seed: w.number()?, len: w.number()? }) },
+    Row { word: "takeback", since: 8, make: |_| Some(Form::TakeBack) },
     Row { word: "step", since: 0, make: |_| Some(Form::Step) },
     Row { word: "flush", since: 0, make: |_| Some(Form::Flush) },
     Row { word: "dump", since: 0, make: |_| Some(Form::Dump) },
@@ -230,7 +232,11 @@ mod tests {
             "(spoil s 9 1)",
             "(open 1 2 3 2 1 9 0 0 0 0)",
             "(open 256 2 3 2 1 9 0 1 0 0)",
+            "(open 1 2 3 2 1 9 0 0 8 0)",
             "(flip code 0 7)",
+            "(takeback)",
+            "(spoil shelf 0 9)",
+            "(spoil shelfno 7 0)",
         ] {
             assert!(parse(line.as_bytes()).is_some(), "{line}");
         }
@@ -261,7 +267,8 @@ mod tests {
             "(spoil order 0 256)",
             "(spoil place 128 0)",
             "(spoil valid 0 18446744073709551616)",
-            "(spoil shelf 0 0)",
+            "(spoil marked 0 0)",
+            "(spoil shelfno 8 0)",
             "(flip code 0)",
             "(flip mark 0 0)",
             "(open 1 2 3 2 1 9)",
@@ -269,7 +276,7 @@ mod tests {
             "(open 1 2 3 2 1 9 0 0 0 1)",
             "(part 0 0 1)",
             "(part 0 0 1 1 1)",
-            "(takeback)",
+            "(takeback 0)",
             "(report)",
         ];
         for line in reads.iter().map(String::as_str).chain(others) {

@@ -11,7 +11,7 @@ use std::io::{self, BufWriter, Read, Write};
 #[derive(Clone, Copy)]
 pub struct Release(u32);
 
-const RELEASE: Release = Release(7);
+const RELEASE: Release = Release(8);
 
 impl Release {
     /// Whether what request `since` brings, or the base where it is 0, is in force.
@@ -142,7 +142,8 @@ mod tests {
         let said = replay("(dump)").concat();
         assert!(said.starts_with("(dump (sizes 0 0 0 0 0 0) (places 4294967295 "), "{said}");
         let middle = " (valid 0 0 0 0 0 0 0 0) (order 0 1 2 3 4 5 6 7) (flash 00000000) (wear) (pspace 00000000) (bspace 00000000)";
-        assert!(said.contains(middle) && said.ends_with(" (policy 0) (uses 0 0 0 0 0 0 0 0) (coded 0) (codes 00000000))"), "{said}");
+        let end = format!(" (coded 0) (codes 00000000) (shelf 0) (shelfno{}) (shelfbytes 00000000))", " 4294967295".repeat(8));
+        assert!(said.contains(middle) && said.contains(" (policy 0) (uses 0 0 0 0 0 0 0 0)") && said.ends_with(&end), "{said}");
     }
 
     /// What follows p-space and b-space in the dump is of the options in force, and of no other.
@@ -159,16 +160,43 @@ mod tests {
         }
     }
 
-    /// An option that is in force is the store's to take or to refuse; it takes no other than policy and codes yet.
+    #[test]
+    fn taking_back() {
+        let script = "(open 1 2 3 2 1 9 0 0 2 0)\n(takeback)\n(write 0 10)\n(write 0 20)\n(part 0 0 30 1)\n(takeback)\n(read 0)\n\
+                      (takeback)\n(read 0)\n(takeback)\n(takeback 0)\n";
+        let said = [
+            "(open (done))",
+            "(takeback (refused 8))",
+            "(write (way 3) (erased none) (merged 0) (mended 0))",
+            "(write (way 1) (erased none) (merged 0) (mended 0))",
+            "(part (way 1) (erased none) (merged 0) (mended 0) (page 280dd2ee))",
+            "(takeback (way 1) (erased none) (merged 0) (mended 0))",
+            "(read (way 1) (mended 0) (page c8d83bf0))",
+            "(takeback (way 1) (erased none) (merged 0) (mended 0))",
+            "(read (way 1) (mended 0) (page 32d70693))",
+            "(takeback (refused 8))",
+            "(bad 11)",
+        ];
+        assert_eq!(replay(script), said);
+        assert_eq!(replay_at(Release(7), "(takeback)"), ["(bad 1)"]);
+    }
+
+    /// An option that is in force is the store's to take or to refuse; it takes no marks yet.
     #[test]
     fn options_reach_the_store() {
         let script = |options| format!("(open 256 2 3 2 1 9 {options})\n(open 256 2 3 2 1 9 0 0 0 0)\n(reopen 256 2 3 2 1 9 {options})\n");
-        for options in ["0 0 1 0", "0 0 0 1"] {
-            assert_eq!(replay(&script(options)), ["(bad 1)", "(open (done))", "(bad 3)"]);
-            assert_eq!(replay_at(Release(12), &script(options)), ["(open (refused 1))", "(open (done))", "(open (refused 1))"]);
+        assert_eq!(replay(&script("0 0 0 1")), ["(bad 1)", "(open (done))", "(bad 3)"]);
+        assert_eq!(replay_at(Release(12), &script("0 0 0 1")), ["(open (refused 1))", "(open (done))", "(open (refused 1))"]);
+        for options in ["3 0 0 0", "0 0 9 0", "0 0 4294967295 0"] {
+            assert_eq!(replay(&script(options)), ["(open (refused 1))", "(open (done))", "(open (refused 1))"]);
         }
-        assert_eq!(replay(&script("3 0 0 0")), ["(open (refused 1))", "(open (done))", "(open (refused 1))"]);
-        for (options, since, again) in [("1 0 0 0", 5, "(done)"), ("2 0 0 0", 5, "(done)"), ("0 1 0 0", 6, "(refused 2)")] {
+        for (options, since, again) in [
+            ("1 0 0 0", 5, "(done)"),
+            ("2 0 0 0", 5, "(done)"),
+            ("0 1 0 0", 6, "(refused 2)"),
+            ("0 0 1 0", 8, "(refused 2)"),
+            ("0 0 8 0", 8, "(refused 2)"),
+        ] {
             assert_eq!(replay_at(Release(since - 1), &script(options)), ["(bad 1)", "(open (done))", "(bad 3)"]);
             assert_eq!(replay(&script(options)), ["(open (done))", "(open (done))", &format!("(open {again})")]);
         }
@@ -178,9 +206,12 @@ mod tests {
     #[test]
     fn what_the_options_add_to_a_record_can_be_spoilt() {
         let script = |spoil| format!("(open 1 2 3 2 1 9 0 0 0 0)\n(spoil {spoil})\n(read 0)\n");
-        for spoil in ["shelf 0 1", "marked 0 1", "shelfno 0 0", "shelfno 7 4294967294"] {
-            assert_eq!(replay(&script(spoil))[1], "(bad 2)", "{spoil}");
-            assert_eq!(replay_at(Release(12), &script(spoil))[1..], ["(read (refused 4))"], "{spoil}");
+        assert_eq!(replay(&script("marked 0 1"))[1], "(bad 2)");
+        assert_eq!(replay_at(Release(12), &script("marked 0 1"))[1..], ["(read (refused 4))"]);
+        assert_eq!(replay(&script("shelf 0 1"))[1..], ["(read (refused 2))"]);
+        for spoil in ["shelf 0 9", "shelfno 0 0", "shelfno 7 4294967294"] {
+            assert_eq!(replay_at(Release(7), &script(spoil))[1], "(bad 2)", "{spoil}");
+            assert_eq!(replay(&script(spoil))[1..], ["(read (refused 4))"], "{spoil}");
         }
         for spoil in ["policy 0 3", "uses 0 1", "uses 7 1", "coded 0 1"] {
             assert_eq!(replay_at(Release(4), &script(spoil))[1], "(bad 2)", "{spoil}");

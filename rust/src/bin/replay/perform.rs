@@ -47,6 +47,7 @@ impl State {
             Form::Write { n, seed, len } => Ok(self.write(n, seed, len)),
             Form::Read { n, len } => Ok(self.read(n, len)),
             Form::Part { n, first, seed, len } => Ok(self.part(n, first, seed, len)),
+            Form::TakeBack => Ok(Said::Called(self.cache.take_back(&mut self.memory.lend()), None)),
             Form::Step => Ok(Said::Called(self.cache.step(&mut self.memory.lend()), None)),
             Form::Flush => Ok(Said::Called(self.cache.flush(&mut self.memory.lend()), None)),
             Form::Dump => Ok(Said::Dump),

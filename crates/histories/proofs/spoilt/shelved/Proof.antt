@@ -5,13 +5,13 @@ use Rattle.histories.proofs.spoilt.shelved.Tie as tie
 
 -- nothing is promised of the count: the loop only ends
 abbrev Inv-loop : tie.InvT-loop
-Inv-loop n c count₀ i₀ count i = Unit {0}
+Inv-loop pages n c count₀ i₀ count i = Unit {0}
 
 abbrev μ-loop : tie.MeasureT-loop
-μ-loop n c count₀ i₀ count i = 8 - i
+μ-loop pages n c count₀ i₀ count i = 8 - i
 
-sound-requires : tie.Need-sound-requires Inv-loop μ-loop
-sound-requires c κs = search needs
+with-shelf-requires : tie.Need-with-shelf-requires Inv-loop μ-loop
+with-shelf-requires c κs = search needs
 
 loop-holds : tie.Need-loop-holds Inv-loop μ-loop
 loop-holds c = search needs
@@ -46,7 +46,7 @@ shelved-spec =
     (tie.spec
     Inv-loop
     μ-loop
-    sound-requires
+    with-shelf-requires
     loop-holds
     mul-record
     element-write-record

@@ -71,7 +71,7 @@ returns c =
     let start : tie.Start = search back in
     let after-flush : tie.After-flush = search back in
     let after-block-numbers : tie.After-block-numbers = search back in
-    on-lists _ _ _ _ _ _ _ _ _ _ _ _ (lists after-block-numbers) (c .of .ensures) (after-flush .flush .ensures)
+    on-lists _ _ _ _ _ _ _ _ _ _ _ _ _ (lists after-block-numbers) (c .of .ensures) (after-flush .flush .ensures)
 
 same-length-4 : tie.Need-same-length-4
 same-length-4 c = search needs

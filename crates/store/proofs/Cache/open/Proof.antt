@@ -1,4 +1,5 @@
 use borrow.Author.Needs.{needs}
+use native.Mathlib.Omega.{arith}
 use mathlib.Core.Path.{_≡_, sym, _∙_}
 use mathlib.Core.Bool.{true}
 use borrow.Author.Tests.{not-true, not-false}
@@ -8,7 +9,7 @@ use Rattle.model.specs.Sizes.{sizesOk}
 use Rattle.model.proofs.Soundness.{limits-of}
 use Rattle.cache.specs.View.{sizesOf}
 use Rattle.lent.proofs.Lengths.{lengths-lent}
-use Rattle.store.proofs.Opening.{open-size, open-buffer, open-shelf, open-overworn, open-done}
+use Rattle.store.proofs.Opening.{shelf-small, open-size, open-buffer, open-shelf, open-overworn, open-done}
 use Rattle.store.proofs.Cache.open.Statement.{statement}
 use Rattle.store.proofs.Cache.open.Tie as tie
 use Rattle.store.proofs.Cache.open.Reads as reads
@@ -169,6 +170,19 @@ returns-5 c =
     (sym (lengths-lent _ _ _ _ _ _ _) ∙ sym (after-lengths-ok .lengths-ok .ensures) ∙ not-false _ (else2 .if2 .left)) (else3 .if3 .left)
     (sym (after-wear-ok .wear-ok .ensures) ∙ not-false _ (else4 .if4 .left)))
 
+cast-long : tie.Need-cast-long
+cast-long c = search needs
+
+cast-long-2 : tie.Need-cast-long-2
+cast-long-2 c = search needs
+
+mul-long : tie.Need-mul-long
+mul-long c =
+    let else1 : tie.Else1 = search back in
+    let start : tie.Start = search back in
+    let h = shelf-small (sizesOf (start .args .sizes)) (limits-of _ (sized else1)) in
+    omega arith
+
 pub open-spec : {M : Type 1} → statement M
 open-spec =
     tie.close
@@ -179,6 +193,9 @@ open-spec =
     lengths-ok-requires
     refused-requires-2
     returns-2
+    cast-long
+    cast-long-2
+    mul-long
     refused-requires-3
     returns-3
     wear-ok-requires

@@ -69,7 +69,7 @@ returns c =
       frames = d .frames;
       slots = d .slots;
     } in
-    on-lists _ d next _ _ _ _ _ _ _ _ _ (lists b) (sym (lists-of next _ _
+    on-lists _ d next _ _ _ _ _ _ _ _ _ _ (lists b) (sym (lists-of next _ _
     (after-page-numbers .page-numbers .ensures)
     (b .block-numbers .ensures))) (after-read .read .ensures)
 

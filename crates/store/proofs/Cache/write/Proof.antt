@@ -74,7 +74,7 @@ returns c =
     let start : tie.Start = search back in
     let after-write : tie.After-write = search back in
     let after-block-numbers : tie.After-block-numbers = search back in
-    on-lists _ _ _ _ _ _ _ _ _ _ _ _ (lists after-block-numbers) (c .of .ensures) (after-write .write .ensures)
+    on-lists _ _ _ _ _ _ _ _ _ _ _ _ _ (lists after-block-numbers) (c .of .ensures) (after-write .write .ensures)
 
 same-length-5 : tie.Need-same-length-5
 same-length-5 c = search needs

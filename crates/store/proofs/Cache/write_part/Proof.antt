@@ -77,7 +77,7 @@ returns c =
     let start : tie.Start = search back in
     let after-part : tie.After-part = search back in
     let after-block-numbers : tie.After-block-numbers = search back in
-    on-lists _ _ _ _ _ _ _ _ _ _ _ _ (lists after-block-numbers) (c .of .ensures) (after-part .part .ensures)
+    on-lists _ _ _ _ _ _ _ _ _ _ _ _ _ (lists after-block-numbers) (c .of .ensures) (after-part .part .ensures)
 
 same-length-6 : tie.Need-same-length-6
 same-length-6 c = search needs

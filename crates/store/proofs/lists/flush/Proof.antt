@@ -2,25 +2,29 @@ use borrow.Author.Needs.{needs}
 use mathlib.Core.Path.{refl, sym, _∙_}
 use borrow.Author.Tests.{not-true, not-false}
 use Rattle.model.specs.Calls as calls
-use Rattle.store.proofs.OnLists.{idly, turned-down}
+use Rattle.model.specs.Sizes.{vacant}
+use Rattle.model.specs.Shelf.{plainly}
+use Rattle.store.proofs.OnLists.{quiet, turned-down, plainly-on}
 use Rattle.store.proofs.lists.flush.Statement.{statement}
 use Rattle.store.proofs.lists.flush.Tie as tie
 
-idle-requires : tie.Need-idle-requires
-idle-requires c κs = search needs
+fitting-requires : tie.Need-fitting-requires
+fitting-requires c κs =
+    let start : tie.Start = search in
+    start .pre .1
 
 refusal-requires : tie.Need-refusal-requires
 refusal-requires c κs =
     let start : tie.Start = search in
-    start .pre .0
+    start .pre
 
 returns : tie.Need-returns
 returns c =
     let then1 : tie.Then1 = search in
-    let after-idle : tie.After-idle = search in
+    let after-fitting : tie.After-fitting = search in
     let start : tie.Start = search in
-    turned-down _ _ _ _ calls.flush (start .pre .1)
-    (sym (after-idle .idle .ensures) ∙ not-true _ (then1 .if1 .taken)) (c .refusal .result) (c .refusal .ensures)
+    turned-down _ _ _ _ (plainly (calls.flush)) (sym (after-fitting .fitting .ensures) ∙ not-true _ (then1 .if1 .taken))
+    (c .refusal .result) (c .refusal .ensures)
 
 flush-requires : tie.Need-flush-requires
 flush-requires c κs =
@@ -31,10 +35,11 @@ returns-2 : tie.Need-returns-2
 returns-2 c =
     let after-flush : tie.After-flush = search in
     let else1 : tie.Else1 = search in
-    let after-idle : tie.After-idle = search in
+    let after-fitting : tie.After-fitting = search in
     let start : tie.Start = search in
-    idly _ _ _ _ _ (start .pre .1) (sym (after-idle .idle .ensures) ∙ not-false _ (else1 .if1 .left)) _ _ _ _ _ refl
-    (after-flush .flush .ensures)
+    let a = start .args in
+    plainly-on _ _ _ _ (sym (after-fitting .fitting .ensures) ∙ not-false _ (else1 .if1 .left)) (calls.flush)
+    (quiet (a .z .«shelf_pages») vacant refl) _ _ _ _ _ refl (after-flush .flush .ensures)
 
 same-length : tie.Need-same-length
 same-length c = search needs
@@ -55,7 +60,7 @@ pub flush-spec : {M : Type 1} → statement M
 flush-spec =
     tie.close
     (tie.spec
-    idle-requires
+    fitting-requires
     refusal-requires
     returns
     flush-requires

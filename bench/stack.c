@@ -1,7 +1,7 @@
 /* Measures the stack that each call needs: the call runs on a stack painted with one byte, and what it painted over is counted,
- * the caller's copies of the record included. Largest page size and cache, 6,000 random calls; with the argument "coded" the store is
- * coded, with a number it has so many shelf pages. */
-#include "clash.h"
+ * the caller's copies of the record included. Largest page size and cache, 6,000 random calls, then as many with a catalogue of 256
+ * sheets; with the argument "coded" the store is coded, with a number it has so many shelf pages. */
+#include "clash_runs.h"
 #include <pthread.h>
 #include <stdio.h>
 #include <stdlib.h>
@@ -9,7 +9,8 @@
 
 enum { PAGE = 2048, PER_BLOCK = 64, BLOCKS = 64, SLOTS = 128, FRAMES = 8, PAGES = PER_BLOCK * BLOCKS };
 enum { STACK = 1 << 18, PAINT = 0xA5, CALLS = 6000 };
-enum kind { NOTHING, OPEN, READ, WRITE, PART, BACK, STEP, FLUSH };
+enum kind { NOTHING, OPEN, READ, WRITE, PART, BACK, STEP, FLUSH, ADD, LOOK, LIST, FETCH, REPLACE, MARK };
+enum { SHEETS = 256 };
 
 static const clash_sizes sizes = { PAGE, PER_BLOCK, BLOCKS, SLOTS, FRAMES, 1000000 };
 static clash_options options = { 0, 0, 0, 0 };
@@ -19,9 +20,13 @@ static size_t codes_len, shelf_len;
 static uint32_t wear[BLOCKS], n;
 static enum kind kind;
 static clash_reply reply;
+static clash_run_reply run;
 
 /* No marks. */
 #define LENT flash, sizeof flash, codes, codes_len, none, 0, wear, BLOCKS, pspace, sizeof pspace, bspace, sizeof bspace, shelf, shelf_len
+
+/* Of all sheets, an examiner. */
+#define WHO SHEETS, CLASH_EXAMINER, 0
 
 static void *call(void *unused) {
     switch (kind) {
@@ -32,8 +37,15 @@ static void *call(void *unused) {
     case BACK: reply = clash_take_back(reply.cache, LENT); break;
     case STEP: reply = clash_step(reply.cache, LENT); break;
     case FLUSH: reply = clash_flush(reply.cache, LENT); break;
+    case ADD: run = clash_run_add(reply.cache, LENT, WHO, 1, n, 1, page, PAGE); break;
+    case LOOK: run = clash_run_look(reply.cache, LENT, WHO, n % SHEETS, page, PAGE); break;
+    case LIST: run = clash_run_list(reply.cache, LENT, WHO, n % SHEETS, page, PAGE); break;
+    case FETCH: run = clash_run_read(reply.cache, LENT, WHO, n % SHEETS, 0, page, PAGE); break;
+    case REPLACE: run = clash_run_replace(reply.cache, LENT, WHO, n % SHEETS, 1, n, 1, page, PAGE); break;
+    case MARK: run = clash_run_mark(reply.cache, LENT, WHO, n % SHEETS, 50, page, PAGE); break;
     case NOTHING: break;
     }
+    if (kind >= ADD) reply.cache = run.cache;
     return unused;
 }
 
@@ -74,6 +86,28 @@ static size_t used_back(void) {
     return latest > 0 ? used(BACK) : 0;
 }
 
+/* The six calls of the catalogue, among writes of other pages. All pages hold zeros before, and a sheet of zeros is empty. */
+static void used_by_runs(size_t none, uint32_t state) {
+    static const char *const names[] = { "add", "look", "list", "fetch", "replace", "mark" };
+    size_t most[6] = { 0 };
+    uint32_t i, accepted[6] = { 0 }, rewrites = 0;
+    for (i = 0; i < CALLS; i++) {
+        state = state * 1664525u + 1013904223u;
+        n = SHEETS + (state >> 8) % (PAGES - SHEETS);
+        if (i % 12 > 5) {
+            used(WRITE);
+            continue;
+        }
+        keep(&most[i % 12], used((enum kind)(ADD + i % 12)) - none);
+        accepted[i % 12] += run.answer.answer.refusal == CLASH_ACCEPTED;
+        rewrites += run.answer.answer.way == 7;
+    }
+    for (i = 0; i < 6; i++) {
+        if (accepted[i] == 0 || rewrites == 0) exit(1);
+        printf("%-7s %zu\n", names[i], most[i]);
+    }
+}
+
 int main(int words, char **word) {
     size_t none, open, read[4] = { 0 }, write[8] = { 0 }, part[8] = { 0 }, back[8] = { 0 }, step = 0, flush = 0;
     uint32_t i, state = 1;
@@ -97,5 +131,6 @@ int main(int words, char **word) {
     for (i = 0; i <= 7; i++) printf("part %u  %zu\n", i, part[i]);
     for (i = 1; i <= 7; i++) printf("back %u  %zu\n", i, back[i]);
     printf("step    %zu\nflush   %zu\n", step, flush);
+    used_by_runs(none, state);
     return 0;
 }

@@ -87,7 +87,7 @@ static inline clash_answer clash_store_next(clash_store *store, clash_reply repl
     return reply.answer;
 }
 
-/* A pointer and a length to lend: NULL goes as some other address, with length 0. */
+/* A pointer and a length to lend: NULL goes as some other address, with length 0. clash_store_runs.h uses both too. */
 #define CLASH_LEND(type, pointer, count) (pointer) ? (pointer) : (type *)(void *)store, (pointer) ? (count) : 0
 #define CLASH_LENT \
     CLASH_LEND(uint8_t, store->flash, store->flash_bytes), CLASH_LEND(uint8_t, store->codes, store->codes_bytes), \
@@ -132,8 +132,5 @@ static inline clash_answer clash_store_step(clash_store *store) {
 static inline clash_answer clash_store_flush(clash_store *store) {
     return clash_store_next(store, clash_flush(store->cache, CLASH_LENT));
 }
-
-#undef CLASH_LENT
-#undef CLASH_LEND
 
 #endif

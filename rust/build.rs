@@ -1,5 +1,5 @@
-//! Finds the proved archive, and has `rt` build it where it is missing or older than the Rattle sources. In a release, which has no Rattle
-//! sources, the archive is the one in `lib/`.
+//! Finds the proved archives, and has `rt` build each where it is missing or older than the Rattle sources. In a release, which has no
+//! Rattle sources, the archives are those in `lib/`.
 use std::fs::{File, OpenOptions};
 use std::io::{self, BufRead, BufReader, Write};
 use std::path::{Path, PathBuf};
@@ -7,29 +7,42 @@ use std::process::{Command, Stdio};
 use std::time::SystemTime;
 use std::{env, fs};
 
-const ARCHIVE: &str = "target/staticlib/libclash_c.a";
-const RELEASED: &str = "lib/libclash_c.a";
+/// The crates whose archives are linked: the store, and the catalogue above it.
+const CRATES: [&str; 2] = ["clash_c", "catalogue_c"];
+
+const BUILT: &str = "target/staticlib";
+const RELEASED: &str = "lib";
 
 fn main() {
     let root = repository();
     let released = root.join(RELEASED);
-    println!("cargo:rerun-if-changed={}", released.display());
-    let archive = if released.exists() { released } else { archive(&root) };
-    let folder = archive.parent().expect("the archive's folder");
+    let is_released = CRATES.iter().all(|name| watched(&released, name).exists());
+    let folder = if is_released { released } else { built(&root) };
     println!("cargo:rustc-link-search=native={}", folder.display());
-    println!("cargo:rustc-link-lib=static=clash_c");
+    for name in CRATES {
+        println!("cargo:rustc-link-lib=static={name}");
+    }
 }
 
-/// The archive of a repository, built where it has to be.
-fn archive(root: &Path) -> PathBuf {
-    let archive = root.join(ARCHIVE);
+/// The folder of a repository's archives, each built where it has to be.
+fn built(root: &Path) -> PathBuf {
+    let folder = root.join(BUILT);
     let sources = sources(root);
-    for path in sources.iter().chain([&archive]) {
+    for path in &sources {
         println!("cargo:rerun-if-changed={}", path.display());
     }
-    if is_stale(&archive, &sources) {
-        build(root);
+    for name in CRATES {
+        if is_stale(&watched(&folder, name), &sources) {
+            build(root, name);
+        }
     }
+    folder
+}
+
+/// The archive of a crate, which cargo looks at before the next build.
+fn watched(folder: &Path, name: &str) -> PathBuf {
+    let archive = folder.join(format!("lib{name}.a"));
+    println!("cargo:rerun-if-changed={}", archive.display());
     archive
 }
 
@@ -63,28 +76,30 @@ fn changed(path: &Path) -> Option<SystemTime> {
     fs::metadata(path).and_then(|about| about.modified()).ok()
 }
 
-fn build(root: &Path) {
+fn build(root: &Path, name: &str) {
+    let archive = format!("{BUILT}/lib{name}.a");
     let pinned = fs::read_to_string(root.join("KIT")).unwrap_or_default();
     let pinned = pinned.trim();
     let found = match Command::new("rt").arg("version").output() {
         Ok(done) => String::from_utf8_lossy(&done.stdout).trim().to_string(),
-        Err(e) => panic!("{ARCHIVE} is missing or old, and there is no command `rt` to build it ({e}). It needs the Rattle kit: {pinned}"),
+        Err(e) => panic!("{archive} is missing or old, and there is no command `rt` to build it ({e}). It needs the Rattle kit: {pinned}"),
     };
     let mut words = words();
     if found != pinned {
         say(&mut words, &format!("clash: another Rattle kit: found '{found}', and KIT names '{pinned}'. The kit found goes on."));
     }
-    say(&mut words, &format!("clash: proving and building {ARCHIVE}; about ten minutes on two cores if nothing is proved yet"));
-    let said = prove(root, &mut words).unwrap_or_else(|e| panic!("`rt staticlib clash_c` could not be run: {e}"));
+    say(&mut words, &format!("clash: proving and building {archive}; about ten minutes on two cores if nothing is proved yet"));
+    let said = prove(root, name, &mut words).unwrap_or_else(|e| panic!("`rt staticlib {name}` could not be run: {e}"));
     if let Err(said) = said {
-        panic!("`rt staticlib clash_c` failed:\n{said}");
+        panic!("`rt staticlib {name}` failed:\n{said}");
     }
-    say(&mut words, "clash: built");
+    say(&mut words, &format!("clash: built {archive}"));
 }
 
 /// Runs the kit, and passes on its lines that a crate is proved as they come. Gives all that it said where it fails.
-fn prove(root: &Path, words: &mut Option<File>) -> io::Result<Result<(), String>> {
-    let mut rt = Command::new("sh").args(["-c", "exec rt staticlib clash_c 2>&1"]).current_dir(root).stdout(Stdio::piped()).spawn()?;
+fn prove(root: &Path, name: &str, words: &mut Option<File>) -> io::Result<Result<(), String>> {
+    let command = format!("exec rt staticlib {name} 2>&1");
+    let mut rt = Command::new("sh").args(["-c", &command]).current_dir(root).stdout(Stdio::piped()).spawn()?;
     let mut said = String::new();
     for line in BufReader::new(rt.stdout.take().expect("piped")).lines() {
         let line = line?;

@@ -20,7 +20,8 @@ pub enum Answer {
 /// Why a call is turned down, by the documents' words.
 #[derive(Clone, Copy, Debug, PartialEq, Eq)]
 pub enum Refusal {
-    /// 1, opening: a size, the wear limit or an option is beyond its limits
+    /// 1, opening: a size, the wear limit or an option is beyond its limits; of a catalogue: a page has fewer than 28 bytes, or there are
+    /// not 1 to 256 sheets, fewer than the chip has pages
     Size,
     /// 2: a lent buffer has another length than sizes and options ask for, or the bytes of a part write reach past the page
     Buffer,
@@ -37,6 +38,17 @@ pub enum Refusal {
     Unreadable,
     /// 8, taking back: no write is on the shelf
     Empty,
+    /// 9, adding a run: no sheet is empty, or the largest run number is 4,294,967,294
+    Full,
+    /// 10, of a catalogue: there is no such run
+    Unknown,
+    /// 11, of a catalogue: pages to add that are none, below the data pages, past the chip or another run's; a page to read that the run
+    /// does not have, or that is no data page; a mark above 100
+    Pages,
+    /// 12, of a catalogue: the role may not do this
+    Role,
+    /// 13, of a catalogue: another run replaces this one already
+    Replaced,
 }
 
 impl Refusal {
@@ -51,6 +63,11 @@ impl Refusal {
             Refusal::Worn(_) => 6,
             Refusal::Unreadable => 7,
             Refusal::Empty => 8,
+            Refusal::Full => 9,
+            Refusal::Unknown => 10,
+            Refusal::Pages => 11,
+            Refusal::Role => 12,
+            Refusal::Replaced => 13,
         }
     }
 }
@@ -58,7 +75,7 @@ impl Refusal {
 impl fmt::Display for Refusal {
     fn fmt(&self, out: &mut fmt::Formatter) -> fmt::Result {
         match self {
-            Refusal::Size => out.write_str("a size, the wear limit or an option is beyond its limits"),
+            Refusal::Size => out.write_str("a size, the wear limit, an option or the number of sheets is beyond its limits"),
             Refusal::Buffer => {
                 out.write_str("a lent buffer has another length than sizes and options ask for, or a part write reaches past the page")
             }
@@ -68,6 +85,11 @@ impl fmt::Display for Refusal {
             Refusal::Worn(block) => write!(out, "block {block} is worn"),
             Refusal::Unreadable => out.write_str("a flash page cannot be read by its codes"),
             Refusal::Empty => out.write_str("there is no write on the shelf to take back"),
+            Refusal::Full => out.write_str("there is no room for another run"),
+            Refusal::Unknown => out.write_str("there is no such run"),
+            Refusal::Pages => out.write_str("a page that the run cannot have, or a mark above 100"),
+            Refusal::Role => out.write_str("the role may not do this"),
+            Refusal::Replaced => out.write_str("another run replaces this one"),
         }
     }
 }

@@ -1,15 +1,15 @@
-//! The calls of the archive, as `include/clash.h` declares them. The one place with unsafe code: a slice crosses as its pointer
-//! and its length, and Rust's borrows say that the buffers do not overlap.
+//! The calls of the store's archive, as `include/clash.h` declares them. Here and in `runs` is all unsafe code: a slice crosses as its
+//! pointer and its length, and Rust's borrows say that the buffers do not overlap.
 use crate::{Answer, Buffers, Cache, Options, Refusal, Sizes, VACANT};
 
 #[repr(C)]
-struct RawAnswer {
-    refusal: u32,
-    way: u32,
-    block: u32,
-    rewrites: u32,
-    merged: u32,
-    mended: u32,
+pub(crate) struct RawAnswer {
+    pub refusal: u32,
+    pub way: u32,
+    pub block: u32,
+    pub rewrites: u32,
+    pub merged: u32,
+    pub mended: u32,
 }
 
 #[repr(C)]
@@ -86,6 +86,8 @@ macro_rules! call {
     };
 }
 
+pub(crate) use call;
+
 /// The calls on the record itself, with whatever is lent: nothing is asserted, and what does not fit is refused.
 impl Cache {
     pub fn open(sizes: Sizes, options: Options, lent: &Buffers) -> Result<Cache, Refusal> {
@@ -148,13 +150,13 @@ impl Cache {
 
 /// The answer of a write, of a page, of part of one or of one taken back.
 #[inline]
-fn written(a: &RawAnswer) -> Answer {
+pub(crate) fn written(a: &RawAnswer) -> Answer {
     let erased = if a.block == VACANT { None } else { Some(a.block) };
     Answer::Write { way: a.way, erased, merged: a.merged, mended: a.mended }
 }
 
 #[inline]
-fn accepted(a: &RawAnswer) -> Result<(), Refusal> {
+pub(crate) fn accepted(a: &RawAnswer) -> Result<(), Refusal> {
     match a.refusal {
         0 => Ok(()),
         1 => Err(Refusal::Size),
@@ -165,6 +167,11 @@ fn accepted(a: &RawAnswer) -> Result<(), Refusal> {
         6 => Err(Refusal::Worn(a.block)),
         7 => Err(Refusal::Unreadable),
         8 => Err(Refusal::Empty),
+        9 => Err(Refusal::Full),
+        10 => Err(Refusal::Unknown),
+        11 => Err(Refusal::Pages),
+        12 => Err(Refusal::Role),
+        13 => Err(Refusal::Replaced),
         other => unreachable!("the store has no refusal {other}"),
     }
 }

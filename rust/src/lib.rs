@@ -1,7 +1,8 @@
-//! The proved page store for Rust programs: safe calls over the archive of the crate `clash_c`.
+//! The proved page store and its catalogue of runs for Rust programs: safe calls over the archives of the crates `clash_c` and
+//! `catalogue_c`.
 //!
 //! [`Store`] is an open store: it keeps the record and is lent the buffers call by call ([`Buffers`]). Each call answers an
-//! [`Answer`], or the [`Refusal`] that document 01 names; a refused call changes nothing.
+//! [`Answer`], or the [`Refusal`] that the documents name; a refused call changes nothing. [`Catalogue`] keeps runs in an open store.
 //!
 //! In debug builds `Store` asserts that what is lent has the lengths that the sizes ask for, since a wrong length is a mistake of
 //! the program. In release builds, and always in the calls of the record itself ([`Cache`]), the store's own refusal 2 says so.
@@ -21,11 +22,14 @@
 //! ```
 mod answer;
 mod calls;
+mod catalogue;
 mod memory;
 mod record;
+mod runs;
 mod store;
 
 pub use answer::{Answer, Refusal};
+pub use catalogue::{Added, Catalogue, Listed, Looked, NewRun, Role, Sheet};
 pub use memory::{Buffers, Memory};
 pub use record::{Cache, Directory, Options, Sizes, FIFO, LFU, LRU, VACANT};
 pub use store::Store;

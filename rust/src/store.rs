@@ -14,7 +14,7 @@ use crate::{Answer, Buffers, Cache, Options, Refusal, Sizes};
 /// ```
 #[derive(Debug, PartialEq, Eq)]
 pub struct Store {
-    cache: Cache,
+    pub(crate) cache: Cache,
 }
 
 impl Store {
@@ -88,7 +88,7 @@ impl Store {
         &self.cache
     }
 
-    fn expect(&self, lent: &Buffers) {
+    pub(crate) fn expect(&self, lent: &Buffers) {
         debug_assert!(
             lent.fit(&self.cache.sizes, &self.cache.options),
             "a lent buffer has another length than {:?} ask for",
@@ -96,7 +96,7 @@ impl Store {
         );
     }
 
-    fn expect_page(&self, page: &[u8]) {
+    pub(crate) fn expect_page(&self, page: &[u8]) {
         debug_assert_eq!(page.len(), self.cache.sizes.page_size as usize, "the page buffer has another length than a page");
     }
 }

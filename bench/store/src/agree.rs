@@ -125,7 +125,7 @@ fn of_an_option<'a>(random: &mut Random, m: &'a mut Memory) -> &'a mut Vec<u8> {
 }
 
 /// Flips a bit of flash or of the codes, of a store that has some, or lets all codes match again.
-fn disturb(random: &mut Random, m: &mut Memory) {
+pub fn disturb(random: &mut Random, m: &mut Memory) {
     if m.codes.is_empty() {
         return;
     }
@@ -148,7 +148,7 @@ fn flip(random: &mut Random, bytes: &mut [u8]) {
     bytes[random.below(bytes.len() as u32) as usize] ^= 1 << random.below(8);
 }
 
-fn spoil(random: &mut Random, side: &mut Side) {
+pub fn spoil(random: &mut Random, side: &mut Side) {
     let (d, m, f) = (&mut side.cache.directory, &mut side.memory, random.below(8) as usize);
     match random.below(22) {
         0 => d.slots[random.below(128) as usize] = random.below(100),
@@ -186,7 +186,7 @@ pub enum Call {
 }
 
 /// Some pages are not there, and some bytes of a part write reach past the page.
-fn call(random: &mut Random, sizes: &Sizes) -> Call {
+pub fn call(random: &mut Random, sizes: &Sizes) -> Call {
     let n = random.below(sizes.pages().saturating_add(1).max(1));
     match random.below(40) {
         0 => Call::Flush,

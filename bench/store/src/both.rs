@@ -39,7 +39,7 @@ pub fn said(answer: Result<clash::Answer, clash::Refusal>) -> Said {
     answer.map(accepted).map_err(refused)
 }
 
-fn accepted(answer: clash::Answer) -> plain::Answer {
+pub fn accepted(answer: clash::Answer) -> plain::Answer {
     match answer {
         clash::Answer::Read { way, mended } => plain::Answer::Read { way, mended },
         clash::Answer::Write { way, erased, merged, mended } => plain::Answer::Write { way, erased, merged, mended },
@@ -59,5 +59,30 @@ pub fn refused(why: clash::Refusal) -> plain::Refusal {
         clash::Refusal::Worn(block) => plain::Refusal::Worn(block),
         clash::Refusal::Unreadable => plain::Refusal::Unreadable,
         clash::Refusal::Empty => plain::Refusal::EmptyShelf,
+        clash::Refusal::Full => plain::Refusal::Full,
+        clash::Refusal::Unknown => plain::Refusal::Unknown,
+        clash::Refusal::Pages => plain::Refusal::Pages,
+        clash::Refusal::Role => plain::Refusal::Role,
+        clash::Refusal::Replaced => plain::Refusal::Replaced,
     }
+}
+
+/// Who calls a catalogue.
+pub fn catalogue(c: clash::Catalogue) -> plain::Catalogue {
+    let role = match c.role {
+        clash::Role::Trainee => plain::Role::Trainee,
+        clash::Role::Tutor => plain::Role::Tutor,
+        clash::Role::Examiner => plain::Role::Examiner,
+    };
+    plain::Catalogue { sheets: c.sheets, repeats: true, caller: plain::Caller { role, trainee: c.trainee } }
+}
+
+pub fn new_run(new: clash::NewRun) -> plain::NewRun {
+    plain::NewRun { sample: new.sample, first: new.first, count: new.count }
+}
+
+pub fn looked(l: clash::Looked) -> plain::Looked {
+    let clash::Sheet { run, trainee, sample, first, count, mark, replaces } = l.sheet;
+    let sheet = plain::Sheet { run, trainee, sample, first, count, mark, replaces };
+    plain::Looked { sheet, current: l.current, mended: l.mended }
 }

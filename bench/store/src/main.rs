@@ -3,10 +3,12 @@
 mod agree;
 mod both;
 mod cases;
+mod catalogue;
 mod large;
 mod numbers;
 mod random;
 mod rows;
+mod runs;
 mod timing;
 
 use clash::{Cache, Directory, Options, Sizes};
@@ -23,6 +25,7 @@ fn main() {
     let mut random = Random(88172645463325252);
     agree::agree(&mut random);
     large::agree(&mut random);
+    runs::agree(&mut random);
     println!("Median ns for one call. The sides use the same buffers, which are filled before and not cleared between calls.");
     println!("Plain Rust changes the record in place; \"by value\" takes it and hands it back, as the proved calls do.");
     for sizes in SIZES {
@@ -36,6 +39,7 @@ fn main() {
             shelved(&mut random, *sizes, pages);
         }
     }
+    looks(&mut random);
     println!("\nHow the cost grows from S=256 K=16 N=256 P=32 B=4: proved / plain in place");
     println!("{:8}{:>15}{:>15}{:>15}{:>15}{:>15}{:>15}", "", "soundness", "read 3", "write 3", "write 4", "write 7", "step");
     grow(&mut random, "P", 3, [8, 32, 128]);
@@ -70,6 +74,20 @@ fn shelved(random: &mut Random, sizes: [u32; 6], pages: u32) {
     head(sizes, &format!(", shelf pages {pages}, all in use"));
     [1, 3, 7].into_iter().for_each(|way| line(bench.write(way)));
     [1, 3, 7].into_iter().for_each(|way| line(bench.take_back(way)));
+}
+
+/// Looks at a catalogue of 256 sheets, which is read whole each time.
+fn looks(random: &mut Random) {
+    for s in [32, 64, 256, 512, 1024, 2048] {
+        let sizes = [s, 16, 64, 32, 4, 1_000_000];
+        head(sizes, ", 256 sheets");
+        catalogue::looks(random, Sizes::from(sizes), Options::default()).into_iter().for_each(line);
+    }
+    for s in [256, 2048] {
+        let sizes = [s, 16, 64, 32, 4, 1_000_000];
+        head(sizes, ", 256 sheets, coded");
+        catalogue::looks(random, Sizes::from(sizes), Options { coded: 1, ..Options::default() }).into_iter().for_each(line);
+    }
 }
 
 fn head([s, k, n, p, b, _]: [u32; 6], with: &str) {

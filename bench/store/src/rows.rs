@@ -44,7 +44,7 @@ impl Run {
 }
 
 impl Lent {
-    fn new(random: &mut Random, sizes: &Sizes, options: &Options) -> Lent {
+    pub fn new(random: &mut Random, sizes: &Sizes, options: &Options) -> Lent {
         let [flash, codes] = [sizes.flash_len(), options.codes_len(sizes)].map(|len| Run::new(random, len));
         let [pspace, bspace] = [sizes.pspace_len(), sizes.bspace_len()].map(|len| Run::new(random, len));
         let [shelf, page] = [options.shelf_len(sizes), sizes.page_size as usize].map(|len| Run::new(random, len));
@@ -53,23 +53,33 @@ impl Lent {
         lent
     }
 
-    fn parts(&mut self) -> (Buffers<'_>, &mut [u8]) {
+    pub fn parts(&mut self) -> (Buffers<'_>, &mut [u8]) {
         let (flash, codes, pspace, bspace) = (self.flash.part(), self.codes.part(), self.pspace.part(), self.bspace.part());
         let (wear, shelf) = (&mut self.wear, self.shelf.part());
         (Buffers { flash, codes, wear, pspace, bspace, shelf, ..Default::default() }, self.page.part())
     }
 
     /// The same, in the plain store's type.
-    fn plain_parts(&mut self) -> (plain::Buffers<'_>, &mut [u8]) {
+    pub fn plain_parts(&mut self) -> (plain::Buffers<'_>, &mut [u8]) {
         let (lent, page) = self.parts();
         (both::lent(lent), page)
     }
 
     /// Each buffer starts at some multiple of 16 bytes, as memory from an allocator does. The codes, if any, are those of the flash.
-    fn place(&mut self) {
+    pub fn place(&mut self) {
         for run in [&mut self.flash, &mut self.codes, &mut self.pspace, &mut self.bspace, &mut self.shelf, &mut self.page] {
             run.start = self.random.below(256) as usize * 16;
         }
+        self.encode();
+    }
+
+    /// Changes the flash, whose codes match again.
+    pub fn lay(&mut self, edit: impl FnOnce(&mut [u8])) {
+        edit(self.flash.part());
+        self.encode();
+    }
+
+    fn encode(&mut self) {
         codes::encode(self.codes.part(), self.flash.part());
     }
 }

@@ -110,7 +110,7 @@ module _ (fmt : Format) (pick : Choice) (besides : ℕ → Bool) (s : Store) (c 
       (λ t. clash (ap isRefused (ap (λ (x : Outcome). x .answer) (sym (heeds-rule (stateOf s) late o .2 r (eqb-true late 0 t))) ∙ e)) r)
       (λ t. not-seven late b h (sym (heeds-rule (stateOf s) late o .1 r (eqb-false late 0 t) .0) ∙ e)))
 
-  reading-readable : ((n : ℕ) → n < sz .N * sz .K → fmt .chip sz .fault (cellOf n) ≡ 7 → ⊥) → (b : ℕ)
+  pub reading-readable : ((n : ℕ) → n < sz .N * sz .K → fmt .chip sz .fault (cellOf n) ≡ 7 → ⊥) → (b : ℕ)
       → callReading fmt pick besides s c .answer ≡ refused 7 b → ⊥
   unfolding callReading faultOf memoryOf
   reading-readable good b = by-test (sound sz (s .cache .directory))
@@ -120,7 +120,7 @@ module _ (fmt : Format) (pick : Choice) (besides : ℕ → Bool) (s : Store) (c 
       (λ f. rw f (not-seven 2 b (λ z. omega arith)))))
       (λ a. rw (a, callReading) (not-seven 4 b (λ z. omega arith)))
 
-  reading-mendless : ((n : ℕ) → n < sz .N * sz .K → fmt .chip sz .mends (cellOf n) ≡ 0) → callReading fmt pick besides s c .mends ≡ 0
+  pub reading-mendless : ((n : ℕ) → n < sz .N * sz .K → fmt .chip sz .mends (cellOf n) ≡ 0) → callReading fmt pick besides s c .mends ≡ 0
   unfolding callReading carriedOut mendsOf mendsMet memoryOf
   reading-mendless good = by-test (sound sz (s .cache .directory))
       (λ a. rw (a, callReading) (by-test (lentOk fmt sz (s .lent))
@@ -138,7 +138,7 @@ module _ (fmt : Format) (h : ℕ) (pick : Choice) (s : ShelfStore) (c : ShelfCal
   abbrev below : Store
   below = s .store
 
-  shelf-readable : ((besides : ℕ → Bool) (k : Call Page) (b : ℕ) → callReading fmt pick besides below k .answer ≡ refused 7 b → ⊥)
+  pub shelf-readable : ((besides : ℕ → Bool) (k : Call Page) (b : ℕ) → callReading fmt pick besides below k .answer ≡ refused 7 b → ⊥)
       → (b : ℕ) → shelfCall fmt h pick s c .answer ≡ refused 7 b → ⊥
   unfolding shelfCall ordinary
   shelf-readable good b = let sz = s .store .cache .sizes in
@@ -150,7 +150,7 @@ module _ (fmt : Format) (h : ℕ) (pick : Choice) (s : ShelfStore) (c : ShelfCal
       (λ f. rw f (not-seven 2 b (λ z. omega arith)))))
       (λ a. rw (a, shelfCall) (not-seven 4 b (λ z. omega arith)))
 
-  shelf-mendless :
+  pub shelf-mendless :
       ((besides : ℕ → Bool) (k : Call Page) → callReading fmt pick besides below k .mends ≡ 0) →
       shelfCall fmt h pick s c .mends ≡ 0
   unfolding shelfCall ordinary

@@ -148,7 +148,7 @@ AllShelfPick [] = Unit {0}
 AllShelfPick (t ∷ cs) = Picks (t .choice) × AllShelfPick cs
 
 -- the buffers' lengths, as the test
-lent-of : (fmt : Format) (sz : Sizes) (u : Buffers) → Fits fmt sz u → lentOk fmt sz u ≡ true
+pub lent-of : (fmt : Format) (sz : Sizes) (u : Buffers) → Fits fmt sz u → lentOk fmt sz u ≡ true
 unfolding lentOk
 lent-of fmt sz u f = every-of _ (
   eq-eqb _ _ (f .flash-length),

@@ -97,7 +97,7 @@ module _ (sz : Sizes) (d : Directory) (flash codes marks wear : List ℕ) where
 -- ---- a page that is read besides
 
 -- what a plan merges is of the block that it erases
-merges-erased : (sz : Sizes) (d : Directory) (p : Plan) (i : ℕ) → writeMerges sz d p i ≡ true → i / sz .K ≡ erasedBy d p
+pub merges-erased : (sz : Sizes) (d : Directory) (p : Plan) (i : ℕ) → writeMerges sz d p i ≡ true → i / sz .K ≡ erasedBy d p
 merges-erased sz d (slotHit x) i h = clash h refl
 merges-erased sz d (frameHit x) i h = clash h refl
 merges-erased sz d (freeSlot x) i h = clash h refl
@@ -111,7 +111,7 @@ module _ (sz : Sizes) (d : Directory) (s : Sound sz d) (n : ℕ) (l : n < sz .N 
   no-block e = let b = block-vacant sz (s .limits) (n / sz .K) (block-lt sz (s .limits) n l) in omega arith
 
   -- a page that a read finds in flash, of the block that is erased, is merged
-  erased-merges : (p : Plan) → PlanHolds sz d p → readWay sz d n ≡ 3 → n / sz .K ≡ erasedBy d p → writeMerges sz d p n ≡ true
+  pub erased-merges : (p : Plan) → PlanHolds sz d p → readWay sz d n ≡ 3 → n / sz .K ≡ erasedBy d p → writeMerges sz d p n ≡ true
   erased-merges (slotHit i) h w e = absurd (no-block e)
   erased-merges (frameHit f) h w e = absurd (no-block e)
   erased-merges (freeSlot i) h w e = absurd (no-block e)

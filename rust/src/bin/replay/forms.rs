@@ -1,6 +1,6 @@
 //! What a line may say: the tables of forms, options and record fields, each with the release from which it is in force.
 use crate::Release;
-use clash::{Cache, Options, Sizes};
+use clash::{Cache, Catalogue, NewRun, Options, Role, Sizes};
 
 pub enum Form {
     Open(Sizes, Options),
@@ -42,7 +42,18 @@ pub enum Form {
     TakeBack,
     Step,
     Flush,
+    /// a call of the catalogue, and who makes it
+    Run(Catalogue, RunCall),
     Dump,
+}
+
+pub enum RunCall {
+    Add(NewRun),
+    Look { run: u32 },
+    List { position: u32 },
+    Read { run: u32, index: u32 },
+    Mark { run: u32, mark: u32 },
+    Replace { run: u32, new: NewRun },
 }
 
 /// A form by its first word, and how it is made of the words after it.
@@ -67,6 +78,12 @@ const FORMS: &[Row] = &[
     Row { word: "takeback", since: 8, make: |_| Some(Form::TakeBack) },
     Row { word: "step", since: 0, make: |_| Some(Form::Step) },
     Row { word: "flush", since: 0, make: |_| Some(Form::Flush) },
+    Row { word: "add", since: 9, make: |w| Some(Form::Run(caller(w)?, RunCall::Add(new_run(w)?))) },
+    Row { word: "look", since: 9, make: |w| Some(Form::Run(caller(w)?, RunCall::Look { run: w.number()? })) },
+    Row { word: "list", since: 9, make: |w| Some(Form::Run(caller(w)?, RunCall::List { position: w.number()? })) },
+    Row { word: "cread", since: 9, make: |w| Some(Form::Run(caller(w)?, RunCall::Read { run: w.number()?, index: w.number()? })) },
+    Row { word: "mark", since: 9, make: |w| Some(Form::Run(caller(w)?, RunCall::Mark { run: w.number()?, mark: w.number()? })) },
+    Row { word: "replace", since: 11, make: |w| Some(Form::Run(caller(w)?, RunCall::Replace { run: w.number()?, new: new_run(w)? })) },
     Row { word: "dump", since: 0, make: |_| Some(Form::Dump) },
 ];
 
@@ -141,6 +158,23 @@ fn options(words: &mut Words) -> Option<Options> {
         shelf_pages: words.choice(SHELF)?,
         marked: words.choice(MARKED)?,
     })
+}
+
+/// The number of sheets, the role and the trainee number. Before roles are in force whoever calls may do all, and sees all.
+fn caller(words: &mut Words) -> Option<Catalogue> {
+    let sheets = words.number()?;
+    let role = match words.number()? {
+        0 => Role::Trainee,
+        1 => Role::Tutor,
+        2 => Role::Examiner,
+        _ => return None,
+    };
+    let role = if words.release.has(10) { role } else { Role::Examiner };
+    Some(Catalogue { sheets, role, trainee: words.number()? })
+}
+
+fn new_run(words: &mut Words) -> Option<NewRun> {
+    Some(NewRun { sample: words.number()?, first: words.number()?, count: words.number()? })
 }
 
 fn flip(words: &mut Words) -> Option<Form> {
@@ -223,6 +257,16 @@ mod tests {
     }
 
     #[test]
+    fn catalogue_by_release() {
+        let since = |line: &str| (0..=14).find(|&release| super::parse(Release(release), line.as_bytes()).is_some());
+        for line in ["(add 1 0 0 0 1 1)", "(look 1 0 0 1)", "(list 1 0 0 0)", "(cread 1 0 0 1 0)", "(mark 1 2 0 1 9)"] {
+            assert_eq!(since(line), Some(9), "{line}");
+        }
+        assert_eq!(since("(replace 1 1 0 1 0 0 0)"), Some(11));
+        assert_eq!(since("(look 1 3 0 1)"), None);
+    }
+
+    #[test]
     fn good_lines() {
         for line in [
             "(step)",
@@ -237,49 +281,64 @@ mod tests {
             "(takeback)",
             "(spoil shelf 0 9)",
             "(spoil shelfno 7 0)",
+            "(add 4294967295 0 0 0 0 0)",
+            "(look 1 1 0 1)",
+            "(list 1 2 0 0)",
+            "(cread 1 2 0 1 0)",
+            "(mark 1 2 0 1 4294967295)",
+            "(replace 1 1 0 1 0 0 0)",
         ] {
             assert!(parse(line.as_bytes()).is_some(), "{line}");
         }
     }
+
+    const BAD: &[&str] = &[
+        "",
+        "(",
+        ")",
+        "()",
+        "step",
+        "(step",
+        "step)",
+        " (step)",
+        "(step) ",
+        "( step)",
+        "(step )",
+        "(Step)",
+        "(step\r)",
+        "(steps)",
+        "(write 1)",
+        "(write 1 2 3)",
+        "(spoil order 0 256)",
+        "(spoil place 128 0)",
+        "(spoil valid 0 18446744073709551616)",
+        "(spoil marked 0 0)",
+        "(spoil shelfno 8 0)",
+        "(flip code 0)",
+        "(flip mark 0 0)",
+        "(open 1 2 3 2 1 9)",
+        "(open 1 2 3 2 1 9 0 2 0 0)",
+        "(open 1 2 3 2 1 9 0 0 0 1)",
+        "(part 0 0 1)",
+        "(part 0 0 1 1 1)",
+        "(takeback 0)",
+        "(add 1 3 0 0 1 1)",
+        "(add 1 0 0 0 1)",
+        "(look 1 0 0)",
+        "(look 1 4294967295 0 1)",
+        "(list 1 0 0 0 0)",
+        "(mark 1 2 0 1)",
+        "(replace 1 1 0 1 0 0)",
+        "(cut 1 step)",
+        "(report)",
+    ];
 
     #[test]
     fn bad_lines() {
         let numbers =
             ["", "00", "01", "+1", "-1", "1.0", "0x1", "4294967296", "99999999999999999999999", "1 2", "1)", " 1", "1 ", "\u{664}"];
         let reads = numbers.map(|n| format!("(read {n})"));
-        let others = [
-            "",
-            "(",
-            ")",
-            "()",
-            "step",
-            "(step",
-            "step)",
-            " (step)",
-            "(step) ",
-            "( step)",
-            "(step )",
-            "(Step)",
-            "(step\r)",
-            "(steps)",
-            "(write 1)",
-            "(write 1 2 3)",
-            "(spoil order 0 256)",
-            "(spoil place 128 0)",
-            "(spoil valid 0 18446744073709551616)",
-            "(spoil marked 0 0)",
-            "(spoil shelfno 8 0)",
-            "(flip code 0)",
-            "(flip mark 0 0)",
-            "(open 1 2 3 2 1 9)",
-            "(open 1 2 3 2 1 9 0 2 0 0)",
-            "(open 1 2 3 2 1 9 0 0 0 1)",
-            "(part 0 0 1)",
-            "(part 0 0 1 1 1)",
-            "(takeback 0)",
-            "(report)",
-        ];
-        for line in reads.iter().map(String::as_str).chain(others) {
+        for line in reads.iter().map(String::as_str).chain(BAD.iter().copied()) {
             assert!(parse(line.as_bytes()).is_none(), "{line}");
         }
         assert!(parse(b"(read 1\xff)").is_none());

@@ -11,7 +11,7 @@ use std::io::{self, BufWriter, Read, Write};
 #[derive(Clone, Copy)]
 pub struct Release(u32);
 
-const RELEASE: Release = Release(8);
+const RELEASE: Release = Release(11);
 
 impl Release {
     /// Whether what request `since` brings, or the base where it is 0, is in force.
@@ -179,6 +179,44 @@ mod tests {
         ];
         assert_eq!(replay(script), said);
         assert_eq!(replay_at(Release(7), "(takeback)"), ["(bad 1)"]);
+    }
+
+    const RUNS: &str = "(open 32 4 4 2 1 9 0 0 0 0)\n(add 3 0 7 5 3 2)\n(look 3 0 7 1)\n(look 3 0 8 1)\n(list 3 0 7 0)\n(list 3 0 7 1)\n\
+                        (write 4 9)\n(cread 3 0 8 1 1)\n(cread 3 0 8 1 2)\n(mark 3 1 0 1 9)\n(mark 3 2 0 1 101)\n(mark 3 2 0 1 9)\n\
+                        (replace 3 1 7 1 5 4 1)\n(replace 3 1 7 1 5 5 1)\n(look 3 2 0 1)\n(mark 3 2 0 1 10)\n(add 16 0 0 0 1 1)\n";
+
+    #[test]
+    fn runs() {
+        let said = [
+            "(open (done))",
+            "(add 1 (way 3) (erased none) (merged 0) (mended 0) (page 1aea41e0))",
+            "(look 1 7 5 3 2 255 0 1 (mended 0))",
+            "(look 1 0 5 3 2 255 0 1 (mended 0))",
+            "(list 1 (mended 0))",
+            "(list (refused 10))",
+            "(write (way 3) (erased none) (merged 0) (mended 0))",
+            "(cread (way 1) (mended 0) (page c057f5c4))",
+            "(cread (refused 11))",
+            "(mark (refused 12))",
+            "(mark (refused 11))",
+            "(mark (way 1) (erased none) (merged 0) (mended 0) (page b15a0a14))",
+            "(replace (refused 11))",
+            "(replace 2 (way 5) (erased none) (merged 0) (mended 0) (page b2b460e6))",
+            "(look 1 7 5 3 2 9 0 2 (mended 0))",
+            "(mark (refused 13))",
+            "(add (refused 1))",
+        ];
+        assert_eq!(replay(RUNS), said);
+        assert!(replay_at(Release(8), RUNS)[1..6].iter().all(|line| line.starts_with("(bad ")));
+    }
+
+    /// Before roles whoever calls may mark and sees every sheet; before replacements a look says neither of them.
+    #[test]
+    fn runs_before_roles_and_replacements() {
+        let (nine, ten) = (replay_at(Release(9), RUNS), replay_at(Release(10), RUNS));
+        assert_eq!((&nine[3][..], &ten[3][..]), ("(look 1 7 5 3 2 255 (mended 0))", "(look 1 0 5 3 2 255 (mended 0))"));
+        assert!(nine[9].starts_with("(mark (way ") && ten[9] == "(mark (refused 12))");
+        assert_eq!((&nine[12][..], &ten[12][..]), ("(bad 13)", "(bad 13)"));
     }
 
     /// An option that is in force is the store's to take or to refuse; it takes no marks yet.

@@ -1,7 +1,7 @@
 //! Carries a form out on the one store of a script.
 use crate::crc32::crc32;
-use crate::forms::Form;
-use clash::{Answer, Cache, Memory, Options, Refusal, Sizes};
+use crate::forms::{Form, RunCall};
+use clash::{Added, Answer, Cache, Catalogue, Listed, Looked, Memory, Options, Refusal, Sizes};
 
 /// The record, the blank one before an opening, and the buffers.
 pub struct State {
@@ -15,7 +15,18 @@ pub enum Said {
     Opened(Result<(), Refusal>),
     /// a call's answer, and the CRC-32 of the page buffer that a read or a part write left
     Called(Result<Answer, Refusal>, Option<u32>),
+    /// a call of the catalogue, and the CRC-32 of the page buffer after it
+    Ran(Result<Ran, Refusal>, u32),
     Dump,
+}
+
+/// What a call of the catalogue answers.
+pub enum Ran {
+    Added(Added),
+    Looked(Looked),
+    Listed(Listed),
+    /// of a read or a mark
+    Called(Answer),
 }
 
 /// A line that cannot be carried out.
@@ -50,6 +61,7 @@ impl State {
             Form::TakeBack => Ok(Said::Called(self.cache.take_back(&mut self.memory.lend()), None)),
             Form::Step => Ok(Said::Called(self.cache.step(&mut self.memory.lend()), None)),
             Form::Flush => Ok(Said::Called(self.cache.flush(&mut self.memory.lend()), None)),
+            Form::Run(who, call) => Ok(self.run(&who, call)),
             Form::Dump => Ok(Said::Dump),
         }
     }
@@ -92,6 +104,20 @@ impl State {
         let mut page = vec![0xA5; self.page_len(None)];
         let answer = self.cache.part(&mut self.memory.lend(), n, first, &bytes, &mut page);
         Said::Called(answer, Some(crc32(&page)))
+    }
+
+    fn run(&mut self, who: &Catalogue, call: RunCall) -> Said {
+        let mut page = vec![0xA5; self.page_len(None)];
+        let (cache, lent, to) = (&mut self.cache, &mut self.memory.lend(), &mut page);
+        let answer = match call {
+            RunCall::Add(new) => cache.run_add(lent, who, new, to).map(Ran::Added),
+            RunCall::Look { run } => cache.run_look(lent, who, run, to).map(Ran::Looked),
+            RunCall::List { position } => cache.run_list(lent, who, position, to).map(Ran::Listed),
+            RunCall::Read { run, index } => cache.run_read(lent, who, run, index, to).map(Ran::Called),
+            RunCall::Mark { run, mark } => cache.run_mark(lent, who, run, mark, to).map(Ran::Called),
+            RunCall::Replace { run, new } => cache.run_replace(lent, who, run, new, to).map(Ran::Added),
+        };
+        Said::Ran(answer, crc32(&page))
     }
 
     fn page_len(&self, len: Option<u32>) -> usize {

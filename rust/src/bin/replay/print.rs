@@ -1,8 +1,8 @@
 //! What is printed of a form, and the dump.
 use crate::crc32::crc32;
-use crate::perform::{Said, State};
+use crate::perform::{Ran, Said, State};
 use crate::Release;
-use clash::{Answer, Refusal};
+use clash::{Answer, Looked, Refusal};
 use std::fmt::Display;
 
 /// The line of a form that was carried out, none where it prints nothing.
@@ -12,9 +12,28 @@ pub fn said(release: Release, word: &str, said: &Said, state: &State) -> Option<
         Said::Opened(Ok(())) => Some("(open (done))".into()),
         Said::Opened(Err(why)) => Some(format!("(open {})", refused(why))),
         Said::Called(Ok(answer), page) => Some(format!("({word} {}{})", accepted(release, answer), with_page(page))),
-        Said::Called(Err(why), _) => Some(format!("({word} {})", refused(why))),
+        Said::Ran(Ok(ran), page) => Some(format!("({word} {})", ran_as(release, ran, *page))),
+        Said::Called(Err(why), _) | Said::Ran(Err(why), _) => Some(format!("({word} {})", refused(why))),
         Said::Dump => Some(dump(release, state)),
     }
+}
+
+/// The page buffer is told where the call may change it.
+fn ran_as(release: Release, ran: &Ran, page: u32) -> String {
+    match ran {
+        Ran::Added(added) => format!("{} {}{}", added.run, accepted(release, &added.answer), with_page(&Some(page))),
+        Ran::Looked(looked) => look(release, looked),
+        Ran::Listed(listed) => format!("{} (mended {})", listed.run, listed.mended),
+        Ran::Called(answer) => format!("{}{}", accepted(release, answer), with_page(&Some(page))),
+    }
+}
+
+/// The sheet, which has a replaced run, beside the current one, from release 11 on.
+fn look(release: Release, Looked { sheet, current, mended }: &Looked) -> String {
+    let numbers = [sheet.run, sheet.trainee, sheet.sample, sheet.first, sheet.count, sheet.mark, sheet.replaces, *current];
+    let told = if release.has(11) { &numbers[..] } else { &numbers[..6] };
+    let told = told.iter().map(|x| format!("{x} "));
+    format!("{}(mended {mended})", told.collect::<String>())
 }
 
 fn accepted(release: Release, answer: &Answer) -> String {

@@ -1,0 +1,5 @@
+pub mod Checks
+pub mod Bytes
+pub mod Agreeing
+pub mod Mixed
+pub mod Unseen

@@ -1,10 +1,10 @@
 // A catalogue of runs above the page store (requests A9 to A11). Each call takes the store's record by value with the lent buffers, the
 // number of sheets, who calls and a page buffer; a call that can change the record hands back the next one beside its answer. A refused
 // call changes nothing.
-pub mod gate; // gate.rt: the checks before the sheets are read
-pub mod judge; // judge.rt: the sheets read, and what they decide
+mod gate; // gate.rt: the checks before the sheets are read
+mod judge; // judge.rt: the sheets read, and what they decide
 pub mod look; // look.rt: a look, and a listing
-pub mod mends; // mends.rt: the mends of a whole call
+mod mends; // mends.rt: the mends of a whole call
 pub mod read; // read.rt: a page of a run
 pub mod write; // write.rt: adding, replacing, marking
 

@@ -96,7 +96,8 @@ module _ (pick : Choice) (s : Store) (c : Call Page) (besides : ℕ → Bool) wh
     reading-carried = rw (a, callReading) (rw b)
 
     -- a refused outcome hands everything back, whatever is met in flash
-    pub reading-down : (n x : ℕ) → decided ≡ turnedDown (stateOf s) n x → callReading storeFormat pick besides s c ≡ unaltered (refused n x) s c
+    pub reading-down : (n x : ℕ) → decided ≡ turnedDown (stateOf s) n x → callReading storeFormat pick besides s c ≡ unaltered
+        (refused n x) s c
     unfolding carriedOut
     reading-down n x e = reading-carried ∙ ap (carriedOut storeFormat pick s c besides) (heeds-rule (stateOf s) late decided .0
         (ap (λ (o : Outcome). isRefused (o .answer)) e) ∙ e)

@@ -13,7 +13,8 @@ use Rattle.store.proofs.ScriptA.{sizes, lentA, opening, turns, accepted, accept
 use Rattle.store.proofs.Demand3.{codes-match}
 use Rattle.clash_c.specs.declared.Reply.{Reply}
 use Rattle.clash_c.specs.Replies.{openedInNumbers, inNumbers}
-use Rattle.clash_c.specs.Histories.{Made, read, write, part, step, flush, back, replyOf, lentAfter, Contract, Turn, AsContracted, Claim}
+use Rattle.clash_c.specs.Histories.{Made, read, write, part, step, flush, back}
+use Rattle.clash_c.specs.Histories.{replyOf, lentAfter, Contract, Turn, AsContracted, Claim}
 use Rattle.clash_c.proofs.Demand3.{demand-3}
 
 abbrev reply : Cache → Answer → ℕ → Reply

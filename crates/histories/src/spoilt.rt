@@ -141,8 +141,8 @@ fn vacant(name: &[u8], s: Sizes) {
     report::tally(name, 1, refuses::every_call(c));
 }
 
-// Each shelf entry alone in use, without shelf pages and with 2 of them, where the first may be; and the first ones in use, as many as there
-// are shelf pages and more.
+// Each shelf entry alone in use, without shelf pages and with 2 of them, where the first may be; and the first ones in use, as many as
+// there are shelf pages and more.
 fn shelf() {
     report::tally(b"page 0 on the shelf", 8, shelved(0, 0));
     report::tally(

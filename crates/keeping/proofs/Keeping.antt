@@ -58,5 +58,6 @@ module _ (sz : Sizes) (s f v r us : List ℕ) (u : Buffers) (n : ℕ) (page page
       → isRefused answer ≡ isRefused (writeHeeding sz d u n (plan policyChoice sz d (u .wear) n) (readsPage sz d n) .answer)
       → KeptPage sz d u n answer page′
   keep-page answer e a = let p = plan policyChoice sz d (u .wear) n in
-      page-then (keep-beside .fault-is ∙ none-either sz (faultOn sz (u .flash) (u .codes) (u .marks)) (writeMerges sz d p) (readsPage sz d n)
+      page-then (keep-beside .fault-is ∙ none-either sz (faultOn sz (u .flash) (u .codes) (u .marks)) (writeMerges sz d p)
+      (readsPage sz d n)
       (met-nothing (state d u) _ (writeOutcome sz (state d u) n p) (sym e ∙ a)) .1)

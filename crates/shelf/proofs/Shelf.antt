@@ -53,7 +53,8 @@ module _ {X : Type 0} (none : X) (h : ℕ) where
   -- all are in use: they moved down, and x is the last
   pub full-put : (k : ℕ) (l : List X) (x : X) → h ≤ k → 0 < h → h ≤ length l → set (movedDown none h l) (h - 1) x ≡ shelve none h k l x
   unfolding shelve
-  full-put k l x q p f = rw (le-ltb k h q) (ext-getD none _ _ (length-set (movedDown none h l) (h - 1) x ∙ down-length l ∙ sym (length-tab (length l) _))
+  full-put k l x q p f = rw (le-ltb k h q) (ext-getD none _ _ (length-set (movedDown none h l) (h - 1) x ∙ down-length l ∙ sym
+      (length-tab (length l) _))
       (λ i b. let il : i < length l = (let e = length-set (movedDown none h l) (h - 1) x in let g = down-length l in omega arith) in
       by-test (eqb i (h - 1))
       (λ t. let e = eqb-true i (h - 1) t in let s : suc (h - 1) ≡ h = omega arith in
@@ -91,7 +92,8 @@ module _ (sz : Sizes) (es shelf : List ℕ) (n : ℕ) (earlier : List ℕ) (room
         ∙ rw (sym e) (room-put [] (sz .shelfPages) k (pagesOf (sz .S) (sz .shelfPages) shelf) (pageAt (sz .S) earlier 0) l);
   }
 
-  pub put-full : (k : ℕ) (down moved es′ shelf′ : List ℕ) → k ≡ shelved es → sz .shelfPages ≤ k → down ≡ movedDown vacant (sz .shelfPages) es
+  pub put-full : (k : ℕ) (down moved es′ shelf′ : List ℕ) → k ≡ shelved es → sz .shelfPages ≤ k → down ≡ movedDown vacant (sz
+      .shelfPages) es
       → pagesOf (sz .S) (sz .shelfPages) moved ≡ movedDown [] (sz .shelfPages) (pagesOf (sz .S) (sz .shelfPages) shelf)
       → length moved ≡ length shelf → es′ ≡ set down (sz .shelfPages - 1) n
       → shelf′ ≡ putPage (sz .S) moved (sz .shelfPages - 1) (pageAt (sz .S) earlier 0) → Shelved sz es shelf n earlier es′ shelf′
@@ -100,7 +102,8 @@ module _ (sz : Sizes) (es shelf : List ℕ) (n : ℕ) (earlier : List ℕ) (room
         entries-are = f ∙ ap (λ (x : List ℕ). set x (sz .shelfPages - 1) n) d
             ∙ rw (sym e) (full-put vacant (sz .shelfPages) k es n l p (omega arith));
         pages-are = ap (pagesOf (sz .S) (sz .shelfPages)) g
-            ∙ pages-put (sz .S) (sz .shelfPages) moved (sz .shelfPages - 1) (pageAt (sz .S) earlier 0) (omega arith) (q ∙ room .shelf-length)
+            ∙ pages-put (sz .S) (sz .shelfPages) moved (sz .shelfPages - 1) (pageAt (sz .S) earlier 0) (omega arith) (q ∙ room
+            .shelf-length)
             earlier-whole
             ∙ ap (λ (x : List (List ℕ)). set x (sz .shelfPages - 1) (pageAt (sz .S) earlier 0)) m
             ∙ rw (sym e) (full-put [] (sz .shelfPages) k (pagesOf (sz .S) (sz .shelfPages) shelf) (pageAt (sz .S) earlier 0) l p

@@ -120,7 +120,8 @@ pub fn keep(
 // After taking back: where it was accepted, the latest entry is vacant.
 pub fn drop_latest(entries: &mut [u32; 8], latest: usize, answer: Write)
     requires { ⌜ (length (now entries) ≡ 8) × (latest < 8) ⌝ }
-    ensures { λ _. ⌜ now (entries .exit) ≡ cond (isRefused (writeOf answer)) (now (entries .entry)) (set (now (entries .entry)) latest vacant) ⌝ }
+    ensures { λ _. ⌜ now (entries .exit) ≡ cond (isRefused (writeOf answer)) (now (entries .entry)) (set (now (entries .entry))
+        latest vacant) ⌝ }
 {
     match answer {
         Write::Done { .. } => entries[latest] = VACANT,

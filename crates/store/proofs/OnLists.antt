@@ -18,7 +18,8 @@ use Rattle.model.specs.Sizes.{Sizes, vacant}
 use Rattle.model.specs.Soundness.{sound}
 use Rattle.model.specs.Policy.{policyChoice}
 use Rattle.model.specs.Formats.{storeFormat}
-use Rattle.model.specs.Calls.{Answer, refused, isRefused, Call, write, readsPage, noBytes, Page, Buffers, Result, lentOk, callReading, call, pageSeen}
+use Rattle.model.specs.Calls.{Answer, refused, isRefused, Call, write, readsPage, noBytes, Page}
+use Rattle.model.specs.Calls.{Buffers, Result, lentOk, callReading, call, pageSeen}
 use Rattle.model.specs.Shelf.{shelved, shelve, shelfOk, shelfFits, ShelfCall, plainly, back, shelves, shelvingReads, lentTo, storeCall}
 use Rattle.model.proofs.Soundness.{sound-facts, pages-small}
 use Rattle.model.proofs.Demand3.{getD-any}
@@ -58,7 +59,8 @@ some-of {n} t e = clash t (ap (λ (m : ℕ). not (eqb m 0)) e)
 -- a part write shelves nothing where there is no shelf page, or no byte
 pub part-quiet : (h n : ℕ) (x : Page) → (not (eqb h 0) && not (eqb (length x) 0)) ≡ false
     → (ltb 0 h && ltb (cond (noBytes x) vacant n) vacant) ≡ false
-part-quiet h n x e = by-test (eqb h 0) (λ t. pageless h (cond (noBytes x) vacant n) (eqb-true h 0 t)) (λ t. by-test (eqb (length x) 0) (λ b. rw b (and-f (ltb 0 h)))
+part-quiet h n x e = by-test (eqb h 0) (λ t. pageless h (cond (noBytes x) vacant n) (eqb-true h 0 t)) (λ t. by-test (eqb
+    (length x) 0) (λ b. rw b (and-f (ltb 0 h)))
     (λ b. absurd (clash (rw (t, b)) e)))
 
 module _ (z : sizes.Sizes) (d : Directory) (es : List ℕ) (u : Lent) where
@@ -97,7 +99,8 @@ module _ (z : sizes.Sizes) (d : Directory) (es : List ℕ) (u : Lent) where
     module _ (some : z .«shelf_pages» ≢ 0) (n : ℕ) (c : Call Page) (is : shelves (plainly c) ≡ n) (a : Answer) (mends : ℕ) (d′ : Directory)
         (page : Page) (kept : List ℕ) (long : length kept ≡ 2048) where
       positive : 0 < z .«shelf_pages»
-      positive = by-test (ltb 0 (z .«shelf_pages»)) (λ t. ltb-true _ _ t) (λ t. let q = ltb-false 0 (z .«shelf_pages») t in absurd (some (omega arith)))
+      positive = by-test (ltb 0 (z .«shelf_pages»)) (λ t. ltb-true _ _ t) (λ t. let q = ltb-false 0 (z .«shelf_pages») t in
+          absurd (some (omega arith)))
 
       -- what the shelf asks of an accepted write
       pub room-on : (below′ : Buffers) → Keeping z d (u .below) n c (resultWith a mends z d′ below′ page) kept → isRefused a ≡ false
@@ -145,7 +148,8 @@ module _ (z : sizes.Sizes) (d : Directory) (es : List ℕ) (u : Lent) where
             ∙ ap flat (p .pages-are ∙ rw down) ∙ flat-pages (z .«page_size») h (u .shelf) shelf-long in
             ap (λ (l : List ℕ). resultOn a mends z d′ l u′ page) entries
             ∙ plainly-on c (ap (λ (m : ℕ). ltb 0 h && ltb m vacant) is ∙ rw t (and-f (ltb 0 h))) a mends d′ u′ page shelf
-            (k .result-is (λ i. false) (λ x l i. let v = pages-small (sizesOf z) (sound-facts (sizesOf z) d x .limits) in absurd (omega arith)))
+            (k .result-is (λ i. false) (λ x l i. let v = pages-small (sizesOf z) (sound-facts (sizesOf z) d x .limits) in
+            absurd (omega arith)))
 
         pub kept-on : resultOn a mends z d′ es′ u′ page ≡ storeCall policyChoice (storeOn z d es u) (plainly c)
         kept-on = by-test (ltb n vacant) shelved-on unshelved-on
@@ -174,7 +178,8 @@ module _ (z : sizes.Sizes) (d : Directory) (es : List ℕ) (u : Lent) where
       pub back-on : (a : Answer) (mends : ℕ) (d′ : Directory) (u′ : Lent) (es′ : List ℕ) → u′ .shelf ≡ u .shelf
           → es′ ≡ cond (isRefused a) es (set es (k - 1) vacant)
           → resultWith a mends z d′ (u′ .below) (pageAt (z .«page_size») (u .shelf) (k - 1))
-          ≡ call storeFormat policyChoice (storeWith z d (u .below)) (write (getD es (k - 1) 0) (pageAt (z .«page_size») (u .shelf) (k - 1)))
+          ≡ call storeFormat policyChoice (storeWith z d (u .below)) (write (getD es (k - 1) 0) (pageAt (z .«page_size») (u
+          .shelf) (k - 1)))
           → resultOn a mends z d′ es′ u′ [] ≡ storeCall policyChoice (storeOn z d es u) back
       back-on a mends d′ u′ es′ f g r =
           let x : Page = pageAt (z .«page_size») (u .shelf) (k - 1) in

@@ -180,7 +180,8 @@ fn write_shelved(
         let u′ = buffers (now (flash .exit)) (now (codes .exit)) (now (marks .exit))
         (now (wear .exit)) (now (pspace .exit)) (now (bspace .exit)) in
         let page = pageAt (z .«page_size») (now (shelf .entry)) i in
-        resultWith (writeOf r) (mendsOfWrite r) z d′ u′ page ≡ calls.call storeFormat policyChoice (storeWith z d u) (calls.write n page)) ⌝ }
+        resultWith (writeOf r) (mendsOfWrite r) z d′ u′ page ≡ calls.call storeFormat policyChoice (storeWith z d u)
+        (calls.write n page)) ⌝ }
 {
     let s = z.page_size as usize;
     let a = i * s;

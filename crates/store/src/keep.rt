@@ -91,7 +91,8 @@ pub(crate) fn part(
     page: &mut [u8],
 ) -> Write
     requires { ⌜ Shape (numbers (now slots) (now frames) (now valid) (now recency) (now uses)) × (length (now entries) ≡ 8)
-        × (shelfFits (sizesOf z) (z .«shelf_pages») (now entries) (length (now shelf)) ≡ true) × (z .«shelf_pages» ≢ 0) × (length (now bytes) ≢ 0) ⌝ }
+        × (shelfFits (sizesOf z) (z .«shelf_pages») (now entries) (length (now shelf)) ≡ true) × (z .«shelf_pages» ≢ 0) ×
+        (length (now bytes) ≢ 0) ⌝ }
     ensures { λ r. ⌜ (
         let d = numbers (now (slots .entry)) (now (frames .entry)) (now (valid .entry)) (now (recency .entry)) (now (uses .entry)) in
         let d′ = numbers (now (slots .exit)) (now (frames .exit)) (now (valid .exit)) (now (recency .exit)) (now (uses .exit)) in

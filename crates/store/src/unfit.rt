@@ -54,7 +54,8 @@ pub(crate) fn empty(
     requires { ⌜ Shape (numbers (now slots) (now frames) (now valid) (now recency) (now uses)) ⌝ }
     ensures { λ r. ⌜ (
         let d = numbers (now (slots .entry)) (now (frames .entry)) (now (valid .entry)) (now (recency .entry)) (now (uses .entry)) in
-        refusalOf r ≡ refused (cond (sound (sizesOf z) d) (cond (lengthsOk (sizesOf z) flash codes marks wear pspace bspace) 8 2) 4) vacant) ⌝ }
+        refusalOf r ≡ refused (cond (sound (sizesOf z) d) (cond (lengthsOk (sizesOf z) flash codes marks wear pspace bspace) 8
+        2) 4) vacant) ⌝ }
 {
     if !lists_sound(z, slots, frames, valid, recency, uses) {
         return Refusal::Record;

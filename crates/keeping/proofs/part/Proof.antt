@@ -64,7 +64,8 @@ returns c =
     let w = after-write .write .ensures in
     record {
       wrote = w;
-      kept-is = keep-page _ _ _ _ (a .recency .now) (a .uses .now) (lentBuffers start) _ _ _ _ (after-peek .peek .ensures) (writeOf (after-write .write .result)) (w .wrote .refused-is);
+      kept-is = keep-page _ _ _ _ (a .recency .now) (a .uses .now) (lentBuffers start) _ _ _ _ (after-peek .peek .ensures)
+          (writeOf (after-write .write .result)) (w .wrote .refused-is);
     }
 
 pub part-spec : {M : Type 1} → statement M

@@ -66,7 +66,8 @@ loop-again c =
       omega arith,
       done-put vacant 8 (rule (start .args .h) (start .args .entries .now)) _ (at .i) (at .entries) _ (at .inv .1) (omega arith)
           (getD-any (at .entries) (at .i + 1) 0 vacant (omega arith)
-          ∙ done-read vacant 8 (rule (start .args .h) (start .args .entries .now)) _ (at .i) (at .entries) (at .inv .1) (at .i + 1) (omega arith)
+          ∙ done-read vacant 8 (rule (start .args .h) (start .args .entries .now)) _ (at .i) (at .entries) (at .inv .1) (at .i
+          + 1) (omega arith)
           (omega arith) ∙ sym (moves (start .args .h) (start .args .entries .now) (at .i) (omega arith))),
     )
 

@@ -29,8 +29,12 @@ copy-page-requires c κs =
     let p = start .pre in
     let z = zero-mul (start .args .z .«page_size») in
     let q = p .limits .S-high in
-    let e = p .earlier-length in
-    (q, in-run (start .args .z .«page_size») (start .args .z .«shelf_pages») (start .args .shelf .now) (p .shelf-length) (omega arith), omega arith)
+    let e = p .earlier-length in (
+      q,
+      in-run (start .args .z .«page_size») (start .args .z .«shelf_pages») (start .args .shelf .now) (p .shelf-length) (omega
+          arith),
+      omega arith,
+    )
 
 same-length : tie.Need-same-length
 same-length c = search needs
@@ -84,7 +88,8 @@ returns-2 c =
     let after-used : tie.After-used = search in
     let start : tie.Start = search in
     put-full _ _ _ _ _ (start .pre) _ _ _ _ _ (after-used .used .ensures) (else1 .if1 .left) (after-lower-entries .lower-entries .ensures)
-    (after-lower-pages .lower-pages .ensures) (omega (arith, after-lower-pages .lower-pages .kept)) refl (after-copy-page2 .copy-page2 .ensures)
+    (after-lower-pages .lower-pages .ensures) (omega (arith, after-lower-pages .lower-pages .kept)) refl (after-copy-page2
+    .copy-page2 .ensures)
 
 pub put-spec : {M : Type 1} → statement M
 put-spec =

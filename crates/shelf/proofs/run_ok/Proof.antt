@@ -13,7 +13,8 @@ use Rattle.shelf.proofs.run_ok.Statement.{statement}
 use Rattle.shelf.proofs.run_ok.Tie as tie
 
 abbrev Inv-loop : tie.InvT-loop
-Inv-loop entries k n pages ok₀ i₀ ok i = (i ≤ 8) × (ok ≡ all i (λ j. cond (ltb j k) (ltb (getD entries j 0) pages) (eqb (getD entries j 0) vacant)))
+Inv-loop entries k n pages ok₀ i₀ ok i = (i ≤ 8) × (ok ≡ all i (λ j. cond (ltb j k) (ltb (getD entries j 0) pages) (eqb (getD
+    entries j 0) vacant)))
 
 abbrev μ-loop : tie.MeasureT-loop
 μ-loop entries k n pages ok₀ i₀ ok i = 8 - i

@@ -90,7 +90,8 @@ returns-2 c =
     let s : tie.Start = search back in
     let a = s .args in
     refused-keeps (a .z) _ _ (a .n .0) (write (a .n .0) (a .page .now)) 2 _
-    (λ b. reading-buffer policyChoice (store s) _ b (passed else1) (sym (lengths-lent (sizesOf (a .z)) (a .flash .now) (a .codes .now) (a .marks .now) (a .wear .now) (a .pspace .now) (a .bspace .now))
+    (λ b. reading-buffer policyChoice (store s) _ b (passed else1) (sym (lengths-lent (sizesOf (a .z)) (a .flash .now) (a
+    .codes .now) (a .marks .now) (a .wear .now) (a .pspace .now) (a .bspace .now))
     ∙ sym (after-lengths-ok .lengths-ok .ensures) ∙ not-true _ (c .if2 .taken)))
 
 cast-if3 : tie.Need-cast-if3
@@ -103,7 +104,8 @@ returns-3 c =
     let s : tie.Start = search back in
     let a = s .args in
     refused-keeps (a .z) _ _ (a .n .0) (write (a .n .0) (a .page .now)) 2 _
-    (λ b. reading-page-buffer (store s) _ _ _ _ (write-checked (store s) (a .n .0) (a .page .now)) (passed else1) (fitting else2) b (c .if3 .taken))
+    (λ b. reading-page-buffer (store s) _ _ _ _ (write-checked (store s) (a .n .0) (a .page .now)) (passed else1) (fitting
+    else2) b (c .if3 .taken))
 
 mul-if4 : tie.Need-mul-if4
 mul-if4 c =
@@ -119,7 +121,8 @@ returns-4 c =
     let s : tie.Start = search back in
     let a = s .args in
     refused-keeps (a .z) _ _ (a .n .0) (write (a .n .0) (a .page .now)) 5 _
-    (λ b. reading-page (store s) _ _ _ _ (write-checked (store s) (a .n .0) (a .page .now)) (passed else1) (fitting else2) b (else3 .if3 .left) (c .if4 .taken))
+    (λ b. reading-page (store s) _ _ _ _ (write-checked (store s) (a .n .0) (a .page .now)) (passed else1) (fitting else2) b
+    (else3 .if3 .left) (c .if4 .taken))
 
 cast-s : tie.Need-cast-s
 cast-s c = search needs
@@ -202,7 +205,8 @@ returns-5 c =
       pspace-length = omega (arith, w .kept, f);
       bspace-length = omega (arith, w .kept, f);
     })
-    _ _ _ _ (let k = q .K-high in omega arith) _ _ (front-page _ _ _ (omega (arith, w .kept, g))) (a .page .now) (else3 .if3 .left) (w .ensures)
+    _ _ _ _ (let k = q .K-high in omega arith) _ _ (front-page _ _ _ (omega (arith, w .kept, g))) (a .page .now) (else3 .if3
+    .left) (w .ensures)
 
 pub write-spec : {M : Type 1} → statement M
 write-spec =

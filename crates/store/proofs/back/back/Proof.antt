@@ -110,7 +110,9 @@ mul-write-shelved c =
     let else1 : tie.Else1 = search back in
     let start : tie.Start = search back in
     let a = start .args in
-    let l = latest-small (a .z) (numbers (a .slots .now) (a .frames .now) (a .valid .now) (a .recency .now) (a .uses .now)) (a .entries .now) (lent (a .flash .now) (a .codes .now) (a .marks .now) (a .wear .now) (a .pspace .now) (a .bspace .now) (a .shelf .now)) (fitted else1) _ (after-used .used .ensures) (else2 .if2 .left) in
+    let l = latest-small (a .z) (numbers (a .slots .now) (a .frames .now) (a .valid .now) (a .recency .now) (a .uses .now)) (a
+    .entries .now) (lent (a .flash .now) (a .codes .now) (a .marks .now) (a .wear .now) (a .pspace .now) (a .bspace .now)
+    (a .shelf .now)) (fitted else1) _ (after-used .used .ensures) (else2 .if2 .left) in
     omega arith
 
 element-copy-out-write-shelved : tie.Need-element-copy-out-write-shelved
@@ -120,7 +122,9 @@ element-copy-out-write-shelved c =
     let else1 : tie.Else1 = search back in
     let start : tie.Start = search back in
     let a = start .args in
-    latest-small (a .z) (numbers (a .slots .now) (a .frames .now) (a .valid .now) (a .recency .now) (a .uses .now)) (a .entries .now) (lent (a .flash .now) (a .codes .now) (a .marks .now) (a .wear .now) (a .pspace .now) (a .bspace .now) (a .shelf .now)) (fitted else1) _ (after-used .used .ensures) (else2 .if2 .left)
+    latest-small (a .z) (numbers (a .slots .now) (a .frames .now) (a .valid .now) (a .recency .now) (a .uses .now)) (a .entries
+    .now) (lent (a .flash .now) (a .codes .now) (a .marks .now) (a .wear .now) (a .pspace .now) (a .bspace .now) (a .shelf
+    .now)) (fitted else1) _ (after-used .used .ensures) (else2 .if2 .left)
 
 write-shelved-requires : tie.Need-write-shelved-requires
 write-shelved-requires c κs =
@@ -130,8 +134,12 @@ write-shelved-requires c κs =
     let start : tie.Start = search back in
     let a = start .args in (
       start .pre .0,
-      latest-page (a .z) (numbers (a .slots .now) (a .frames .now) (a .valid .now) (a .recency .now) (a .uses .now)) (a .entries .now) (lent (a .flash .now) (a .codes .now) (a .marks .now) (a .wear .now) (a .pspace .now) (a .bspace .now) (a .shelf .now)) (fitted else1) _ (after-used .used .ensures) (else2 .if2 .left),
-      latest-small (a .z) (numbers (a .slots .now) (a .frames .now) (a .valid .now) (a .recency .now) (a .uses .now)) (a .entries .now) (lent (a .flash .now) (a .codes .now) (a .marks .now) (a .wear .now) (a .pspace .now) (a .bspace .now) (a .shelf .now)) (fitted else1) _ (after-used .used .ensures) (else2 .if2 .left),
+      latest-page (a .z) (numbers (a .slots .now) (a .frames .now) (a .valid .now) (a .recency .now) (a .uses .now)) (a
+          .entries .now) (lent (a .flash .now) (a .codes .now) (a .marks .now) (a .wear .now) (a .pspace .now) (a .bspace .now)
+          (a .shelf .now)) (fitted else1) _ (after-used .used .ensures) (else2 .if2 .left),
+      latest-small (a .z) (numbers (a .slots .now) (a .frames .now) (a .valid .now) (a .recency .now) (a .uses .now)) (a
+          .entries .now) (lent (a .flash .now) (a .codes .now) (a .marks .now) (a .wear .now) (a .pspace .now) (a .bspace .now)
+          (a .shelf .now)) (fitted else1) _ (after-used .used .ensures) (else2 .if2 .left),
     )
 
 drop-latest-requires : tie.Need-drop-latest-requires
@@ -140,8 +148,12 @@ drop-latest-requires c κs =
     let after-used : tie.After-used = search back in
     let else1 : tie.Else1 = search back in
     let start : tie.Start = search back in
-    let a = start .args in
-    (start .pre .1, latest-small (a .z) (numbers (a .slots .now) (a .frames .now) (a .valid .now) (a .recency .now) (a .uses .now)) (a .entries .now) (lent (a .flash .now) (a .codes .now) (a .marks .now) (a .wear .now) (a .pspace .now) (a .bspace .now) (a .shelf .now)) (fitted else1) _ (after-used .used .ensures) (else2 .if2 .left))
+    let a = start .args in (
+      start .pre .1,
+      latest-small (a .z) (numbers (a .slots .now) (a .frames .now) (a .valid .now) (a .recency .now) (a .uses
+          .now)) (a .entries .now) (lent (a .flash .now) (a .codes .now) (a .marks .now) (a .wear .now) (a .pspace .now) (a
+          .bspace .now) (a .shelf .now)) (fitted else1) _ (after-used .used .ensures) (else2 .if2 .left),
+    )
 
 same-length : tie.Need-same-length
 same-length c = search needs
@@ -170,7 +182,9 @@ returns-3 c =
     let else1 : tie.Else1 = search back in
     let start : tie.Start = search back in
     let a = start .args in
-    back-on (a .z) (numbers (a .slots .now) (a .frames .now) (a .valid .now) (a .recency .now) (a .uses .now)) (a .entries .now) (lent (a .flash .now) (a .codes .now) (a .marks .now) (a .wear .now) (a .pspace .now) (a .bspace .now) (a .shelf .now)) (fitted else1) _ (after-used .used .ensures) (else2 .if2 .left)
+    back-on (a .z) (numbers (a .slots .now) (a .frames .now) (a .valid .now) (a .recency .now) (a .uses .now)) (a .entries
+    .now) (lent (a .flash .now) (a .codes .now) (a .marks .now) (a .wear .now) (a .pspace .now) (a .bspace .now) (a .shelf
+    .now)) (fitted else1) _ (after-used .used .ensures) (else2 .if2 .left)
     _ _ _ _ _ refl (after-drop-latest .drop-latest .ensures) (after-write-shelved .write-shelved .ensures)
 
 pub back-spec : {M : Type 1} → statement M

@@ -36,7 +36,8 @@ keep-requires c κs =
     let start : tie.Start = search back in
     let a = start .args in
     let p = start .pre in
-    room-on _ _ _ _ (p .2) (p .3) (a .n .0) (calls.part (a .n .0) (a .first) (a .bytes .now) (a .page .now)) (rw (ne-eqb _ 0 (p .4))) _ _ _ _ _
+    room-on _ _ _ _ (p .2) (p .3) (a .n .0) (calls.part (a .n .0) (a .first) (a .bytes .now) (a .page .now)) (rw (ne-eqb _ 0 (p
+    .4))) _ _ _ _ _
     (omega (arith, after-part .part .kept, length-replicate {A = ℕ} 2048 0)) _ (after-part .part .ensures)
 
 same-length : tie.Need-same-length
@@ -70,7 +71,8 @@ returns c =
     let start : tie.Start = search back in
     let a = start .args in
     let p = start .pre in
-    kept-on _ _ _ _ (p .2) (p .3) (a .n .0) (calls.part (a .n .0) (a .first) (a .bytes .now) (a .page .now)) (rw (ne-eqb _ 0 (p .4))) _ _ _ _ _
+    kept-on _ _ _ _ (p .2) (p .3) (a .n .0) (calls.part (a .n .0) (a .first) (a .bytes .now) (a .page .now)) (rw (ne-eqb _ 0 (p
+    .4))) _ _ _ _ _
     (omega (arith, after-part .part .kept, length-replicate {A = ℕ} 2048 0)) _ _ (after-part .part .ensures) (after-keep .keep .ensures)
     (omega (arith, after-keep .keep .kept))
 

@@ -48,7 +48,8 @@ returns c =
     let after-fitting : tie.After-fitting = search in
     let start : tie.Start = search in
     let a = start .args in
-    turned-down _ _ _ _ (plainly (calls.part (a .n .0) (a .first) (a .bytes .now) (a .page .now))) (sym (after-fitting .fitting .ensures) ∙ not-true _ (then1 .if1 .taken))
+    turned-down _ _ _ _ (plainly (calls.part (a .n .0) (a .first) (a .bytes .now) (a .page .now))) (sym (after-fitting .fitting
+    .ensures) ∙ not-true _ (then1 .if1 .taken))
     (c .refusal .result) (c .refusal .ensures)
 
 write-requires : tie.Need-write-requires
@@ -89,8 +90,14 @@ part-requires c κs =
     let after-fitting : tie.After-fitting = search back in
     let start : tie.Start = search back in
     let a = start .args in
-    let e = then2 .if2 .taken in
-    (start .pre .0, start .pre .1, (sym (after-fitting .fitting .ensures) ∙ not-false _ (else1 .if1 .left)), some-of {n = a .z .«shelf_pages»} (and-l _ _ e), some-of {n = length (a .bytes .now)} (and-r (not (eqb (a .z .«shelf_pages») 0)) _ e))
+    let e = then2 .if2 .taken in (
+      start .pre .0,
+      start .pre .1,
+      (sym (after-fitting .fitting .ensures) ∙ not-false _ (else1 .if1 .left)),
+      some-of {n = a .z
+          .«shelf_pages»} (and-l _ _ e),
+      some-of {n = length (a .bytes .now)} (and-r (not (eqb (a .z .«shelf_pages») 0)) _ e),
+    )
 
 same-length-8 : tie.Need-same-length-8
 same-length-8 c = search needs
@@ -124,7 +131,8 @@ returns-3 c =
     let after-fitting : tie.After-fitting = search back in
     let start : tie.Start = search back in
     let a = start .args in
-    plainly-on _ _ _ _ (sym (after-fitting .fitting .ensures) ∙ not-false _ (else1 .if1 .left)) (calls.part (a .n .0) (a .first) (a .bytes .now) (a .page .now))
+    plainly-on _ _ _ _ (sym (after-fitting .fitting .ensures) ∙ not-false _ (else1 .if1 .left)) (calls.part (a .n .0) (a
+    .first) (a .bytes .now) (a .page .now))
     (part-quiet (a .z .«shelf_pages») (a .n .0) (a .bytes .now) (else2 .if2 .left)) _ _ _ _ _ refl (after-write .write .ensures)
 
 pub part-spec : {M : Type 1} → statement M

@@ -44,7 +44,8 @@ returns c =
     let after-fitting : tie.After-fitting = search in
     let start : tie.Start = search in
     let a = start .args in
-    turned-down _ _ _ _ (plainly (calls.write (a .n .0) (a .page .now))) (sym (after-fitting .fitting .ensures) ∙ not-true _ (then1 .if1 .taken))
+    turned-down _ _ _ _ (plainly (calls.write (a .n .0) (a .page .now))) (sym (after-fitting .fitting .ensures) ∙ not-true _
+    (then1 .if1 .taken))
     (c .refusal .result) (c .refusal .ensures)
 
 write-requires : tie.Need-write-requires

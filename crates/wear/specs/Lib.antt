@@ -1,0 +1,4 @@
+pub mod Figures
+pub mod Rules
+pub mod Report
+pub mod Wearing

@@ -1,7 +1,6 @@
 // One chunk: its code, how the code stored for it differs, and what that tells.
 use crate::bytes;
 use crate::parity;
-use crate::table;
 use crate::words;
 ghost use mathlib.Core.Path.{_≡_};
 ghost use Prim.Native.Nat.{_+_, _*_, _/_, _≤_, _<_};
@@ -9,21 +8,21 @@ ghost use lib.ListN.{length};
 ghost use Rattle.prelude.specs.Bits.{bit};
 ghost use Rattle.prelude.specs.Pages.{pageAt};
 ghost use Rattle.codes.specs.Code.{codeOf};
+ghost use Rattle.codes.specs.Table.{entries};
 ghost use Rattle.codes.specs.Reading.{flipped, difference, leaves, pairs, addressed, codeAt};
 
-// The code of a chunk. The words whose index has bit i hold the data bits whose address has bit i + 6.
-pub fn code_of(s: &[u8]) -> u32
-    requires { ⌜ length (now s) ≡ 256 ⌝ }
+// The code of a chunk, by the table that is lent. The words whose index has bit i hold the data bits whose address has bit i + 6.
+pub fn code_of(t: &[u8; 256], s: &[u8]) -> u32
+    requires { ⌜ (now t ≡ entries) × (length (now s) ≡ 256) ⌝ }
     ensures { λ r. ⌜ r ≡ codeOf (now (s .entry)) ⌝ }
 {
-    let table = table::table();
-    let t = words::totals(s);
-    let w = parity::within(&table, t.all);
-    let six = parity::parity(&table, t.one);
-    let seven = parity::parity(&table, t.two);
-    let eight = parity::parity(&table, t.four);
-    let nine = parity::parity(&table, t.eight);
-    let ten = parity::parity(&table, t.sixteen);
+    let sums = words::totals(s);
+    let w = parity::within(t, sums.all);
+    let six = parity::parity(t, sums.one);
+    let seven = parity::parity(t, sums.two);
+    let eight = parity::parity(t, sums.four);
+    let nine = parity::parity(t, sums.eight);
+    let ten = parity::parity(t, sums.sixteen);
     let digits = w.digits
         + six * 0x1000
         + seven * 0x4000
@@ -50,13 +49,13 @@ fn code_at(codes: &[u8], i: usize) -> u32
 }
 
 // The set of the bits in which the code of chunk i, computed anew, and the code stored for it differ.
-pub fn differing(page: &[u8], codes: &[u8], i: usize) -> u32
-    requires { ⌜ (i * 256 + 256 ≤ length (now page)) × (i * 3 + 3 ≤ length (now codes)) ⌝ }
+pub fn differing(t: &[u8; 256], page: &[u8], codes: &[u8], i: usize) -> u32
+    requires { ⌜ (now t ≡ entries) × (i * 256 + 256 ≤ length (now page)) × (i * 3 + 3 ≤ length (now codes)) ⌝ }
     ensures { λ r. ⌜ (r ≡ difference (pageAt 256 (now (page .entry)) i) (codeAt (now (codes .entry)) i)) × (r < 16777216) ⌝ }
 {
     let a = i * 256;
     let e = a + 256;
-    let c = code_of(&page[a..e]);
+    let c = code_of(t, &page[a..e]);
     let d = code_at(codes, i);
     c ^ d
 }

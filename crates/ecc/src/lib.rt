@@ -20,11 +20,12 @@ pub fn encode(codes: &mut [u8], page: &[u8], m: usize)
     requires { ⌜ (length (now codes) ≡ m * 3) × (length (now page) ≡ m * 256) ⌝ }
     ensures { λ _. ⌜ now (codes .exit) ≡ codesOf m (now (page .entry)) ⌝ }
 {
+    let table = table::table();
     let mut i = 0;
     while i < m {
         let a = i * 256;
         let e = a + 256;
-        let c = chunk::code_of(&page[a..e]);
+        let c = chunk::code_of(&table, &page[a..e]);
         let k = i * 3;
         codes[k] = (c % 256) as u8;
         codes[k + 1] = (c / 256 % 256) as u8;
@@ -44,10 +45,11 @@ pub fn check(page: &[u8], codes: &[u8], m: usize) -> Checked
     requires { ⌜ (length (now page) ≡ m * 256) × (length (now codes) ≡ m * 3) ⌝ }
     ensures { λ r. ⌜ r ≡ checked m (now (page .entry)) (now (codes .entry)) ⌝ }
 {
+    let table = table::table();
     let mut n = 0;
     let mut i = 0;
     while i < m {
-        let x = chunk::differing(page, codes, i);
+        let x = chunk::differing(&table, page, codes, i);
         if x != 0 {
             let f = chunk::few(x);
             let p = chunk::paired(x);
@@ -66,9 +68,10 @@ fn mend(page: &mut [u8], codes: &[u8], m: usize)
     requires { ⌜ (length (now page) ≡ m * 256) × (length (now codes) ≡ m * 3) ⌝ }
     ensures { λ _. ⌜ now (page .exit) ≡ pageMended m (now (page .entry)) (now (codes .entry)) ⌝ }
 {
+    let table = table::table();
     let mut i = 0;
     while i < m {
-        let x = chunk::differing(page, codes, i);
+        let x = chunk::differing(&table, page, codes, i);
         if !chunk::few(x) {
             let k = chunk::named(x);
             let a = i * 256;

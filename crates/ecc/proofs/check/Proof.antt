@@ -9,10 +9,13 @@ use Rattle.ecc.proofs.check.Tie as tie
 
 -- The chunks below i can be read, and n counts those that differ; the first that cannot ends the loop.
 abbrev Inv-loop : tie.InvT-loop
-Inv-loop page codes m n₀ i₀ n i = Checking m page codes i n
+Inv-loop page codes m table n₀ i₀ n i = Checking m page codes i n
 
 abbrev μ-loop : tie.MeasureT-loop
-μ-loop page codes m n₀ i₀ n i = m - i
+μ-loop page codes m table n₀ i₀ n i = m - i
+
+table-requires : tie.Need-table-requires Inv-loop μ-loop
+table-requires c = search needs
 
 loop-holds : tie.Need-loop-holds Inv-loop μ-loop
 loop-holds c =
@@ -20,7 +23,8 @@ loop-holds c =
     check-start (start .args .m) (start .args .page .now) (start .args .codes .now)
 
 differing-requires : tie.Need-differing-requires Inv-loop μ-loop
-differing-requires c κs = (omega arith, omega arith)
+differing-requires c κs =
+    let after-table : tie.After-table Inv-loop μ-loop = search in (after-table .table .ensures, omega arith, omega arith)
 
 few-requires : tie.Need-few-requires Inv-loop μ-loop
 few-requires c κs = search needs
@@ -80,6 +84,7 @@ check-spec =
     (tie.spec
     Inv-loop
     μ-loop
+    table-requires
     loop-holds
     differing-requires
     few-requires

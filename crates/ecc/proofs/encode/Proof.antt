@@ -12,10 +12,13 @@ use Rattle.ecc.proofs.encode.Tie as tie
 
 -- The codes of the chunks below i stand, three bytes each, the others are as they were.
 abbrev Inv-loop : tie.InvT-loop
-Inv-loop codes₀ page m i₀ codes i = (i ≤ m) × Done 0 (m * 3) (codeByte page) codes₀ (i * 3) codes
+Inv-loop codes₀ page m table i₀ codes i = (i ≤ m) × Done 0 (m * 3) (codeByte page) codes₀ (i * 3) codes
 
 abbrev μ-loop : tie.MeasureT-loop
-μ-loop codes₀ page m i₀ codes i = m - i
+μ-loop codes₀ page m table i₀ codes i = m - i
+
+table-requires : tie.Need-table-requires Inv-loop μ-loop
+table-requires c = search needs
 
 loop-holds : tie.Need-loop-holds Inv-loop μ-loop
 loop-holds c =
@@ -113,6 +116,7 @@ encode-spec =
     (tie.spec
     Inv-loop
     μ-loop
+    table-requires
     loop-holds
     mul-a
     add-e

@@ -14,10 +14,13 @@ use Rattle.ecc.proofs.mend.Tie as tie
 
 -- The chunks below i are mended, the others as they were, so that chunk i differs from its code as it did at first.
 abbrev Inv-loop : tie.InvT-loop
-Inv-loop page₀ codes m i₀ page i = Mending m page₀ codes i page
+Inv-loop page₀ codes m table i₀ page i = Mending m page₀ codes i page
 
 abbrev μ-loop : tie.MeasureT-loop
-μ-loop page₀ codes m i₀ page i = m - i
+μ-loop page₀ codes m table i₀ page i = m - i
+
+table-requires : tie.Need-table-requires Inv-loop μ-loop
+table-requires c = search needs
 
 loop-holds : tie.Need-loop-holds Inv-loop μ-loop
 loop-holds c =
@@ -99,6 +102,7 @@ mend-spec =
     (tie.spec
     Inv-loop
     μ-loop
+    table-requires
     loop-holds
     differing-requires
     few-requires

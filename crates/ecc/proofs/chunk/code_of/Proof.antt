@@ -3,9 +3,6 @@ use Rattle.ecc.proofs.Fold.{when-odd, when-even}
 use Rattle.ecc.proofs.chunk.code_of.Statement.{statement}
 use Rattle.ecc.proofs.chunk.code_of.Tie as tie
 
-table-requires : tie.Need-table-requires
-table-requires c κs = search needs
-
 totals-requires : tie.Need-totals-requires
 totals-requires c κs = search needs
 
@@ -96,7 +93,6 @@ pub code-of-spec : {M : Type 1} → statement M
 code-of-spec =
     tie.close
     (tie.spec
-    table-requires
     totals-requires
     within-requires
     parity-requires

@@ -5,7 +5,7 @@ use mathlib.Core.List.{List, [], _∷_}
 use Prim.Native.Nat.{ℕ, _+_, _<_}
 use native.Mathlib.Omega.{arith}
 use lib.Dec.{ltb, eqb}
-use borrow.Author.Tests.{eq-eqb}
+use borrow.Author.Tests.{eq-eqb, ne-eqb}
 use Rattle.prelude.specs.Tests.{every}
 use Rattle.prelude.specs.Scan.{all}
 use Rattle.prelude.proofs.Tests.{clash, and-i, or-r, not-t, not-i, chain-every}
@@ -101,11 +101,26 @@ module _ (ss : List Sheet) (i : ℕ) {s : Sheet} (h : s ≡ sheetAt ss i) where
     replaces-chain = ap (λ (x : Sheet). ((eqb (x .replaces) r && ltb 0 r) && ltb r (x .run)) && counts ss i) h
         ∙ chain-every (eqb (sheetAt ss i .replaces) r ∷ ltb 0 r ∷ ltb r (runAt ss i) ∷ counts ss i ∷ [])
 
-    pub replaces-not : namedBy ≡ false → false ≡ replaces ss r i
+    replaces-not : namedBy ≡ false → false ≡ replaces ss r i
     replaces-not e = sym (ap (λ (b : Bool). b && counts ss i) e) ∙ replaces-chain
 
-    pub replaces-so : namedBy ≡ true → counts ss i ≡ replaces ss r i
+    replaces-so : namedBy ≡ true → counts ss i ≡ replaces ss r i
     replaces-so e = sym (ap (λ (b : Bool). b && counts ss i) e) ∙ replaces-chain
+
+    -- it names another run
+    pub replaces-other : (s .replaces ≡ r → ⊥) → false ≡ replaces ss r i
+    replaces-other ne = replaces-not (ap (λ (b : Bool). (b && ltb 0 r) && ltb r (s .run)) (ne-eqb (s .replaces) r ne))
+
+    -- it names this one, which is, or is not, a number below its own
+    module _ (e : s .replaces ≡ r) where
+      named : namedBy ≡ (ltb 0 r && ltb r (s .run))
+      named = ap (λ (b : Bool). (b && ltb 0 r) && ltb r (s .run)) (eq-eqb (s .replaces) r e)
+
+      pub replaces-above : (ltb 0 r && ltb r (s .run)) ≡ false → false ≡ replaces ss r i
+      replaces-above b = replaces-not (named ∙ b)
+
+      pub replaces-below : (ltb 0 r && ltb r (s .run)) ≡ true → counts ss i ≡ replaces ss r i
+      replaces-below b = replaces-so (named ∙ b)
 
   module _ (f n : ℕ) where
     claims-chain : (counts ss i && overlaps f n (s .first) (s .count)) ≡ claims ss f n i

@@ -1,6 +1,7 @@
 /* Measures the stack that each call needs: the call runs on a stack painted with one byte, and what it painted over is counted,
  * the caller's copies of the record included. Largest page size and cache, 6,000 random calls, then as many with a catalogue of 256
- * sheets; with the argument "coded" the store is coded, with a number it has so many shelf pages. */
+ * sheets; with the argument "coded" the store is coded, with "marked" marked, with a number it has so many shelf pages. */
+#include "clash_rehearse.h"
 #include "clash_runs.h"
 #include <pthread.h>
 #include <stdio.h>
@@ -9,21 +10,24 @@
 
 enum { PAGE = 2048, PER_BLOCK = 64, BLOCKS = 64, SLOTS = 128, FRAMES = 8, PAGES = PER_BLOCK * BLOCKS };
 enum { STACK = 1 << 18, PAINT = 0xA5, CALLS = 6000 };
-enum kind { NOTHING, OPEN, READ, WRITE, PART, BACK, STEP, FLUSH, ADD, LOOK, LIST, FETCH, REPLACE, MARK };
+enum kind { NOTHING, OPEN, READ, WRITE, PART, BACK, STEP, FLUSH, ADD, LOOK, LIST, FETCH, REPLACE, MARK, REPORT, REHEARSE };
 enum { SHEETS = 256 };
 
 static const clash_sizes sizes = { PAGE, PER_BLOCK, BLOCKS, SLOTS, FRAMES, 1000000 };
 static clash_options options = { 0, 0, 0, 0 };
-static uint8_t flash[PAGES * PAGE], pspace[SLOTS * PAGE], bspace[FRAMES * PER_BLOCK * PAGE], none[1], page[PAGE], bytes[40];
-static uint8_t codes[PAGES * (PAGE / 256) * 3], shelf[8 * PAGE];
-static size_t codes_len, shelf_len;
+static uint8_t flash[PAGES * PAGE], pspace[SLOTS * PAGE], bspace[FRAMES * PER_BLOCK * PAGE], page[PAGE], bytes[40];
+static uint8_t codes[PAGES * (PAGE / 256) * 3], marks[PAGES], shelf[8 * PAGE];
+static size_t codes_len, marks_len, shelf_len;
 static uint32_t wear[BLOCKS], n;
 static enum kind kind;
 static clash_reply reply;
 static clash_run_reply run;
 
-/* No marks. */
-#define LENT flash, sizeof flash, codes, codes_len, none, 0, wear, BLOCKS, pspace, sizeof pspace, bspace, sizeof bspace, shelf, shelf_len
+/* As large as a rehearsal takes them. */
+static const clash_setting setting = { 64, 16, 32, 128, 8, 1000, 16, 1024, 200, 200, 1 };
+
+#define LENT \
+    flash, sizeof flash, codes, codes_len, marks, marks_len, wear, BLOCKS, pspace, sizeof pspace, bspace, sizeof bspace, shelf, shelf_len
 
 /* Of all sheets, an examiner. */
 #define WHO SHEETS, CLASH_EXAMINER, 0
@@ -45,7 +49,7 @@ static void *call(void *unused) {
     case MARK: run = clash_run_mark(reply.cache, LENT, WHO, n % SHEETS, 50, page, PAGE); break;
     case NOTHING: break;
     }
-    if (kind >= ADD) reply.cache = run.cache;
+    if (kind >= ADD && kind <= MARK) reply.cache = run.cache;
     return unused;
 }
 
@@ -70,10 +74,13 @@ static void keep(size_t *most, size_t now) {
 }
 
 /* The code of a chunk of zeros is 255 in each byte. */
-static void set_options(int coded, uint32_t shelf_pages) {
-    options.coded = coded;
+static void set_options(const char *word) {
+    uint32_t shelf_pages = (uint32_t)atoi(word);
+    options.coded = !strcmp(word, "coded");
+    options.marked = !strcmp(word, "marked");
     options.shelf_pages = shelf_pages;
-    codes_len = coded ? sizeof codes : 0;
+    codes_len = options.coded ? sizeof codes : 0;
+    marks_len = options.marked ? sizeof marks : 0;
     shelf_len = shelf_pages * PAGE;
     memset(codes, 255, sizeof codes);
 }

@@ -7,15 +7,16 @@
  *
  *   flash    blocks * pages_per_block * page_size bytes, the chip
  *   codes    0 bytes; of a coded store 3 for each 256 bytes of flash, those of an erased page 255
- *   marks    0 bytes
+ *   marks    0 bytes; of a marked store one for each page: 0 where it is programmed, 255 where it was erased and not programmed since.
+ *            A chip is delivered with all marks 0
  *   wear     blocks numbers: how often each block was erased (aligned as uint32_t)
  *   pspace   slots * page_size bytes
  *   bspace   frames * pages_per_block * page_size bytes
  *   shelf    shelf_pages * page_size bytes
  *   page     page_size bytes, for read, write and part
  *
- * Marks belong to an option that no store has yet. No pointer may be NULL, also where the length is 0: the archive is compiled
- * for pointers that are not, and what it does with one is not defined. Lend the address of any byte (clash_store.h does).
+ * No pointer may be NULL, also where the length is 0: the archive is compiled for pointers that are not, and what it does with one is
+ * not defined. Lend the address of any byte (clash_store.h does).
  * A buffer of another length is refused, and a refused call changes nothing: neither the record nor a byte lent. */
 #ifndef CLASH_H
 #define CLASH_H
@@ -28,8 +29,8 @@ extern "C" {
 #endif
 
 /* Goes up when the record, an answer or a call takes another shape. Version 1 had neither options nor this number, version 2 no
- * `mended`. */
-#define CLASH_VERSION 3
+ * `mended`, version 3 no `torn`. */
+#define CLASH_VERSION 4
 
 /* No page, no block. */
 #define CLASH_VACANT 4294967295u
@@ -44,7 +45,8 @@ enum {
     CLASH_PAGE = 5,       /* there is no such page */
     CLASH_WORN = 6,       /* a rewrite is due for block `block`, whose wear has reached the limit */
     CLASH_UNREADABLE = 7, /* of a coded store: a flash page that the call reads or merges cannot be read by its codes */
-    CLASH_EMPTY = 8       /* take_back: no write is on the shelf */
+    CLASH_EMPTY = 8,      /* take_back: no write is on the shelf */
+    CLASH_TORN = 14       /* of a marked store: a flash page that the call reads or merges has a mark that is not 0 */
 };
 
 typedef struct {
@@ -63,12 +65,12 @@ enum {
     CLASH_LFU = 2   /* the one with the fewest uses, among equals the least recent */
 };
 
-/* What a store may have beside its sizes. Policy, codes and shelf are in force: marked must be 0. */
+/* What a store may have beside its sizes. */
 typedef struct {
     uint32_t policy;      /* CLASH_LRU, CLASH_FIFO or CLASH_LFU */
     uint32_t coded;       /* 1: pages have codes, and page_size is a multiple of 256; 0: they have none */
     uint32_t shelf_pages; /* 0 to 8: so many earlier pages are kept, for clash_take_back; 0: none */
-    uint32_t marked;      /* 0: pages have no marks */
+    uint32_t marked;      /* 1: pages have marks, by which an opening tells the blocks whose rewrite was cut; 0: they have none */
 } clash_options;
 
 typedef struct {
@@ -96,6 +98,7 @@ typedef struct {
     uint32_t rewrites; /* flush: blocks rewritten; step: 1, or 0 where nothing was cached */
     uint32_t merged;   /* merge reads of write, part, take_back, step and flush */
     uint32_t mended;   /* chunks of 256 bytes that the codes mended, data or code, of the flash pages that the call read, each page once */
+    uint32_t torn;     /* open: blocks with a page whose mark is not 0; 0 of a store without marks */
 } clash_answer;
 
 typedef struct {
@@ -120,13 +123,15 @@ CLASH_ASSERT(offsetof(clash_directory, valid) == 8 && offsetof(clash_directory, 
 CLASH_ASSERT(offsetof(clash_directory, frames) == 104 && offsetof(clash_directory, slots) == 136, "frames and slots in the directory");
 CLASH_ASSERT(offsetof(clash_answer, block) == 8 && offsetof(clash_answer, mended) == 20, "block and mends in the answer");
 
-/* Changes no buffer. A refused opening gives the blank record. */
+/* Changes no buffer. A refused opening gives the blank record. Of a marked store it answers how many blocks are torn: those whose
+ * rewrite was cut between its erasure and its last page. */
 clash_reply clash_open(clash_sizes sizes, clash_options options,
     const uint8_t *flash, size_t flash_bytes, const uint8_t *codes, size_t codes_bytes, const uint8_t *marks, size_t marks_bytes,
     const uint32_t *wear, size_t wear_count, const uint8_t *pspace, size_t pspace_bytes, const uint8_t *bspace, size_t bspace_bytes,
     const uint8_t *shelf, size_t shelf_bytes);
 
-/* Fills page with page n. A flipped bit is mended in page, and stays in flash until its block is rewritten. */
+/* Fills page with page n. Refused 14 where it is torn, until it is written. A flipped bit is mended in page, and stays in flash until its
+ * block is rewritten. */
 clash_reply clash_read(clash_cache cache,
     const uint8_t *flash, size_t flash_bytes, const uint8_t *codes, size_t codes_bytes, const uint8_t *marks, size_t marks_bytes,
     const uint32_t *wear, size_t wear_count, const uint8_t *pspace, size_t pspace_bytes, const uint8_t *bspace, size_t bspace_bytes,
@@ -160,7 +165,7 @@ clash_reply clash_step(clash_cache cache,
     uint32_t *wear, size_t wear_count, const uint8_t *pspace, size_t pspace_bytes, uint8_t *bspace, size_t bspace_bytes,
     const uint8_t *shelf, size_t shelf_bytes);
 
-/* Rewrites every block that has pages cached, or none where one of them is worn or has a page to merge that is unreadable. */
+/* Rewrites every block that has pages cached, or none where one of them is worn or has a page to merge that is unreadable or torn. */
 clash_reply clash_flush(clash_cache cache,
     uint8_t *flash, size_t flash_bytes, uint8_t *codes, size_t codes_bytes, uint8_t *marks, size_t marks_bytes,
     uint32_t *wear, size_t wear_count, const uint8_t *pspace, size_t pspace_bytes, uint8_t *bspace, size_t bspace_bytes,

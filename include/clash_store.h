@@ -33,6 +33,10 @@ static inline size_t clash_codes_bytes(clash_sizes z, clash_options o) {
     return o.coded == 1 ? CLASH_CODES_BYTES(z.page_size, z.pages_per_block, z.blocks) : 0;
 }
 
+static inline size_t clash_marks_bytes(clash_sizes z, clash_options o) {
+    return o.marked == 1 ? CLASH_MARKS_BYTES(z.pages_per_block, z.blocks) : 0;
+}
+
 static inline size_t clash_pspace_bytes(clash_sizes z) {
     return CLASH_PSPACE_BYTES(z.page_size, z.slots);
 }
@@ -57,6 +61,7 @@ static inline const char *clash_refusal_text(uint32_t refusal) {
     case CLASH_WORN: return "a block that has to be rewritten is worn";
     case CLASH_UNREADABLE: return "a flash page cannot be read by its codes";
     case CLASH_EMPTY: return "there is no write on the shelf to take back";
+    case CLASH_TORN: return "a flash page was erased and not programmed again";
     default: return "no refusal of this store";
     }
 }
@@ -95,7 +100,7 @@ static inline clash_answer clash_store_next(clash_store *store, clash_reply repl
     CLASH_LEND(uint8_t, store->pspace, store->pspace_bytes), CLASH_LEND(uint8_t, store->bspace, store->bspace_bytes), \
     CLASH_LEND(uint8_t, store->shelf, store->shelf_bytes)
 
-/* Changes no buffer. Refused, it leaves the blank record. */
+/* Changes no buffer. Refused, it leaves the blank record. `torn` is the number of torn blocks. */
 static inline clash_answer clash_store_open(clash_store *store, clash_sizes sizes, clash_options options) {
     return clash_store_next(store, clash_open(sizes, options, CLASH_LENT));
 }

@@ -1,5 +1,5 @@
-/* Every call of clash_store.h on a small coded store with two shelf pages, and refusals with their text; it says where an answer is
- * another than it must be. */
+/* Every call of clash_store.h on a small coded and marked store with two shelf pages, and refusals with their text; it says where an
+ * answer is another than it must be. */
 #include "clash_store.h"
 #include <stdio.h>
 #include <string.h>
@@ -8,7 +8,7 @@ enum { PAGE = 256, PER_BLOCK = 2, BLOCKS = 3, SLOTS = 2, FRAMES = 1, SHELF = 2 }
 
 static uint8_t flash[CLASH_FLASH_BYTES(PAGE, PER_BLOCK, BLOCKS)], codes[CLASH_CODES_BYTES(PAGE, PER_BLOCK, BLOCKS)];
 static uint8_t pspace[CLASH_PSPACE_BYTES(PAGE, SLOTS)], bspace[CLASH_BSPACE_BYTES(PAGE, PER_BLOCK, FRAMES)];
-static uint8_t shelf[CLASH_SHELF_BYTES(PAGE, SHELF)];
+static uint8_t marks[CLASH_MARKS_BYTES(PER_BLOCK, BLOCKS)], shelf[CLASH_SHELF_BYTES(PAGE, SHELF)];
 static uint32_t wear[BLOCKS];
 static int wrong;
 
@@ -18,6 +18,13 @@ static void say(const char *call, clash_answer a, uint32_t refusal, uint32_t way
     printf("%-28s refused %u, way %u, rewrites %u, merged %u, mended %u: %s%s\n", call, a.refusal, a.way, a.rewrites, a.merged, a.mended,
         clash_refusal_text(a.refusal), right ? "" : " (WRONG)");
     wrong += !right;
+}
+
+/* The same of an opening, which answers the torn blocks. */
+static void say_open(const char *call, clash_answer a, uint32_t refusal, uint32_t torn) {
+    say(call, a, refusal, 0, 0, 0);
+    if (a.torn || torn) printf("%-28s torn blocks: %u%s\n", "", a.torn, a.torn == torn ? "" : " (WRONG)");
+    wrong += a.torn != torn;
 }
 
 /* A page of one byte. */
@@ -45,6 +52,8 @@ int main(void) {
     store.flash_bytes = clash_flash_bytes(sizes);
     store.codes = codes;
     store.codes_bytes = clash_codes_bytes(sizes, options);
+    store.marks = marks;
+    store.marks_bytes = clash_marks_bytes(sizes, options);
     store.wear = wear;
     store.wear_count = sizes.blocks;
     store.pspace = pspace;
@@ -81,6 +90,9 @@ int main(void) {
     wrong += page[5] != 7;
     flash[6] ^= 1;
     say("read 0, two bits flipped", clash_store_read(&store, 0, page), CLASH_UNREADABLE, 0, 0, 0);
+    marks[3] = 255;
+    say("read 3, torn", clash_store_read(&store, 3, page), CLASH_TORN, 0, 0, 0);
+    say_open("open, a torn block", clash_store_open(&store, sizes, options), 0, 1);
     wear[2] = 9;
     say("write 5", clash_store_write(&store, 5, page), 0, 3, 0, 0);
     say("flush, a worn block", clash_store_flush(&store), CLASH_WORN, 0, 0, 0);

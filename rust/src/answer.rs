@@ -49,6 +49,8 @@ pub enum Refusal {
     Role,
     /// 13, of a catalogue: another run replaces this one already
     Replaced,
+    /// 14, of a marked store: a flash page that the call reads or merges was erased and not programmed again
+    Torn,
 }
 
 impl Refusal {
@@ -68,6 +70,7 @@ impl Refusal {
             Refusal::Pages => 11,
             Refusal::Role => 12,
             Refusal::Replaced => 13,
+            Refusal::Torn => 14,
         }
     }
 }
@@ -90,6 +93,7 @@ impl fmt::Display for Refusal {
             Refusal::Pages => out.write_str("a page that the run cannot have, or a mark above 100"),
             Refusal::Role => out.write_str("the role may not do this"),
             Refusal::Replaced => out.write_str("another run replaces this one"),
+            Refusal::Torn => out.write_str("a flash page was erased and not programmed again"),
         }
     }
 }

@@ -10,6 +10,7 @@ pub(crate) struct RawAnswer {
     pub rewrites: u32,
     pub merged: u32,
     pub mended: u32,
+    pub torn: u32,
 }
 
 #[repr(C)]
@@ -90,10 +91,11 @@ pub(crate) use call;
 
 /// The calls on the record itself, with whatever is lent: nothing is asserted, and what does not fit is refused.
 impl Cache {
-    pub fn open(sizes: Sizes, options: Options, lent: &Buffers) -> Result<Cache, Refusal> {
+    /// The record of an open store, and the number of torn blocks.
+    pub fn open(sizes: Sizes, options: Options, lent: &Buffers) -> Result<Opened, Refusal> {
         let reply = call!(clash_open(sizes, options; lent.as_ptr;));
         accepted(&reply.answer)?;
-        Ok(reply.cache)
+        Ok(Opened { cache: reply.cache, torn: reply.answer.torn })
     }
 
     /// Fills `page` with page `n`.
@@ -172,6 +174,7 @@ pub(crate) fn accepted(a: &RawAnswer) -> Result<(), Refusal> {
         11 => Err(Refusal::Pages),
         12 => Err(Refusal::Role),
         13 => Err(Refusal::Replaced),
+        14 => Err(Refusal::Torn),
         other => unreachable!("the store has no refusal {other}"),
     }
 }

@@ -1,5 +1,5 @@
-//! The proved page store and its catalogue of runs for Rust programs: safe calls over the archives of the crates `clash_c` and
-//! `catalogue_c`.
+//! The proved page store and its catalogue of runs for Rust programs: safe calls over the archives of the crates `clash_c`,
+//! `catalogue_c`, `rehearsal_c` and, for tests of what a power loss leaves, `cut_c`.
 //!
 //! [`Store`] is an open store: it keeps the record and is lent the buffers call by call ([`Buffers`]). Each call answers an
 //! [`Answer`], or the [`Refusal`] that the documents name; a refused call changes nothing. [`Catalogue`] keeps runs in an open store.
@@ -23,6 +23,7 @@
 mod answer;
 mod calls;
 mod catalogue;
+mod cut;
 mod memory;
 mod record;
 mod runs;

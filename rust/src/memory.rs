@@ -1,7 +1,6 @@
 use crate::{Options, Sizes};
 
-/// The buffers of a store, lent for the time of a call. Those of options that the store does not have are empty; marks belong to an option
-/// that no store has yet.
+/// The buffers of a store, lent for the time of a call. Those of options that the store does not have are empty.
 ///
 /// ```
 /// use clash::{Buffers, Options, Sizes, Store};
@@ -21,6 +20,7 @@ pub struct Buffers<'a> {
     pub flash: &'a mut [u8],
     /// of a coded store: 3 bytes for each 256 of flash
     pub codes: &'a mut [u8],
+    /// of a marked store: a byte for each page, 0 where it is programmed, 255 where it was erased and not programmed since
     pub marks: &'a mut [u8],
     /// how often each block was erased
     pub wear: &'a mut [u32],
@@ -38,7 +38,7 @@ impl Buffers<'_> {
             && self.pspace.len() == sizes.pspace_len()
             && self.bspace.len() == sizes.bspace_len()
             && self.codes.len() == options.codes_len(sizes)
-            && self.marks.is_empty()
+            && self.marks.len() == options.marks_len(sizes)
             && self.shelf.len() == options.shelf_len(sizes)
     }
 }
@@ -67,10 +67,15 @@ impl Memory {
         }
     }
 
-    /// The same for a store with these options, which an opening takes: codes, where they ask for them, are those of erased pages, and a
-    /// shelf has bytes 0.
+    /// The same for a store with these options, which an opening takes: codes, where they ask for them, are those of erased pages, marks
+    /// are 0, as a chip is delivered, and a shelf has bytes 0.
     pub fn with_options(sizes: &Sizes, options: &Options) -> Memory {
-        Memory { codes: vec![255; options.codes_len(sizes)], shelf: vec![0; options.shelf_len(sizes)], ..Memory::new(sizes) }
+        Memory {
+            codes: vec![255; options.codes_len(sizes)],
+            marks: vec![0; options.marks_len(sizes)],
+            shelf: vec![0; options.shelf_len(sizes)],
+            ..Memory::new(sizes)
+        }
     }
 
     pub fn lend(&mut self) -> Buffers<'_> {

@@ -19,8 +19,7 @@ pub struct Sizes {
     pub wear_limit: u32,
 }
 
-/// What an opening may set beside the sizes. The default is LRU and no other option. Policy, codes and shelf are in force: `marked`
-/// must be 0.
+/// What an opening may set beside the sizes. The default is LRU and no other option.
 #[repr(C)]
 #[derive(Clone, Copy, Debug, Default, PartialEq, Eq)]
 pub struct Options {
@@ -30,7 +29,7 @@ pub struct Options {
     pub coded: u32,
     /// 0 to 8: so many earlier pages are kept, for taking writes back; 0: none
     pub shelf_pages: u32,
-    /// 0: pages have no marks
+    /// 1: pages have marks, by which an opening tells the blocks whose rewrite was cut; 0: they have none
     pub marked: u32,
 }
 
@@ -66,6 +65,13 @@ pub struct Cache {
     /// the page whose earlier contents each shelf page has, oldest first, then [`VACANT`]
     pub entries: [u32; 8],
     pub directory: Directory,
+}
+
+/// What an accepted opening answers: the record, and the number of torn blocks, those with a mark that is not 0.
+#[derive(Clone, Copy, Debug, PartialEq, Eq)]
+pub struct Opened {
+    pub cache: Cache,
+    pub torn: u32,
 }
 
 const _: () = assert!(std::mem::size_of::<Cache>() == 720 && std::mem::align_of::<Cache>() == 8);
@@ -129,13 +135,21 @@ impl Options {
     /// Whether each is one that an opening with these sizes takes.
     pub fn in_limits(&self, sizes: &Sizes) -> bool {
         let chunks = self.coded == 0 || self.coded == 1 && sizes.page_size % 256 == 0;
-        self.policy <= LFU && chunks && self.shelf_pages <= 8 && self.marked == 0
+        self.policy <= LFU && chunks && self.shelf_pages <= 8 && self.marked <= 1
     }
 
     /// Bytes of codes: 3 for each 256 of flash, or none.
     pub fn codes_len(&self, sizes: &Sizes) -> usize {
         match self.coded {
             1 => sizes.page_size as usize / 256 * 3 * sizes.pages() as usize,
+            _ => 0,
+        }
+    }
+
+    /// Bytes of marks: one for each page, or none.
+    pub fn marks_len(&self, sizes: &Sizes) -> usize {
+        match self.marked {
+            1 => sizes.pages() as usize,
             _ => 0,
         }
     }

@@ -15,6 +15,7 @@ use crate::{Answer, Buffers, Cache, Options, Refusal, Sizes};
 #[derive(Debug, PartialEq, Eq)]
 pub struct Store {
     pub(crate) cache: Cache,
+    torn: u32,
 }
 
 impl Store {
@@ -22,8 +23,29 @@ impl Store {
     pub fn open(sizes: Sizes, options: Options, lent: &Buffers) -> Result<Store, Refusal> {
         let in_limits = sizes.in_limits() && options.in_limits(&sizes);
         debug_assert!(!in_limits || lent.fit(&sizes, &options), "a lent buffer has another length than {sizes:?} ask for");
-        let cache = Cache::open(sizes, options, lent)?;
-        Ok(Store { cache })
+        let Opened { cache, torn } = Cache::open(sizes, options, lent)?;
+        Ok(Store { cache, torn })
+    }
+
+    /// The number of blocks that were torn at opening: those with a page that was erased and not programmed again. Reads of such pages
+    /// are refused 14, and so are merges, until they are written. 0 of a store without marks.
+    ///
+    /// ```
+    /// use clash::{Memory, Options, Refusal, Sizes, Store};
+    ///
+    /// let (sizes, options) = (Sizes::from([1, 2, 3, 2, 1, 9]), Options { marked: 1, ..Options::default() });
+    /// let mut memory = Memory::with_options(&sizes, &options);
+    /// memory.marks[3] = 255; // the power failed between the erasure of block 1 and the program of page 3
+    /// let mut store = Store::open(sizes, options, &memory.lend())?;
+    /// assert_eq!(store.torn(), 1);
+    /// assert_eq!(store.read(&memory.lend(), 3, &mut [0]), Err(Refusal::Torn));
+    /// store.write(&mut memory.lend(), 3, &[7])?;
+    /// store.flush(&mut memory.lend())?;
+    /// assert_eq!(Store::open(sizes, options, &memory.lend())?.torn(), 0);
+    /// # Ok::<(), Refusal>(())
+    /// ```
+    pub fn torn(&self) -> u32 {
+        self.torn
     }
 
     /// Fills `page` with page `n`.

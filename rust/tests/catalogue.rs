@@ -192,7 +192,7 @@ fn the_first_checks() {
     let mut page = [0; 32];
     assert_eq!(blank.run_mark(&mut memory.lend(), &Catalogue { role: Role::Tutor, ..none }, 1, 0, &mut []), Err(Refusal::Role));
     assert_eq!(blank.run_mark(&mut memory.lend(), &none, 1, 0, &mut []), Err(Refusal::Record));
-    let cache = Cache::open(sizes, Options::default(), &memory.lend()).unwrap();
+    let cache = Cache::open(sizes, Options::default(), &memory.lend()).unwrap().cache;
     assert_eq!(cache.run_look(&memory.lend(), &none, 1, &mut page[1..]), Err(Refusal::Buffer));
     assert_eq!(cache.run_look(&Memory::default().lend(), &none, 1, &mut page), Err(Refusal::Buffer));
     for sheets in [0, 20, 21, 257, VACANT] {

@@ -20,7 +20,7 @@ fn page(n: u32) -> [u8; 512] {
 fn programmed() -> Bench {
     let sizes = Sizes::from(SIZES);
     let mut memory = Memory::with_options(&sizes, &CODED);
-    let cache = Cache::open(sizes, CODED, &memory.lend()).unwrap();
+    let cache = Cache::open(sizes, CODED, &memory.lend()).unwrap().cache;
     let mut b = Bench { cache, memory };
     (0..6).for_each(|n| assert!(b.write(n).is_ok()));
     assert!(b.flush().is_ok());
@@ -172,7 +172,7 @@ fn a_part_write_counts_a_page_once() {
 fn a_page_of_a_coded_store_is_a_multiple_of_256_bytes() {
     let open = |s: u32, coded: u32| {
         let (sizes, options) = (Sizes::from([s, 2, 3, 1, 1, 9]), Options { coded, ..Options::default() });
-        Cache::open(sizes, options, &Memory::with_options(&sizes, &options).lend()).map(|cache| cache.options.coded)
+        Cache::open(sizes, options, &Memory::with_options(&sizes, &options).lend()).map(|opened| opened.cache.options.coded)
     };
     assert_eq!([256, 512, 2048].map(|s| open(s, 1)), [Ok(1); 3]);
     assert_eq!([1, 128, 255, 257, 2047].map(|s| open(s, 1)), [Err(Refusal::Size); 5]);
@@ -200,7 +200,7 @@ fn codes_are_3_bytes_for_each_chunk() {
 fn a_store_without_codes_mends_nothing() {
     let sizes = Sizes::from(SIZES);
     let mut memory = Memory::new(&sizes);
-    let cache = Cache::open(sizes, Options::default(), &memory.lend()).unwrap();
+    let cache = Cache::open(sizes, Options::default(), &memory.lend()).unwrap().cache;
     let mut b = Bench { cache, memory }.flip(0, [8, 9]);
     assert_eq!(b.read(0).map(|(answer, page)| (answer, page[1])), Ok((Answer::Read { way: 3, mended: 0 }, 252)));
     assert_eq!(b.write(1), Ok(Answer::Write { way: 3, erased: None, merged: 0, mended: 0 }));

@@ -9,7 +9,7 @@ struct Bench {
 fn bench() -> Bench {
     let sizes = Sizes::from([2, 4, 3, 3, 1, 9]);
     let mut memory = Memory::new(&sizes);
-    let cache = Cache::open(sizes, Options::default(), &memory.lend()).unwrap();
+    let cache = Cache::open(sizes, Options::default(), &memory.lend()).unwrap().cache;
     Bench { cache, memory }
 }
 

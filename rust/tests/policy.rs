@@ -5,7 +5,7 @@ use clash::{Answer, Cache, Memory, Options, Refusal, Sizes, FIFO, LFU, LRU};
 fn opened(policy: u32) -> (Cache, Memory) {
     let sizes = Sizes::from([1, 2, 8, 2, 3, 9]);
     let mut memory = Memory::new(&sizes);
-    let cache = Cache::open(sizes, Options { policy, ..Options::default() }, &memory.lend()).unwrap();
+    let cache = Cache::open(sizes, Options { policy, ..Options::default() }, &memory.lend()).unwrap().cache;
     (cache, memory)
 }
 

@@ -1,5 +1,5 @@
-//! Each refusal of document 01, and that it changes nothing; `codes.rs` has that of request A6, `shelf.rs` that of A8. Wrong lengths go
-//! through the record's own calls, which assert nothing.
+//! Each refusal of document 01, and that it changes nothing; `codes.rs` has that of request A6, `shelf.rs` that of A8, `marks.rs` that of
+//! A12. Wrong lengths go through the record's own calls, which assert nothing.
 use clash::{Answer, Cache, Memory, Options, Refusal, Sizes, Store, FIFO, LFU, LRU, VACANT};
 
 const SIZES: [u32; 6] = [2, 4, 3, 3, 1, 9];
@@ -7,7 +7,7 @@ const SIZES: [u32; 6] = [2, 4, 3, 3, 1, 9];
 fn opened() -> (Cache, Memory) {
     let sizes = Sizes::from(SIZES);
     let mut memory = Memory::new(&sizes);
-    let cache = Cache::open(sizes, Options::default(), &memory.lend()).unwrap();
+    let cache = Cache::open(sizes, Options::default(), &memory.lend()).unwrap().cache;
     (cache, memory)
 }
 
@@ -56,12 +56,11 @@ fn size() {
     }
 }
 
-/// The policy is 0, 1 or 2, coded 0 or 1, and there are up to 8 shelf pages. Marks are not in force: any but 0 is refused, whatever is
-/// lent.
+/// The policy is 0, 1 or 2, coded and marked are 0 or 1, and there are up to 8 shelf pages; else it is refused, whatever is lent.
 #[test]
 fn option() {
     let sizes = Sizes::from([256, 4, 3, 3, 1, 9]);
-    for (i, wrongs) in [(0, [3, 4, 8, u32::MAX]), (1, [2, 3, 8, u32::MAX]), (2, MANY), (3, NONE)] {
+    for (i, wrongs) in [(0, [3, 4, 8, u32::MAX]), (1, NEITHER), (2, MANY), (3, NEITHER)] {
         for wrong in wrongs {
             let mut options = [0; 4];
             options[i] = wrong;
@@ -80,8 +79,8 @@ fn option() {
     }
 }
 
-/// What an option that is not in force may not be, and shelf pages may not.
-const NONE: [u32; 4] = [1, 2, 8, u32::MAX];
+/// What coded and marked may not be, and shelf pages may not.
+const NEITHER: [u32; 4] = [2, 3, 8, u32::MAX];
 const MANY: [u32; 4] = [9, 10, 128, u32::MAX];
 
 #[test]
@@ -156,17 +155,18 @@ fn record() {
     }
 }
 
-/// What the options add to a record: the policy is up to 2, there are up to 8 shelf pages, any other option is 0 where a page has 2 bytes,
-/// a frame that is vacant has no use and any other one at least, and without shelf pages each entry of the shelf is vacant.
+/// What the options add to a record: the policy is up to 2, coded is 0 where a page has 2 bytes, marked is 0 or 1, there are up to 8 shelf
+/// pages, a frame that is vacant has no use and any other one at least, and without shelf pages each entry of the shelf is vacant.
 #[test]
 fn record_of_options() {
-    let options: [fn(&mut Cache) -> &mut u32; 2] = [|c| &mut c.options.coded, |c| &mut c.options.marked];
     let spoilt = |option: fn(&mut Cache) -> &mut u32, wrong| {
         let (mut cache, memory) = filled();
         *option(&mut cache) = wrong;
         all_refused(cache, memory, 0, 2, Refusal::Record);
     };
-    options.iter().for_each(|&option| NONE.iter().for_each(|&wrong| spoilt(option, wrong)));
+    spoilt(|c| &mut c.options.coded, 1);
+    NEITHER.iter().for_each(|&wrong| spoilt(|c| &mut c.options.coded, wrong));
+    NEITHER.iter().for_each(|&wrong| spoilt(|c| &mut c.options.marked, wrong));
     [3, 4, u32::MAX].iter().for_each(|&wrong| spoilt(|c| &mut c.options.policy, wrong));
     MANY.iter().for_each(|&wrong| spoilt(|c| &mut c.options.shelf_pages, wrong));
     for i in 0..8 {
@@ -189,7 +189,7 @@ fn record_of_options() {
 #[test]
 fn order_of_the_checks() {
     let lengthen: [fn(&mut Memory); 3] = [|m| m.codes.push(0), |m| m.marks.push(0), |m| m.shelf.push(0)];
-    let spoils: [fn(&mut Cache); 3] = [|c| c.entries[7] = 0, |c| c.directory.slots[0] = 12, |c| c.options.marked = 1];
+    let spoils: [fn(&mut Cache); 3] = [|c| c.entries[7] = 0, |c| c.directory.slots[0] = 12, |c| c.options.marked = 2];
     for lengthen in lengthen {
         let (cache, mut memory) = filled();
         lengthen(&mut memory);
@@ -252,7 +252,7 @@ fn three_frames(wear: [u32; 6]) -> (Cache, Memory) {
     let sizes = Sizes::from([1, 2, 6, 2, 3, 9]);
     let mut memory = Memory::new(&sizes);
     memory.wear = wear.to_vec();
-    let mut cache = Cache::open(sizes, Options::default(), &memory.lend()).unwrap();
+    let mut cache = Cache::open(sizes, Options::default(), &memory.lend()).unwrap().cache;
     for n in [10, 4, 2, 0, 8] {
         cache.write(&mut memory.lend(), n, &[n as u8]).unwrap();
     }

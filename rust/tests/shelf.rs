@@ -18,7 +18,7 @@ fn opened(shelf_pages: u32) -> Bench {
 fn opened_as(sizes: [u32; 6], options: Options) -> Bench {
     let sizes = Sizes::from(sizes);
     let mut memory = Memory::with_options(&sizes, &options);
-    let cache = Cache::open(sizes, options, &memory.lend()).unwrap();
+    let cache = Cache::open(sizes, options, &memory.lend()).unwrap().cache;
     let mut b = Bench { cache, memory };
     (0..sizes.pages()).for_each(|n| assert!(b.write(n, 10 + n as u8).is_ok()));
     assert!(b.cache.flush(&mut b.memory.lend()).is_ok());

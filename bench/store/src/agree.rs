@@ -1,7 +1,9 @@
 //! Both stores on the same random histories: after each call the answers, the records, all buffers and the page must be equal. Some
 //! openings get a size or an option that is refused, some calls a record with an entry spoilt, a buffer of another length or a page that
-//! is not there. Of coded stores bits of flash and codes flip between the calls. Half of the stores have 1 to 8 shelf pages.
+//! is not there. Of coded stores bits of flash and codes flip between the calls, and of marked ones pages become torn and whole. Half of
+//! the stores have 1 to 8 shelf pages. Some calls are cut off first, on copies. Now and then both report the wear.
 use crate::both;
+use crate::cuts;
 use crate::random::Random;
 use clash::{Cache, Memory, Options, Sizes, VACANT};
 use plain::{codes, Answer, Plain, Said};
@@ -27,7 +29,12 @@ pub struct Tally {
     pub backs: [u32; 7],
     pub rewrites: u32,
     pub mended: u32,
-    pub refused: [u32; 8],
+    /// openings that find torn blocks
+    pub torn: u32,
+    /// cut calls that were stopped, that were done whole, and that were refused
+    pub cuts: [u32; 3],
+    pub reports: u32,
+    pub refused: [u32; 14],
 }
 
 pub fn agree(random: &mut Random) {
@@ -35,9 +42,10 @@ pub fn agree(random: &mut Random) {
     for _ in 0..HISTORIES {
         history(random, &mut tally);
     }
-    let Tally { calls, reads, writes, backs, rewrites, mended, refused } = tally;
-    let met = reads.iter().chain(&writes).chain(&backs).chain(&refused).chain([&mended]);
-    assert!(met.copied().all(|count| count > 40), "{reads:?} {writes:?} {backs:?} {refused:?}");
+    let Tally { calls, reads, writes, backs, mended, torn, cuts, reports, refused, .. } = tally;
+    let of_the_store = refused[..8].iter().chain(&refused[13..]);
+    let met = reads.iter().chain(&writes).chain(&backs).chain(&cuts).chain(of_the_store).chain([&mended, &torn, &reports]);
+    assert!(met.copied().all(|count| count > 40), "{reads:?} {writes:?} {backs:?} {cuts:?} {refused:?} {mended} {torn} {reports}");
     println!("{calls} calls in {HISTORIES} random histories: answers, records and buffers of both stores are equal after each.");
     println!("reads by way {reads:?}, writes by way from 0 {writes:?}, taken back by way from 1 {backs:?},");
     println!("{rewrites} rewrites by steps and flushes, {mended} chunks mended, refusals 1 to 8 {refused:?}\n");
@@ -81,8 +89,11 @@ fn opened(random: &mut Random, tally: &mut Tally) -> Option<Side> {
     let plain = Plain::open(both::sizes(sizes), both::options(options), &both::lent(memory.lend()));
     assert_eq!(cache.map_err(both::refused), plain.map(both::proved));
     tally.calls += 1;
-    match cache {
-        Ok(cache) => Some(Side { cache, memory, page: random.bytes(sizes.page_size as usize) }),
+    match proved {
+        Ok(opened) => {
+            tally.torn += (opened.torn > 0) as u32;
+            Some(Side { cache: opened.cache, memory, page: random.bytes(sizes.page_size as usize) })
+        }
         Err(why) => {
             tally.refused[why.number() as usize - 1] += 1;
             None
@@ -102,7 +113,7 @@ fn spoil_opening(random: &mut Random, sizes: &mut [u32; 6], options: &mut [u32; 
     match random.below(16) {
         0 => options[random.below(2) as usize] = random.of(&[0, 1, 2, 8, u32::MAX]),
         1 => options[2] = random.of(&SHELVES),
-        2 => options[3] = random.of(&OUTSIDE),
+        2 => options[3] = random.of(&MARKS),
         3 => of_an_option(random, m).push(0),
         4 => m.codes.truncate(m.codes.len().saturating_sub(1)),
         5 => m.shelf.truncate(m.shelf.len().saturating_sub(1)),
@@ -110,8 +121,8 @@ fn spoil_opening(random: &mut Random, sizes: &mut [u32; 6], options: &mut [u32; 
     }
 }
 
-/// What neither store takes for marks, but for 0: the plain one has them already.
-const OUTSIDE: [u32; 3] = [0, 9, u32::MAX];
+/// Marks, or what is none.
+const MARKS: [u32; 5] = [0, 1, 2, 9, u32::MAX];
 
 /// Shelf pages, or too many.
 const SHELVES: [u32; 6] = [0, 1, 7, 8, 9, u32::MAX];
@@ -124,7 +135,16 @@ fn of_an_option<'a>(random: &mut Random, m: &'a mut Memory) -> &'a mut Vec<u8> {
     }
 }
 
-/// Flips a bit of flash or of the codes, of a store that has some, or lets all codes match again.
+/// A page, of a store with marks, becomes torn, or all are whole.
+fn tear(random: &mut Random, m: &mut Memory) {
+    let pages = m.marks.len() as u32;
+    match pages == 0 || random.one_in(2) {
+        true => m.marks.fill(0),
+        false => m.marks[random.below(pages) as usize] = random.of(&[1, 128, 255]),
+    }
+}
+
+/// Flips a bit of flash or of the codes, of a store that has some, or lets all codes match again; the same of marks.
 pub fn disturb(random: &mut Random, m: &mut Memory) {
     if m.codes.is_empty() {
         return;
@@ -163,7 +183,7 @@ pub fn spoil(random: &mut Random, side: &mut Side) {
         9 => side.cache.options.policy = random.below(4),
         10 => side.cache.options.coded = random.below(3),
         11 => side.cache.options.shelf_pages = random.of(&SHELVES),
-        12 => side.cache.options.marked = random.of(&OUTSIDE),
+        12 => side.cache.options.marked = random.of(&MARKS),
         13 => side.cache.sizes.page_size += 1,
         14 => m.flash.push(0),
         15 => m.wear.push(0),
@@ -237,6 +257,13 @@ impl Side {
 }
 
 impl Tally {
+    pub fn say(&self) {
+        let Tally { reads, writes, backs, rewrites, mended, torn, cuts, reports, refused, .. } = self;
+        println!("reads by way {reads:?}, writes by way from 0 {writes:?}, taken back by way from 1 {backs:?},");
+        println!("{rewrites} rewrites by steps and flushes, {mended} chunks mended, {torn} openings with torn blocks, {reports} reports,");
+        println!("cut calls stopped, whole and refused {cuts:?}, refusals 1 to 8 {:?} and 14 {}\n", &refused[..8], refused[13]);
+    }
+
     pub fn count(&mut self, call: Call, answer: Said) {
         self.calls += 1;
         match answer {

@@ -20,6 +20,14 @@ pub fn proved(store: Plain) -> clash::Cache {
     }
 }
 
+/// What both openings answer: the record and the torn blocks.
+pub fn opened(sizes: clash::Sizes, options: clash::Options, memory: &mut clash::Memory) -> [Result<clash::Opened, plain::Refusal>; 2] {
+    let said = clash::Cache::open(sizes, options, &memory.lend()).map_err(refused);
+    let lent = &lent(memory.lend());
+    let store = Plain::open(self::sizes(sizes), self::options(options), lent);
+    [said, store.map(|store| clash::Opened { cache: proved(store), torn: store.torn(lent) })]
+}
+
 pub fn sizes(z: clash::Sizes) -> plain::Sizes {
     plain::Sizes::from([z.page_size, z.pages_per_block, z.blocks, z.slots, z.frames, z.wear_limit])
 }
@@ -64,6 +72,7 @@ pub fn refused(why: clash::Refusal) -> plain::Refusal {
         clash::Refusal::Pages => plain::Refusal::Pages,
         clash::Refusal::Role => plain::Refusal::Role,
         clash::Refusal::Replaced => plain::Refusal::Replaced,
+        clash::Refusal::Torn => plain::Refusal::Torn,
     }
 }
 

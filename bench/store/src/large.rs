@@ -1,8 +1,9 @@
 //! Both stores at real sizes: pages to 2,048 bytes, blocks to 64 pages, more than 256 blocks, 128 slots and 8 frames. Each store has its own
-//! buffers. After each call the answers, the records, the page buffers, wear, p-space, b-space and shelf must be equal, and flash and codes
-//! of the blocks that the call rewrote; all of flash and codes now and then, and after the last call.
+//! buffers. After each call the answers, the records, the page buffers, wear, p-space, b-space and shelf must be equal, and flash, codes
+//! and marks of the blocks that the call rewrote; all of them now and then. At the end a flush and a step are cut off, on copies.
 use crate::agree::{reshelve, Call, Side, Tally};
 use crate::both;
+use crate::cuts;
 use crate::random::Random;
 use clash::{Cache, Memory, Options, Sizes};
 use plain::{codes, Plain};
@@ -31,7 +32,7 @@ pub fn agree(random: &mut Random) {
     let [_, buffer, _, _, page, worn, unreadable, empty] = refused;
     let met = [buffer, page, worn, unreadable, empty, mended];
     assert!(reads.iter().chain(&writes).chain(&met).all(|&count| count > 40), "{reads:?} {writes:?} {met:?}");
-    assert!(backs.iter().all(|&count| count > 0), "{backs:?}");
+    assert!(backs.iter().chain(&cuts).all(|&count| count > 0), "{backs:?} {cuts:?}");
     println!("{calls} calls in {HISTORIES} random histories at real sizes (N over 256, to S=2048, K=64, P=128, B=8): equal after each.");
     println!("reads by way {reads:?}, writes by way from 0 {writes:?}, taken back by way from 1 {backs:?},");
     println!("{rewrites} rewrites by steps and flushes, {mended} chunks mended, refusals 1 to 8 {refused:?}\n");
@@ -59,6 +60,9 @@ fn history(random: &mut Random, tally: &mut Tally, sizes: Sizes, options: Option
     for i in 0..CALLS {
         if !proved.memory.codes.is_empty() && random.one_in(12) {
             disturb(random, near.last, &mut flips, &mut [&mut proved, &mut plain]);
+        }
+        if !proved.memory.marks.is_empty() && random.one_in(40) {
+            tear(random, near.last, &mut [&mut proved, &mut plain]);
         }
         if random.one_in(8) {
             reshelve(random, &mut proved.cache);
@@ -91,14 +95,27 @@ fn opened(random: &mut Random, sizes: Sizes, options: Options) -> Side {
     Side { cache: cache.expect("sizes within limits"), memory, page: random.bytes(sizes.page_size as usize) }
 }
 
-/// All that a call can change, but of flash and codes the blocks alone that it rewrote.
+/// All that a call can change, but of flash, codes and marks the blocks alone that it rewrote.
 fn alike(a: &Side, b: &Side, wear: &[u32]) -> bool {
     let (m, o) = (&a.memory, &b.memory);
     let cached = m.pspace == o.pspace && m.bspace == o.bspace && m.wear == o.wear && m.shelf == o.shelf;
     let blocks = wear.len();
     let block = |bytes: &[u8], b: usize| bytes[bytes.len() / blocks * b..bytes.len() / blocks * (b + 1)].to_vec();
-    let rewritten = |b: usize| m.wear[b] == wear[b] || block(&m.flash, b) == block(&o.flash, b) && block(&m.codes, b) == block(&o.codes, b);
+    let of_chip = [(&m.flash, &o.flash), (&m.codes, &o.codes), (&m.marks, &o.marks)];
+    let rewritten = |b: usize| m.wear[b] == wear[b] || of_chip.iter().all(|(m, o)| block(m, b) == block(o, b));
     a.cache == b.cache && a.page == b.page && cached && (0..blocks).all(rewritten)
+}
+
+/// A page near page n becomes torn in both stores, or all are whole again.
+fn tear(random: &mut Random, n: u32, sides: &mut [&mut Side; 2]) {
+    let page = ((n + random.below(64)) % sides[0].cache.sizes.pages()) as usize;
+    let is_whole = random.one_in(3);
+    for side in sides.iter_mut() {
+        match is_whole {
+            true => side.memory.marks.fill(0),
+            false => side.memory.marks[page] = 255,
+        }
+    }
 }
 
 /// Flips a bit near page n in both stores, now and then two of one byte, or computes the codes of the pages anew in which bits were flipped.

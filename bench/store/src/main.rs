@@ -4,6 +4,7 @@ mod agree;
 mod both;
 mod cases;
 mod catalogue;
+mod cuts;
 mod large;
 mod numbers;
 mod random;
@@ -35,6 +36,9 @@ fn main() {
         coded(&mut random, *sizes);
     }
     for sizes in &SIZES[..2] {
+        marked(&mut random, *sizes);
+    }
+    for sizes in &SIZES[..2] {
         for pages in [1, 8] {
             shelved(&mut random, *sizes, pages);
         }
@@ -62,6 +66,16 @@ fn table(random: &mut Random, sizes: [u32; 6]) {
 fn coded(random: &mut Random, sizes: [u32; 6]) {
     let mut bench = Bench::new(random, Sizes::from(sizes), Options { coded: 1, ..Options::default() });
     head(sizes, ", coded");
+    line(bench.read(3));
+    line(bench.write(7));
+    line(bench.step());
+    line(bench.flush());
+}
+
+/// The calls that read or program flash, of a store with marks, all of them 0.
+fn marked(random: &mut Random, sizes: [u32; 6]) {
+    let mut bench = Bench::new(random, Sizes::from(sizes), Options { marked: 1, ..Options::default() });
+    head(sizes, ", marked");
     line(bench.read(3));
     line(bench.write(7));
     line(bench.step());

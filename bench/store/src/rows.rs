@@ -19,6 +19,7 @@ pub struct Row {
 pub struct Lent {
     flash: Run,
     codes: Run,
+    marks: Run,
     wear: Vec<u32>,
     pspace: Run,
     bspace: Run,
@@ -48,15 +49,17 @@ impl Lent {
         let [flash, codes] = [sizes.flash_len(), options.codes_len(sizes)].map(|len| Run::new(random, len));
         let [pspace, bspace] = [sizes.pspace_len(), sizes.bspace_len()].map(|len| Run::new(random, len));
         let [shelf, page] = [options.shelf_len(sizes), sizes.page_size as usize].map(|len| Run::new(random, len));
-        let mut lent = Lent { flash, codes, wear: vec![0; sizes.wear_len()], pspace, bspace, shelf, page, random: Random(random.0) };
+        let marks = Run { bytes: vec![0; options.marks_len(sizes) + 4096], start: 0, len: options.marks_len(sizes) };
+        let wear = vec![0; sizes.wear_len()];
+        let mut lent = Lent { flash, codes, marks, wear, pspace, bspace, shelf, page, random: Random(random.0) };
         lent.place();
         lent
     }
 
     pub fn parts(&mut self) -> (Buffers<'_>, &mut [u8]) {
         let (flash, codes, pspace, bspace) = (self.flash.part(), self.codes.part(), self.pspace.part(), self.bspace.part());
-        let (wear, shelf) = (&mut self.wear, self.shelf.part());
-        (Buffers { flash, codes, wear, pspace, bspace, shelf, ..Default::default() }, self.page.part())
+        let (marks, wear, shelf) = (self.marks.part(), &mut self.wear, self.shelf.part());
+        (Buffers { flash, codes, marks, wear, pspace, bspace, shelf }, self.page.part())
     }
 
     /// The same, in the plain store's type.
@@ -65,9 +68,11 @@ impl Lent {
         (both::lent(lent), page)
     }
 
-    /// Each buffer starts at some multiple of 16 bytes, as memory from an allocator does. The codes, if any, are those of the flash.
+    /// Each buffer starts at some multiple of 16 bytes, as memory from an allocator does. The codes, if any, are those of the flash; marks
+    /// are 0.
     pub fn place(&mut self) {
-        for run in [&mut self.flash, &mut self.codes, &mut self.pspace, &mut self.bspace, &mut self.shelf, &mut self.page] {
+        let lent = [&mut self.flash, &mut self.codes, &mut self.marks, &mut self.pspace, &mut self.bspace, &mut self.shelf, &mut self.page];
+        for run in lent {
             run.start = self.random.below(256) as usize * 16;
         }
         self.encode();

@@ -1,8 +1,10 @@
 //! Both catalogues on the same random histories: after each call the answers, the records, all buffers and the page must be equal. Calls
-//! of the catalogue are mixed with those of the store, which also write foreign sheets; bits flip, records and buffers are spoilt.
+//! of the catalogue are mixed with those of the store, which also write foreign sheets; bits flip, pages become torn, records and buffers
+//! are spoilt. Some calls are cut off first, on copies.
 use crate::agree::{call, disturb, spoil, Call, Side};
 use crate::both;
 use crate::random::Random;
+use crate::{both, cuts};
 use clash::{Cache, Catalogue, Memory, NewRun, Options, Role, Sizes};
 use plain::{codes, Answer, Looked, Refusal};
 
@@ -35,7 +37,9 @@ struct Tally {
     accepted: [u32; 6],
     replaced: u32,
     masked: u32,
-    refused: [u32; 13],
+    /// cut calls that were stopped, that were done whole, and that were refused
+    cuts: [u32; 3],
+    refused: [u32; 14],
 }
 
 pub fn agree(random: &mut Random) {
@@ -46,10 +50,11 @@ pub fn agree(random: &mut Random) {
     let Tally { calls, accepted, replaced, masked, refused } = tally;
     let missing = |i: usize| matches!(i + 1, 3 | 5 | 8);
     let met = refused.iter().enumerate().filter(|(i, _)| !missing(*i)).map(|(_, count)| count);
-    assert!(met.chain(&accepted).chain([&replaced, &masked]).all(|&count| count > 40), "{accepted:?} {refused:?} {replaced} {masked}");
+    let met = met.chain(&accepted).chain(&cuts).chain([&replaced, &masked]);
+    assert!(met.copied().all(|count| count > 40), "{accepted:?} {cuts:?} {refused:?} {replaced} {masked}");
     println!("{calls} calls of catalogues in {HISTORIES} random histories: answers, records and buffers of both are equal after each.");
     println!("accepted: add, look, list, read, replace, mark {accepted:?}; {replaced} looks at a replaced run, {masked} masked;");
-    println!("refusals 1 to 13 {refused:?}\n");
+    println!("cut calls stopped, whole and refused {cuts:?}, refusals 1 to 14 {refused:?}\n");
 }
 
 fn history(random: &mut Random, tally: &mut Tally) {
@@ -176,6 +181,37 @@ fn asked_plain(side: &mut Side, who: &Catalogue, ask: Ask) -> Result<Told, Refus
     };
     side.cache = both::proved(plain);
     told
+}
+
+/// Cuts a call that writes a sheet at some number of operations, on copies of the store.
+fn cut(random: &mut Random, side: &Side, who: &Catalogue, ask: Ask, tally: &mut Tally) {
+    let operations = cuts::operations(random, side);
+    let (mut proved, mut plain, mut whole) = (side.clone(), side.clone(), side.clone());
+    let Some(left) = cut_proved(&mut proved, who, ask, operations) else { return };
+    let said = cut_plain(&mut plain, who, ask, operations);
+    cuts::compare(side, [&proved, &plain], left, said, asked(&mut whole, who, ask).map(|_| &whole), operations);
+    tally.cuts[said.map_or(2, |is_whole| is_whole as usize)] += 1;
+}
+
+fn cut_proved(side: &mut Side, who: &Catalogue, ask: Ask, operations: u32) -> Option<Cache> {
+    let (cache, lent, page) = (side.cache, &mut side.memory.lend(), &mut side.page);
+    match ask {
+        Ask::Add(new) => Some(cache.cut_run_add(lent, who, new, page, operations)),
+        Ask::Replace(run, new) => Some(cache.cut_run_replace(lent, who, run, new, page, operations)),
+        Ask::Mark(run, mark) => Some(cache.cut_run_mark(lent, who, run, mark, page, operations)),
+        Ask::Look(_) | Ask::List(_) | Ask::Read(..) => None,
+    }
+}
+
+fn cut_plain(side: &mut Side, who: &Catalogue, ask: Ask, operations: u32) -> Result<bool, Refusal> {
+    let (lent, page) = (&mut both::lent(side.memory.lend()), &mut side.page);
+    let (store, who) = (both::plain(side.cache), both::catalogue(*who));
+    match ask {
+        Ask::Add(new) => who.cut_add(operations, store, lent, page, both::new_run(new)),
+        Ask::Replace(run, new) => who.cut_replace(operations, store, lent, page, run, both::new_run(new)),
+        Ask::Mark(run, mark) => who.cut_mark(operations, store, lent, page, run, mark),
+        Ask::Look(_) | Ask::List(_) | Ask::Read(..) => unreachable!("nothing is written"),
+    }
 }
 
 impl Tally {

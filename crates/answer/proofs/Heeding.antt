@@ -20,6 +20,7 @@ module _ {enough : Type 0} {k : State} {mends : ℕ} {l l₁ : Left Cell} {m m�
     refused-is = refl;
     left-is = refl;
     whole = λ e. record { answer-is = refl; mends-are = refl; directory-is = refl; wear-is = same; pages-are = refl };
+    down = λ e. record { answer-is = refl; mends-are = refl; directory-is = refl; wear-is = same; pages-are = refl };
   }
 
   -- for another cause

@@ -1,6 +1,6 @@
 -- What a call of the inner crates asks and leaves. A primed value is the one afterwards.
 use mathlib.Core.Path.{_≡_}
-use mathlib.Core.Bool.{cond}
+use mathlib.Core.Bool.{true, cond}
 use mathlib.Core.List.{List}
 use Prim.Native.Nat.{ℕ}
 use Rattle.model.specs.Sizes.{Sizes}
@@ -39,10 +39,11 @@ pub record Carried (o : Outcome) (mends : ℕ) (m m₁ : Memory Cell Page) (answ
 abbrev pub leftOf : Sizes → Buffers → Left Cell
 leftOf sz u = record { flash = flashCells storeFormat sz u; wear = u .wear }
 
--- The same of a call that may do so many operations of the chip and no more: where they are enough it did all that outcome o says, and else
--- flash and wear are l₁, which are l where it is refused.
+-- The same of a call that may do so many operations of the chip and no more: where they are enough, or it is refused, it did all that
+-- outcome o says, and else flash and wear are l₁.
 pub record CarriedTo (enough : Type 0) (o : Outcome) (mends : ℕ) (l l₁ : Left Cell) (m m₁ : Memory Cell Page) (answer : Answer) (mended : ℕ)
     (d′ : Directory) (l′ : Left Cell) (m′ : Memory Cell Page) : Type 0 where
   pub refused-is : isRefused answer ≡ isRefused (o .answer)
   pub left-is : l′ ≡ cond (isRefused (o .answer)) l l₁
   pub whole : enough → Carried o mends m m₁ answer mended d′ (l′ .wear) m′
+  pub down : isRefused (o .answer) ≡ true → Carried o mends m m₁ answer mended d′ (l′ .wear) m′

@@ -27,8 +27,13 @@ refusalOf refusals.Empty = refused 8 vacant
 refusalOf refusals.Torn = refused 14 vacant
 
 abbrev pub openingOf : Opening → Answer
-openingOf openings.Done = openDone
+openingOf (openings.Done torn) = openDone
 openingOf (openings.Refused why) = refusalOf why
+
+-- the torn blocks; a refused opening answers none
+abbrev pub tornOf : Opening → ℕ
+tornOf (openings.Done torn) = torn
+tornOf (openings.Refused why) = 0
 
 abbrev pub readOf : Read → Answer
 readOf (reads.Done way mends) = readDone way

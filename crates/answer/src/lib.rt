@@ -39,9 +39,9 @@ pub fn late(fault: u32) -> Refusal
     Refusal::Torn
 }
 
-// What an opening answers.
+// What an opening answers: the number of torn blocks, those with a mark that is not 0 (request A12).
 pub enum Opening {
-    Done,
+    Done { torn: u32 },
     Refused(Refusal),
 }
 

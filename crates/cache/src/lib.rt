@@ -71,7 +71,7 @@ impl Sizes {
             & (self.policy <= 2)
             & (self.coded <= 1)
             & (self.shelf_pages <= 8)
-            & (self.marked == 0)
+            & (self.marked <= 1)
             & ((self.coded == 0) | (self.page_size % 256 == 0))
     }
 }

@@ -6,3 +6,4 @@ pub mod Counting
 pub mod Ending
 pub mod Unseen
 pub mod Demand3
+pub mod PowerLoss

@@ -1,6 +1,7 @@
 // A catalogue of runs above the page store (requests A9 to A11). Each call takes the store's record by value with the lent buffers, the
 // number of sheets, who calls and a page buffer; a call that can change the record hands back the next one beside its answer. A refused
 // call changes nothing.
+pub mod cut; // cut.rt: adding, replacing, marking, cut off after so many operations of the chip
 mod gate; // gate.rt: the checks before the sheets are read
 mod judge; // judge.rt: the sheets read, and what they decide
 pub mod look; // look.rt: a look, and a listing

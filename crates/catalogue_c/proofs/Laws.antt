@@ -57,7 +57,7 @@ module _ (c : Cache) (u : Lent) (n role t : ℕ) (op : Operation) (page : Page) 
 
 -- ---- answers
 
-pub listed-numbers : (a : Listed) (run mends : ℕ) → a ≡ listeds.Run run mends → (x : Answer) → x ≡ accepted 0 vacant 0 0 mends
+pub listed-numbers : (a : Listed) (run mends : ℕ) → a ≡ listeds.Run run mends → (x : Answer) → x ≡ accepted 0 vacant 0 0 mends 0
     → (r : RunAnswer) → r ≡ plainRun x run → r ≡ runNumbers (listSays a) (listMends a)
 listed-numbers a run mends e x h r k = k ∙ ap (λ (y : Answer). plainRun y run) h
     ∙ sym (ap (λ (y : Listed). runNumbers (listSays y) (listMends y)) e)
@@ -68,14 +68,14 @@ written-numbers a run said e x h r k = k ∙ ap (λ (y : Answer). plainRun y run
     ∙ sym (ap (λ (y : Written). runNumbers (writeSays y) (writeMends y)) e)
 
 pub looked-numbers : (a : Looked) (sheet : Sheet) (q mends : ℕ) → a ≡ lookeds.Shown sheet q mends → (x : Answer)
-    → x ≡ accepted 0 vacant 0 0 mends → (y : RunSheet) → y ≡ sheetNumbers (fieldsOf sheet)
+    → x ≡ accepted 0 vacant 0 0 mends 0 → (y : RunSheet) → y ≡ sheetNumbers (fieldsOf sheet)
     → record { answer = x; run = sheet .run; current = q; sheet = y } ≡ runNumbers (lookSays a) (lookMends a)
 looked-numbers a sheet q mends e x h y k = (λ i. record { answer = h i; run = sheet .run; current = q; sheet = k i })
     ∙ sym (ap (λ (z : Looked). runNumbers (lookSays z) (lookMends z)) e)
 
 -- the third role
-pub role-2-of : (n : ℕ) → n < 3 → (n ≡ 0 → ⊥) → (n ≡ 1 → ⊥) → examiner ≡ roleAt n
+pub role-2-of : (n : ℕ) → (n ≡ 0 → ⊥) → (n ≡ 1 → ⊥) → examiner ≡ roleAt n
 unfolding roleAt
-role-2-of zero l a b = absurd (a refl)
-role-2-of (suc zero) l a b = absurd (b refl)
-role-2-of (suc (suc n)) l a b = refl
+role-2-of zero a b = absurd (a refl)
+role-2-of (suc zero) a b = absurd (b refl)
+role-2-of (suc (suc n)) a b = refl

@@ -56,8 +56,8 @@ plainRun a r = record {
 -- what a catalogue says, and the mends, in numbers
 abbrev pub runNumbers : Says → ℕ → RunAnswer
 runNumbers (down a) m = plainRun (numbersOf a 0) 0
-runNumbers (shown sh q) m = record { answer = accepted 0 vacant 0 0 m; run = sh .run; current = q; sheet = sheetNumbers sh }
-runNumbers (listed r) m = plainRun (accepted 0 vacant 0 0 m) r
+runNumbers (shown sh q) m = record { answer = accepted 0 vacant 0 0 m 0; run = sh .run; current = q; sheet = sheetNumbers sh }
+runNumbers (listed r) m = plainRun (accepted 0 vacant 0 0 m 0) r
 runNumbers (fetched a) m = plainRun (numbersOf a m) 0
 runNumbers (wrote r a) m = plainRun (numbersOf a m) r
 

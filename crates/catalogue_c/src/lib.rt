@@ -16,7 +16,6 @@ use sheets::roles::Role;
 use sheets::verdict::Cause;
 use store::Cache;
 ghost use mathlib.Core.Path.{_≡_};
-ghost use Prim.Native.Nat.{_<_};
 ghost use Rattle.model.specs.Sizes.{vacant};
 ghost use Rattle.model.specs.Calls.{refused};
 ghost use Rattle.answer.specs.Numbers.{refusalOf};
@@ -118,6 +117,7 @@ fn denied(why: Cause) -> RunAnswer
         rewrites: 0,
         merged: 0,
         mended: 0,
+        torn: 0,
     };
     plain(answer, 0)
 }
@@ -133,7 +133,7 @@ fn stopped(why: Refusal) -> RunAnswer
 
 // An accepted call that is no call of the store.
 fn done(mended: u32) -> Answer
-    ensures { λ r. ⌜ r ≡ accepted 0 vacant 0 0 mended ⌝ }
+    ensures { λ r. ⌜ r ≡ accepted 0 vacant 0 0 mended 0 ⌝ }
 {
     Answer {
         refusal: 0,
@@ -142,6 +142,7 @@ fn done(mended: u32) -> Answer
         rewrites: 0,
         merged: 0,
         mended,
+        torn: 0,
     }
 }
 
@@ -207,9 +208,8 @@ fn of_written(a: Written) -> RunAnswer
     }
 }
 
-// Who calls: role 0 trainee, 1 tutor, 2 examiner.
-fn caller(role: u32, number: u32) -> Caller
-    requires { ⌜ role < 3 ⌝ }
+// Who calls: role 0 trainee, 1 tutor, any other examiner.
+pub fn caller(role: u32, number: u32) -> Caller
     ensures { λ r. ⌜ callerOf r ≡ callerAt role number ⌝ }
 {
     if role == 0 {

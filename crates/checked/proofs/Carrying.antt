@@ -16,17 +16,19 @@ use Rattle.model.specs.Soundness.{sound}
 use Rattle.model.specs.Policy.{Choice, readWay, policyChoice, Plan, plan, dueOf}
 use Rattle.model.specs.Moves.{Memory, readDirectory, readPage}
 use Rattle.model.specs.Formats.{storeFormat, chipFor}
+use Rattle.model.specs.Cut.{cutCall, operations}
 use Rattle.model.specs.Calls.{Answer, readDone, writeDone, refused, isRefused, Call, read, write, part, step, flush, State, Outcome}
 use Rattle.model.specs.Calls.{turnedDown, checked, readOutcome, writeOutcome, partOutcome, stepOutcome, flushOutcome, decide, noBytes}
 use Rattle.model.specs.Calls.{readsFlash, readsPage, writeMerges, stepMerges, stepsMerge, faultMet, mendsMet, heeding, callPages}
 use Rattle.model.specs.Calls.{Page, Cell}
 use Rattle.model.specs.Calls.{Buffers, lentOk, Fits, Store, zeroPage, flashCells, memoryOf, buffersOf, stateOf, told, lentBuffer}
-use Rattle.model.specs.Calls.{filledBuffer, unaltered, faultOf, mendsOf, readsAll, carriedOut, callReading, call}
+use Rattle.model.specs.Calls.{Result, filledBuffer, unaltered, faultOf, mendsOf, readsAll, carriedOut, callReading, call}
 use Rattle.model.proofs.Demand3.{KeepsRefused, decide-keeps, heeding-keeps}
 use Rattle.model.proofs.Buffers.{buffers-of-memory, fits-of}
 use Rattle.model.proofs.Soundness.{sound-facts}
 use Rattle.model.proofs.RulesCalls.{heeds-rule}
-use Rattle.answer.specs.Carried.{Ready, Carried, CarriedTo}
+use Rattle.answer.specs.Carried.{Ready, leftOf, Carried, CarriedTo}
+use Rattle.checked.specs.Lists.{CalledTo}
 use Rattle.answer.proofs.Heeding.{down-late, goes-on}
 use Rattle.chip.specs.declared.Seen.{Seen}
 use Rattle.chip.specs.Chip.{faultOn, faultIn, mendsIn}
@@ -53,6 +55,19 @@ or-again true true = refl
 or-again true false = refl
 or-again false true = refl
 or-again false false = refl
+
+-- the operations that a flush may have
+pub operations-small : (sz : Sizes) → InLimits sz → sz .N * suc (sz .K) ≤ 266240
+operations-small sz h = let l : suc (sz .K) ≤ 65 = (let k = h .K-high in omega arith) in
+    let a : sz .N * suc (sz .K) ≤ 4096 * 65 = mul-le-mul (h .N-high) l in omega arith
+
+-- and any call
+pub operations-few : (sz : Sizes) → InLimits sz → (c : Call Page) → operations sz c ≤ 4294967295
+operations-few sz l (read n x) = omega arith
+operations-few sz l (write n x) = let k = l .K-high in omega arith
+operations-few sz l (part n first x page) = let k = l .K-high in omega arith
+operations-few sz l step = let k = l .K-high in omega arith
+operations-few sz l flush = let k = operations-small sz l in omega arith
 
 -- a call that may read flash pages besides its own
 module _ (pick : Choice) (s : Store) (c : Call Page) (besides : ℕ → Bool) where
@@ -89,6 +104,10 @@ module _ (pick : Choice) (s : Store) (c : Call Page) (besides : ℕ → Bool) wh
   abbrev bufferAfter : Outcome → Page
   bufferAfter o = cond (isRefused (o .answer)) (lentBuffer c) (filledBuffer (chipFor sz) sz (s .cache .directory)
       (memoryOf storeFormat sz (s .lent)) c)
+
+  carried-refused : (o : Outcome) → isRefused (carriedOut storeFormat pick s c besides o .answer) ≡ isRefused (o .answer)
+  unfolding carriedOut
+  carried-refused o = by-test (isRefused (o .answer)) (λ e. rw (e, carriedOut) e) (λ e. rw (e, carriedOut) e)
 
   module _ (a : sounds ≡ true) (b : lentOk storeFormat (s .cache .sizes) (s .lent) ≡ true) where
     reading-carried : callReading storeFormat pick besides s c ≡ carriedOut storeFormat pick s c besides (heeding (stateOf s) late decided)
@@ -178,6 +197,56 @@ module _ (pick : Choice) (s : Store) (c : Call Page) (besides : ℕ → Bool) wh
             (ap (λ (x : ℕ). heeding (stateOf s) x decided) late-is ∙ ap (heeding (stateOf s) (faultIn sz (s .lent) reads)) e) in
             carried-call (heeding (stateOf s) late decided) (heeding-keeps sz (stateOf s) late decided (decide-keeps sz (stateOf s) pick
             (told c))) (rw (says, mends-are) h) (rw says p) ∙ sym reading-carried
+
+        -- the model's call is refused where that outcome is
+        answered : (o : Outcome) → decided ≡ o → isRefused (callReading storeFormat pick besides s c .answer)
+            ≡ isRefused (heeding (stateOf s) (faultIn sz (s .lent) reads) o .answer)
+        answered o e = ap (λ (x : Result). isRefused (x .answer)) reading-carried ∙ carried-refused (heeding (stateOf s) late decided)
+            ∙ ap (λ (x : ℕ). isRefused (heeding (stateOf s) x decided .answer)) late-is
+            ∙ ap (λ (x : Outcome). isRefused (heeding (stateOf s) (faultIn sz (s .lent) reads) x .answer)) e
+
+        -- the same of an inner call that may do so many operations
+        pub reading-to : (ops : ℕ) (o : Outcome) → decided ≡ o
+            → CarriedTo (operations sz c ≤ ops) (heeding (stateOf s) (faultIn sz (s .lent) reads) o) (mendsIn sz (s .lent) reads)
+            (leftOf sz (s .lent)) (cutCall (chipFor sz) (zeroPage sz) pick sz ops (stateOf s) (memoryOf storeFormat sz (s .lent)) c)
+            (memoryOf storeFormat sz (s .lent))
+            (callPages (chipFor sz) (zeroPage sz) pick sz (stateOf s) (memoryOf storeFormat sz (s .lent)) c) answer mended d′ (leftOf sz u′)
+            (memoryOf storeFormat sz u′)
+            → (answer ≡ heeding (stateOf s) (faultIn sz (s .lent) reads) o .answer
+            → page′ ≡ bufferAfter (heeding (stateOf s) (faultIn sz (s .lent) reads) o))
+            → CalledTo pick ops besides s c (record {
+              answer = answer;
+              mends = mended;
+              store = record { cache = record { sizes = sz; directory = d′ }; lent = u′ };
+              page = page′;
+            })
+        reading-to ops o e h p = record {
+          whole = λ w. let k = h .whole (w (sound-facts (s .cache .sizes) (s .cache .directory) a .limits)) in
+              reading-done o e k (p (k .answer-is));
+          down = λ r. let k = h .down (sym (answered o e) ∙ r) in reading-done o e k (p (k .answer-is));
+          left = λ r. h .left-is ∙ rw (sym (answered o e) ∙ r);
+        }
+
+-- a refused call, however many operations it may do
+pub called-down : (pick : Choice) (ops : ℕ) (besides : ℕ → Bool) (s : Store) (c : Call Page) (r : Result) → isRefused (r .answer) ≡ true
+    → r ≡ callReading storeFormat pick besides s c → CalledTo pick ops besides s c r
+called-down pick ops besides s c r h e = record {
+  whole = λ w. e;
+  down = λ q. e;
+  left = λ q. clash (ap (λ (x : Result). isRefused (x .answer)) (sym e) ∙ h) q;
+}
+
+-- of a call that reads no others
+pub refused-to : (ops : ℕ) (s : Store) (c : Call Page) (n : ℕ) → call storeFormat policyChoice s c ≡ unaltered (refused n vacant) s c
+    → CalledTo policyChoice ops (λ i. false) s c (unaltered (refused n vacant) s c)
+unfolding call
+refused-to ops s c n e = called-down policyChoice ops (λ i. false) s c _ refl (sym e)
+
+-- with more operations than any call has
+pub called-whole : (s : Store) (c : Call Page) (r : Result) → CalledTo policyChoice 4294967295 (λ i. false) s c r
+    → r ≡ call storeFormat policyChoice s c
+unfolding call
+called-whole s c r h = h .whole (λ l. operations-few (s .cache .sizes) l c)
 
 -- a call that reads no others
 module _ (pick : Choice) (s : Store) (c : Call Page) where
@@ -369,39 +438,34 @@ module _ (s : Store) (n : ℕ) (x : Page) where
             pages-are = rw (down .0);
           }) (rw (down .0) same)
 
-    module _ (u′ : Buffers) (f′ : Fits storeFormat (s .cache .sizes) u′) (answer : Answer) (mended : ℕ) (d′ : Directory) (ops : ℕ)
-        (enough : suc (s .cache .sizes .K) ≤ ops) where
+    module _ (u′ : Buffers) (f′ : Fits storeFormat (s .cache .sizes) u′) (answer : Answer) (mended : ℕ) (d′ : Directory) (ops : ℕ) where
+      abbrev wrote : Result
+      wrote = record {
+        answer = answer;
+        mends = mended;
+        store = record { cache = record { sizes = s .cache .sizes; directory = d′ }; lent = u′ };
+        page = x;
+      }
+
       -- the write, with those pages read besides
       pub write-reading : (besides seen : ℕ → Bool) → ((i : ℕ) → besides i ≡ seen i)
           → WroteWith (s .cache .sizes) (s .cache .directory) (s .lent) n x
           (plan policyChoice (s .cache .sizes) (s .cache .directory) (s .lent .wear) n) seen ops answer mended d′ u′
-          → record {
-            answer = answer;
-            mends = mended;
-            store = record { cache = record { sizes = s .cache .sizes; directory = d′ }; lent = u′ };
-            page = x;
-          }
-          ≡ callReading storeFormat policyChoice besides s (write n x)
-      unfolding callPages
+          → CalledTo policyChoice ops besides s (write n x) wrote
+      unfolding callPages cutCall
       write-reading besides seen same h =
           let sz : Sizes = s .cache .sizes in
           let q = plan policyChoice sz (s .cache .directory) (s .lent .wear) n in
           let o : Outcome = writeOutcome sz (stateOf s) n q in
-          reading-done policyChoice s (write n x) besides a b u′ f′ answer mended d′ x (writeReads sz (s .cache .directory) q seen)
-          (write-reads besides seen same) o (write-checked ∙ checked-passed sz (stateOf s) n (length x) o e l) (h .whole enough)
-          (same-either x (isRefused (heeding (stateOf s) (faultIn sz (s .lent) (writeReads sz (s .cache .directory) q seen)) o .answer)))
+          reading-to policyChoice s (write n x) besides a b u′ f′ answer mended d′ x (writeReads sz (s .cache .directory) q seen)
+          (write-reads besides seen same) ops o (write-checked ∙ checked-passed sz (stateOf s) n (length x) o e l) h
+          (λ g. same-either x (isRefused (heeding (stateOf s) (faultIn sz (s .lent) (writeReads sz (s .cache .directory) q seen)) o
+          .answer)))
 
       pub write-done : Wrote (s .cache .sizes) (s .cache .directory) (s .lent) n x
           (plan policyChoice (s .cache .sizes) (s .cache .directory) (s .lent .wear) n) (record { fault = 0; mends = 0 }) ops answer mended
           d′ u′
-          → record {
-            answer = answer;
-            mends = mended;
-            store = record { cache = record { sizes = s .cache .sizes; directory = d′ }; lent = u′ };
-            page = x;
-          }
-          ≡ call storeFormat policyChoice s (write n x)
-      unfolding call
+          → CalledTo policyChoice ops (λ i. false) s (write n x) wrote
       write-done h =
           let sz : Sizes = s .cache .sizes in
           let beside : Beside sz (s .cache .directory) (s .lent) n (λ i. false) (record { fault = 0; mends = 0 }) = record {
@@ -499,6 +563,12 @@ module _ (s : Store) (n first : ℕ) (x page : Page) where
             pages-are = rw (q, callPages);
           })) (rw stands (rw q))
 
+      -- however many operations there are
+      pub nothing-to : (ops : ℕ) → noBytes x ≡ true → CalledTo policyChoice ops (λ i. false) s (part n first x page)
+          (record { answer = writeDone 0 vacant 0; mends = 0; store = s; page = page })
+      unfolding call cutCall memoryOf
+      nothing-to ops q = record { whole = λ w. nothing-done q; down = λ g. nothing-done q; left = λ g. rw (q, cutCall) }
+
       pub part-ready : PartReady (s .cache .sizes) (s .cache .directory) (s .lent) n first x page
       part-ready = record {
         ready = record {
@@ -511,54 +581,37 @@ module _ (s : Store) (n first : ℕ) (x page : Page) where
       }
 
       module _ (q : noBytes x ≡ false) (u′ : Buffers) (f′ : Fits storeFormat (s .cache .sizes) u′) (answer : Answer) (mended : ℕ)
-          (d′ : Directory) (page′ : Page) (ops : ℕ) (enough : suc (s .cache .sizes .K) ≤ ops)
+          (d′ : Directory) (page′ : Page) (ops : ℕ)
           (h : PartWrote (s .cache .sizes) (s .cache .directory) (s .lent) n first x page ops answer mended d′ u′ page′) where
-        -- the part write, with pages read besides that it reads anyhow
-        part-carried : (besides : ℕ → Bool) → ((i : ℕ) → reading policyChoice s (part n first x page) besides i
-            ≡ writeReads (s .cache .sizes) (s .cache .directory) planned (readsPage (s .cache .sizes) (s .cache .directory) n) i)
-            → record {
-              answer = answer;
-              mends = mended;
-              store = record { cache = record { sizes = s .cache .sizes; directory = d′ }; lent = u′ };
-              page = page′;
-            } ≡ callReading storeFormat policyChoice besides s (part n first x page)
-        unfolding callPages
-        part-carried besides same =
-            let sz : Sizes = s .cache .sizes in
-            let y : Page = combinedOf sz (s .cache .directory) (s .lent) n first x in
-            let k = h .wrote .whole enough in
-            let o : Outcome = heeding (stateOf s) (faultIn sz (s .lent) (writeReads sz (s .cache .directory) planned
-            (readsPage sz (s .cache .directory) n))) asWrite in
-            let p : page′ ≡ cond (isRefused (o .answer)) page y = h .page-is
-            ∙ ap (λ (t : Answer). cond (isRefused t) page y) (k .answer-is) in
-            reading-done policyChoice s (part n first x page) besides a b u′ f′ answer mended d′ page′
-            (writeReads sz (s .cache .directory) planned (readsPage sz (s .cache .directory) n)) same asWrite
-            (passed-as asWrite (part-some sz (stateOf s) first (length x) asWrite r q)) (rw (q, callPages) k) (rw q p)
-
-        pub part-done : record {
+        abbrev parted : Result
+        parted = record {
           answer = answer;
           mends = mended;
           store = record { cache = record { sizes = s .cache .sizes; directory = d′ }; lent = u′ };
           page = page′;
-        } ≡ call storeFormat policyChoice s (part n first x page)
-        unfolding call
+        }
+
+        -- the part write, with pages read besides that it reads anyhow
+        part-carried : (besides : ℕ → Bool) → ((i : ℕ) → reading policyChoice s (part n first x page) besides i
+            ≡ writeReads (s .cache .sizes) (s .cache .directory) planned (readsPage (s .cache .sizes) (s .cache .directory) n) i)
+            → CalledTo policyChoice ops besides s (part n first x page) parted
+        unfolding callPages cutCall
+        part-carried besides same =
+            let sz : Sizes = s .cache .sizes in
+            let y : Page = combinedOf sz (s .cache .directory) (s .lent) n first x in
+            reading-to policyChoice s (part n first x page) besides a b u′ f′ answer mended d′ page′
+            (writeReads sz (s .cache .directory) planned (readsPage sz (s .cache .directory) n)) same ops asWrite
+            (passed-as asWrite (part-some sz (stateOf s) first (length x) asWrite r q)) (rw (q, callPages, cutCall) (h .wrote))
+            (λ g. rw q (h .page-is ∙ ap (λ (t : Answer). cond (isRefused t) page y) g))
+
+        pub part-done : CalledTo policyChoice ops (λ i. false) s (part n first x page) parted
         part-done = part-carried (λ i. false) (part-reads q)
 
         pub part-reading : (besides : ℕ → Bool) → ((i : ℕ) → besides i ≡ readsPage (s .cache .sizes) (s .cache .directory) n i)
-            → record {
-              answer = answer;
-              mends = mended;
-              store = record { cache = record { sizes = s .cache .sizes; directory = d′ }; lent = u′ };
-              page = page′;
-            } ≡ callReading storeFormat policyChoice besides s (part n first x page)
+            → CalledTo policyChoice ops besides s (part n first x page) parted
         part-reading besides same = part-carried besides (part-reads-again q besides same)
 
 -- ---- the calls without a page buffer
-
--- the operations that a flush may have
-pub operations-small : (sz : Sizes) → InLimits sz → sz .N * suc (sz .K) ≤ 266240
-operations-small sz h = let l : suc (sz .K) ≤ 65 = (let k = h .K-high in omega arith) in
-    let a : sz .N * suc (sz .K) ≤ 4096 * 65 = mul-le-mul (h .N-high) l in omega arith
 
 module _ (s : Store) where
   step-reads : (i : ℕ) → reading policyChoice s step (λ i. false) i
@@ -579,32 +632,26 @@ module _ (s : Store) where
     }
 
     module _ (u′ : Buffers) (f′ : Fits storeFormat (s .cache .sizes) u′) (answer : Answer) (mended : ℕ) (d′ : Directory) (ops : ℕ) where
-      pub step-done : suc (s .cache .sizes .K) ≤ ops
-          → StepCarried (s .cache .sizes) (s .cache .directory) (s .lent) ops answer mended d′ u′
-          → record {
-            answer = answer;
-            mends = mended;
-            store = record { cache = record { sizes = s .cache .sizes; directory = d′ }; lent = u′ };
-            page = [];
-          }
-          ≡ call storeFormat policyChoice s step
-      unfolding decide callPages
-      step-done enough h = let sz : Sizes = s .cache .sizes in let q = dueOf policyChoice sz (s .cache .directory) in
-          call-done policyChoice s step a b u′ f′ answer mended d′ [] (stepMerges sz (s .cache .directory) q) step-reads
-          (stepOutcome sz (stateOf s) q) refl (h .whole enough) (same-either [] (isRefused (heeding (stateOf s)
+      abbrev stepped : Result
+      stepped = record {
+        answer = answer;
+        mends = mended;
+        store = record { cache = record { sizes = s .cache .sizes; directory = d′ }; lent = u′ };
+        page = [];
+      }
+
+      pub step-done : StepCarried (s .cache .sizes) (s .cache .directory) (s .lent) ops answer mended d′ u′
+          → CalledTo policyChoice ops (λ i. false) s step stepped
+      unfolding decide callPages cutCall
+      step-done h = let sz : Sizes = s .cache .sizes in let q = dueOf policyChoice sz (s .cache .directory) in
+          reading-to policyChoice s step (λ i. false) a b u′ f′ answer mended d′ [] (stepMerges sz (s .cache .directory) q) step-reads ops
+          (stepOutcome sz (stateOf s) q) refl h (λ g. same-either [] (isRefused (heeding (stateOf s)
           (faultIn sz (s .lent) (stepMerges sz (s .cache .directory) q)) (stepOutcome sz (stateOf s) q) .answer)))
 
-      pub flush-done : s .cache .sizes .N * suc (s .cache .sizes .K) ≤ ops
-          → FlushCarried (s .cache .sizes) (s .cache .directory) (s .lent) ops answer mended d′ u′
-          → record {
-            answer = answer;
-            mends = mended;
-            store = record { cache = record { sizes = s .cache .sizes; directory = d′ }; lent = u′ };
-            page = [];
-          }
-          ≡ call storeFormat policyChoice s flush
-      unfolding decide callPages
-      flush-done enough h = let sz : Sizes = s .cache .sizes in
-          call-done policyChoice s flush a b u′ f′ answer mended d′ [] (flushMerges sz (s .cache .directory)) flush-reads
-          (flushOutcome policyChoice sz (stateOf s)) refl (h .whole enough) (same-either [] (isRefused (heeding (stateOf s)
+      pub flush-done : FlushCarried (s .cache .sizes) (s .cache .directory) (s .lent) ops answer mended d′ u′
+          → CalledTo policyChoice ops (λ i. false) s flush stepped
+      unfolding decide callPages cutCall
+      flush-done h = let sz : Sizes = s .cache .sizes in
+          reading-to policyChoice s flush (λ i. false) a b u′ f′ answer mended d′ [] (flushMerges sz (s .cache .directory)) flush-reads ops
+          (flushOutcome policyChoice sz (stateOf s)) refl h (λ g. same-either [] (isRefused (heeding (stateOf s)
           (faultIn sz (s .lent) (flushMerges sz (s .cache .directory))) (flushOutcome policyChoice sz (stateOf s)) .answer)))

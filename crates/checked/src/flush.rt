@@ -4,18 +4,17 @@ use answer::Refusal;
 use answer::Step;
 use cache::Sizes;
 use sound::lists_sound;
-ghost use mathlib.Core.Path.{_≡_};
+ghost use mathlib.Core.Bool.{false};
 ghost use mathlib.Core.List.{[]};
 ghost use Rattle.model.specs.Policy.{policyChoice};
 ghost use Rattle.model.specs.Soundness.{Shape};
-ghost use Rattle.model.specs.Formats.{storeFormat};
-ghost use Rattle.model.specs.Calls.{step, flush, call};
+ghost use Rattle.model.specs.Calls.{step, flush};
 ghost use Rattle.cache.specs.View.{numbers};
 ghost use Rattle.answer.specs.Numbers.{stepOf, flushOf, mendsOfStep, mendsOfFlush};
 ghost use Rattle.answer.specs.Carried.{buffers};
-ghost use Rattle.checked.specs.Lists.{storeWith, resultWith};
+ghost use Rattle.checked.specs.Lists.{storeWith, resultWith, CalledTo};
 
-// The checks, and the step, on the directory's lists.
+// The checks, and the step, on the directory's lists, with at most ops operations of the chip.
 pub fn step(
     z: Sizes,
     slots: &mut [u32; 128],
@@ -29,6 +28,7 @@ pub fn step(
     wear: &mut [u32],
     pspace: &[u8],
     bspace: &mut [u8],
+    ops: u32,
 ) -> Step
     requires { ⌜ Shape (numbers (now slots) (now frames) (now valid) (now recency) (now uses)) ⌝ }
     ensures { λ r. ⌜ (
@@ -38,7 +38,7 @@ pub fn step(
         let d′ = numbers (now (slots .exit)) (now (frames .exit)) (now (valid .exit)) (now (recency .entry)) (now (uses .exit)) in
         let u′ = buffers (now (flash .exit)) (now (codes .exit)) (now (marks .exit))
         (now (wear .exit)) (now (pspace .entry)) (now (bspace .exit)) in
-        resultWith (stepOf r) (mendsOfStep r) z d′ u′ [] ≡ call storeFormat policyChoice (storeWith z d u) step) ⌝ }
+        CalledTo policyChoice ops (λ _. false) (storeWith z d u) step (resultWith (stepOf r) (mendsOfStep r) z d′ u′ [])) ⌝ }
 {
     if !lists_sound(z, slots, frames, valid, recency, uses) {
         return Step::Refused(Refusal::Record);
@@ -67,11 +67,11 @@ pub fn step(
         wear,
         pspace,
         bspace,
-        crate::UNCUT,
+        ops,
     )
 }
 
-// The checks, and the flush, on the directory's lists.
+// The checks, and the flush, on the directory's lists, with at most ops operations of the chip.
 pub fn flush(
     z: Sizes,
     slots: &mut [u32; 128],
@@ -85,6 +85,7 @@ pub fn flush(
     wear: &mut [u32],
     pspace: &[u8],
     bspace: &mut [u8],
+    ops: u32,
 ) -> Flush
     requires { ⌜ Shape (numbers (now slots) (now frames) (now valid) (now recency) (now uses)) ⌝ }
     ensures { λ r. ⌜ (
@@ -94,7 +95,7 @@ pub fn flush(
         let d′ = numbers (now (slots .exit)) (now (frames .exit)) (now (valid .exit)) (now (recency .entry)) (now (uses .exit)) in
         let u′ = buffers (now (flash .exit)) (now (codes .exit)) (now (marks .exit))
         (now (wear .exit)) (now (pspace .entry)) (now (bspace .exit)) in
-        resultWith (flushOf r) (mendsOfFlush r) z d′ u′ [] ≡ call storeFormat policyChoice (storeWith z d u) flush) ⌝ }
+        CalledTo policyChoice ops (λ _. false) (storeWith z d u) flush (resultWith (flushOf r) (mendsOfFlush r) z d′ u′ [])) ⌝ }
 {
     if !lists_sound(z, slots, frames, valid, recency, uses) {
         return Flush::Refused(Refusal::Record);
@@ -123,6 +124,6 @@ pub fn flush(
         wear,
         pspace,
         bspace,
-        crate::UNCUT,
+        ops,
     )
 }

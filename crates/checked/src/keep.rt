@@ -12,9 +12,9 @@ ghost use Rattle.model.specs.Calls.{write, part};
 ghost use Rattle.cache.specs.View.{numbers};
 ghost use Rattle.answer.specs.Numbers.{writeOf, mendsOfWrite};
 ghost use Rattle.answer.specs.Carried.{buffers};
-ghost use Rattle.checked.specs.Lists.{resultWith, Keeping};
+ghost use Rattle.checked.specs.Lists.{resultWith, KeepingTo};
 
-// The checks, and the write of a page, on the directory's lists.
+// The checks, and the write of a page, on the directory's lists, with at most ops operations of the chip.
 pub fn write(
     z: Sizes,
     slots: &mut [u32; 128],
@@ -31,6 +31,7 @@ pub fn write(
     n: PageNo,
     page: &[u8],
     kept: &mut [u8],
+    ops: u32,
 ) -> Write
     requires { ⌜ Shape (numbers (now slots) (now frames) (now valid) (now recency) (now uses)) × (length (now kept) ≡ 2048) ⌝ }
     ensures { λ r. ⌜ (
@@ -40,7 +41,7 @@ pub fn write(
         let d′ = numbers (now (slots .exit)) (now (frames .exit)) (now (valid .exit)) (now (recency .exit)) (now (uses .exit)) in
         let u′ = buffers (now (flash .exit)) (now (codes .exit)) (now (marks .exit))
         (now (wear .exit)) (now (pspace .exit)) (now (bspace .exit)) in
-        Keeping z d u (n .0) (write (n .0) (now (page .entry))) (resultWith (writeOf r) (mendsOfWrite r) z d′ u′ (now (page .entry)))
+        KeepingTo ops z d u (n .0) (write (n .0) (now (page .entry))) (resultWith (writeOf r) (mendsOfWrite r) z d′ u′ (now (page .entry)))
         (now (kept .exit))) ⌝ }
 {
     if !lists_sound(z, slots, frames, valid, recency, uses) {
@@ -80,11 +81,11 @@ pub fn write(
         n,
         page,
         &mut kept[..s],
-        crate::UNCUT,
+        ops,
     )
 }
 
-// The checks, and the write of a page with bytes laid in, of which there are some.
+// The checks, and the write of a page with bytes laid in, of which there are some, with at most ops operations of the chip.
 pub fn part(
     z: Sizes,
     slots: &mut [u32; 128],
@@ -103,6 +104,7 @@ pub fn part(
     bytes: &[u8],
     page: &mut [u8],
     kept: &mut [u8],
+    ops: u32,
 ) -> Write
     requires { ⌜ Shape (numbers (now slots) (now frames) (now valid) (now recency) (now uses)) × (length (now kept) ≡ 2048)
         × (length (now bytes) ≢ 0) ⌝ }
@@ -113,7 +115,7 @@ pub fn part(
         let d′ = numbers (now (slots .exit)) (now (frames .exit)) (now (valid .exit)) (now (recency .exit)) (now (uses .exit)) in
         let u′ = buffers (now (flash .exit)) (now (codes .exit)) (now (marks .exit))
         (now (wear .exit)) (now (pspace .exit)) (now (bspace .exit)) in
-        Keeping z d u (n .0) (part (n .0) first (now (bytes .entry)) (now (page .entry)))
+        KeepingTo ops z d u (n .0) (part (n .0) first (now (bytes .entry)) (now (page .entry)))
         (resultWith (writeOf r) (mendsOfWrite r) z d′ u′ (now (page .exit))) (now (kept .exit))) ⌝ }
 {
     if !lists_sound(z, slots, frames, valid, recency, uses) {
@@ -158,6 +160,6 @@ pub fn part(
         bytes,
         page,
         &mut kept[..s],
-        crate::UNCUT,
+        ops,
     )
 }

@@ -5,17 +5,16 @@ use answer::Write;
 use cache::Sizes;
 use chip::Seen;
 use sound::lists_sound;
-ghost use mathlib.Core.Path.{_≡_};
+ghost use mathlib.Core.Bool.{false};
 ghost use Rattle.model.specs.Policy.{policyChoice};
 ghost use Rattle.model.specs.Soundness.{Shape};
-ghost use Rattle.model.specs.Formats.{storeFormat};
-ghost use Rattle.model.specs.Calls.{write, call};
+ghost use Rattle.model.specs.Calls.{write};
 ghost use Rattle.cache.specs.View.{numbers};
 ghost use Rattle.answer.specs.Numbers.{writeOf, mendsOfWrite};
 ghost use Rattle.answer.specs.Carried.{buffers};
-ghost use Rattle.checked.specs.Lists.{storeWith, resultWith};
+ghost use Rattle.checked.specs.Lists.{storeWith, resultWith, CalledTo};
 
-// The checks, and the write, on the directory's lists.
+// The checks, and the write, on the directory's lists, with at most ops operations of the chip.
 pub fn write(
     z: Sizes,
     slots: &mut [u32; 128],
@@ -31,6 +30,7 @@ pub fn write(
     bspace: &mut [u8],
     n: PageNo,
     page: &[u8],
+    ops: u32,
 ) -> Write
     requires { ⌜ Shape (numbers (now slots) (now frames) (now valid) (now recency) (now uses)) ⌝ }
     ensures { λ r. ⌜ (
@@ -40,8 +40,8 @@ pub fn write(
         let d′ = numbers (now (slots .exit)) (now (frames .exit)) (now (valid .exit)) (now (recency .exit)) (now (uses .exit)) in
         let u′ = buffers (now (flash .exit)) (now (codes .exit)) (now (marks .exit))
         (now (wear .exit)) (now (pspace .exit)) (now (bspace .exit)) in
-        resultWith (writeOf r) (mendsOfWrite r) z d′ u′ (now (page .entry))
-        ≡ call storeFormat policyChoice (storeWith z d u) (write (n .0) (now (page .entry)))) ⌝ }
+        CalledTo policyChoice ops (λ _. false) (storeWith z d u) (write (n .0) (now (page .entry)))
+        (resultWith (writeOf r) (mendsOfWrite r) z d′ u′ (now (page .entry)))) ⌝ }
 {
     if !lists_sound(z, slots, frames, valid, recency, uses) {
         return Write::Refused(Refusal::Record);
@@ -79,6 +79,6 @@ pub fn write(
         n,
         page,
         Seen { fault: 0, mends: 0 },
-        crate::UNCUT,
+        ops,
     )
 }

@@ -12,7 +12,10 @@ use lib.Seq.{set-split, getD-take, getD-drop}
 use Rattle.prelude.specs.Pages.{pageAt, putPage}
 use Rattle.prelude.proofs.Tests.{not-f, not-t, and-l, and-r}
 use borrow.Author.Tests.{eqb-false}
+use Rattle.model.specs.Calls.{tornBlocks}
 use Rattle.model.proofs.Soundness.{coded-off, marked-off}
+use Rattle.model.proofs.RulesRecord.{torn-blocks-rule}
+use Rattle.model.proofs.Shelving.{empty-is}
 use Rattle.prelude.proofs.Scan.{count-le}
 use Rattle.prelude.proofs.Pages.{in-run}
 use Rattle.model.specs.Sizes.{Sizes, isCoded, isMarked}
@@ -51,6 +54,14 @@ no-option sz e =
     let a = eqb-false (sz .coded) 1 (not-t (and-l (not (eqb (sz .coded) 1)) (not (eqb (sz .marked) 1)) e)) in
     let b = eqb-false (sz .marked) 1 (not-t (and-r (not (eqb (sz .coded) 1)) (not (eqb (sz .marked) 1)) e)) in
     (coded-off sz a, marked-off sz b)
+
+-- the lengths that the option asks for: a mark for each page, or none, and then no block is torn
+module _ (sz : Sizes) (marks : List ℕ) where
+  pub marks-all : isMarked sz ≡ true → length marks ≡ sz .N * sz .K * markLong sz → length marks ≡ sz .N * sz .K
+  marks-all e l = let q : length marks ≡ sz .N * sz .K * 1 = l ∙ rw e in omega arith
+
+  pub no-torn : isMarked sz ≡ false → length marks ≡ sz .N * sz .K * markLong sz → tornBlocks sz marks ≡ 0
+  no-torn e l = let q : length marks ≡ sz .N * sz .K * 0 = l ∙ rw e in torn-blocks-rule sz marks .1 (empty-is marks (omega arith))
 
 module _ (sz : Sizes) (marks : List ℕ) (n : ℕ) where
   pub torn-marked : isMarked sz ≡ true → not (eqb (getD marks n 0) 0) ≡ tornAt sz marks n

@@ -1,5 +1,7 @@
 // Flash with its codes and marks, and wear: one function for each operation of the chip, and the rewrite of a block that is made of
 // them. A store without codes, or without marks, lends none. Every access to flash is made by the functions of this file.
+pub mod torn; // torn.rt: the torn blocks
+
 use address::BlockNo;
 use address::PageNo;
 use cache::Sizes;
@@ -154,7 +156,7 @@ pub fn read_page(
 }
 
 // Page n, which can be read, goes to page di of dst with its chunks mended.
-fn mend_page(z: Sizes, flash: &[u8], codes: &[u8], n: PageNo, dst: &mut [u8], di: usize)
+pub fn mend_page(z: Sizes, flash: &[u8], codes: &[u8], n: PageNo, dst: &mut [u8], di: usize)
     requires { ⌜ Legible (sizesOf z) (now flash) (now codes) (n .0) × HasPage (z .«page_size») (now dst) di ⌝ }
     ensures { λ _. ⌜ (
         now (dst .exit) ≡ putPage (z .«page_size») (now (dst .entry)) di
@@ -296,7 +298,8 @@ fn mend_pages(z: Sizes, flash: &[u8], codes: &[u8], b: BlockNo, stretch: &mut [u
 
 // ---- erasure and programs
 
-// The chip erases block b: bytes, codes and marks are 255, and its wear is 1 more.
+// The chip erases block b: bytes, codes and marks are 255, and its wear is 1 more. The marks go first, so that flash that is memory, as a
+// mapped file, has no page marked 0 with other bytes in the middle of an erasure either.
 fn erase(
     z: Sizes,
     flash: &mut [u8],
@@ -315,9 +318,9 @@ fn erase(
     let code = code_size(z);
     let mark = mark_size(z);
     let at = b.0 as usize;
+    page::fill_page(marks, at, k * mark, 255);
     page::fill_page(flash, at, size, 255);
     page::fill_page(codes, at, k * code, 255);
-    page::fill_page(marks, at, k * mark, 255);
     wear[at] = wear[at] + 1;
 }
 

@@ -128,7 +128,7 @@ module _ (sz : model.Sizes) (u₀ : Lent) where
 -- an accepted opening, and the store that it begins with
 module _ (z : Sizes) (u : Lent) (o : Reply) (is : OpeningContract z u o) (done : o .answer .refusal ≡ 0) where
   open-done : storeOpen (sizesOf z) (u .below) (u .shelf) .answer ≡ openDone
-  open-done = opening-numbered (sizesOf z) (u .below) (u .shelf) (ap (λ (x : OpeningReply). x .answer .refusal) (sym is) ∙ done)
+  open-done = opening-numbered (sizesOf z) (u .below) (u .shelf) _ (ap (λ (x : OpeningReply). x .answer .refusal) (sym is) ∙ done)
 
   start : storeOf (o .cache) u ≡ beginning (sizesOf z) u open-done
   start = ap (λ (x : OpeningReply). record {

@@ -18,7 +18,7 @@ use Rattle.model.specs.Calls.{told}
 use Rattle.model.specs.Formats.{storeFormat}
 use Rattle.model.specs.Lists.{addedCause}
 use Rattle.model.specs.Shelf.{shelved, ShelfCall, isBack, meant, ShelfReference, shelfBookSays, openShelf, storeOpen}
-use Rattle.replies.specs.Numbers.{numbersOf}
+use Rattle.replies.specs.Numbers.{answerNumbers, numbersOf}
 
 -- the number says whether the call is refused
 abbrev pub Numbered : Answer → Type 0
@@ -95,17 +95,18 @@ said-same sz h r pick c a mended = by-test (isBack c && eqb (shelved (r .entries
     (λ e. rw (e, shelfBookSays) (ap (λ (n : ℕ). heeding (r .reference .book) n (decide pick sz (r .reference .book)
     (told (meant (r .entries) (r .shelf) c)))) (told-same a mended)))
 
-below-numbered : (sz : Sizes) (u : Buffers) → numbersOf (openStore storeFormat sz u .answer) 0 .refusal ≡ 0
+below-numbered : (sz : Sizes) (u : Buffers) (torn : ℕ) → answerNumbers (openStore storeFormat sz u .answer) 0 torn .refusal ≡ 0
     → openStore storeFormat sz u .answer ≡ openDone
 unfolding openStore
-below-numbered sz u = by-test (sizesOk sz)
+below-numbered sz u torn = by-test (sizesOk sz)
     (λ e. rw (e, openStore) (by-test (lentOk storeFormat sz u)
     (λ e′. rw e′ (by-test (all (sz .N) (λ b. leb (getD (u .wear) b 0) (sz .W))) (λ e″. rw e″ (λ q. refl)) (λ e″. rw e″ (not-0 2))))
     (λ e′. rw e′ (not-0 1))))
     (λ e. rw (e, openStore) (not-0 0))
 
-pub opening-numbered : (sz : Sizes) (u : Buffers) (shelf : List ℕ) → numbersOf (storeOpen sz u shelf .answer) 0 .refusal ≡ 0
+pub opening-numbered : (sz : Sizes) (u : Buffers) (shelf : List ℕ) (torn : ℕ)
+    → answerNumbers (storeOpen sz u shelf .answer) 0 torn .refusal ≡ 0
     → storeOpen sz u shelf .answer ≡ openDone
 unfolding openShelf
-opening-numbered sz u shelf = by-test (sizesOk sz && not (eqb (length shelf) (sz .shelfPages * sz .S)))
-    (λ e. rw (e, openShelf) (not-0 1)) (λ e. rw (e, openShelf) (below-numbered sz u))
+opening-numbered sz u shelf torn = by-test (sizesOk sz && not (eqb (length shelf) (sz .shelfPages * sz .S)))
+    (λ e. rw (e, openShelf) (not-0 1)) (λ e. rw (e, openShelf) (below-numbered sz u torn))

@@ -5,7 +5,7 @@ use mathlib.Core.List.{List}
 use Rattle.model.specs.Calls.{Page}
 use Rattle.model.specs.Shelf.{ShelfOpened, ShelfStore, ShelfResult}
 use Rattle.replies.specs.declared.Answer.{Answer}
-use Rattle.replies.specs.Numbers.{numbersOf}
+use Rattle.replies.specs.Numbers.{answerNumbers, numbersOf}
 use Rattle.store.specs.View.{Lent, cacheOf, storeOf}
 use Rattle.clash_c.specs.declared.Reply.{Reply}
 
@@ -18,7 +18,7 @@ abbrev pub openedReply : Reply → OpeningReply
 openedReply r = record { answer = r .answer; cache = cacheOf (r .cache); entries = r .cache .entries }
 
 abbrev pub openedInNumbers : ShelfOpened → OpeningReply
-openedInNumbers o = record { answer = numbersOf (o .answer) 0; cache = o .cache; entries = o .entries }
+openedInNumbers o = record { answer = answerNumbers (o .answer) 0 (o .torn); cache = o .cache; entries = o .entries }
 
 -- the answer, the record handed back with the lent buffers, and the page buffer
 pub record CallReply : Type 0 where

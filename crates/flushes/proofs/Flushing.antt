@@ -11,6 +11,7 @@ use lib.ListN.{length}
 use borrow.Author.Tests.{lt-ltb, le-ltb, le-leb, lt-leb}
 use Rattle.prelude.specs.Scan.{count}
 use Rattle.prelude.proofs.Scan.{count-le}
+use Rattle.prelude.proofs.Tests.{clash}
 use Rattle.model.specs.Sizes.{Sizes, vacant}
 use Rattle.model.specs.Directory.{Directory, validAt}
 use Rattle.model.specs.Policy.{inBlock, frameOf, slotCount, policyChoice, clean, due, dueOf, cached, lowestWorn}
@@ -174,6 +175,7 @@ module _ {sz : Sizes} {d₀ : Directory} {u₀ : Buffers} {mends ops₀ : ℕ} {
           wear-is = ap (λ (t : Tally). t .state .wear) ends;
           pages-are = sym (pages-stop sz d _ e _) ∙ k .pages;
         };
+        down = λ r. clash r refl;
       }))
 
   module _ (b f : ℕ) (e : due b f ≡ dueOf policyChoice sz d) where
@@ -259,6 +261,7 @@ module _ {sz : Sizes} {d₀ : Directory} {u₀ : Buffers} {mends ops₀ : ℕ} {
             whole = λ m. absurd (let s = k .spent in let t = left in
                 let g : suc rewrites * suc (sz .K) ≤ sz .N * suc (sz .K) = mul-le-mul-right (suc (sz .K)) t in
                 let i = suc-mul rewrites (suc (sz .K)) in omega arith);
+            down = λ r. clash r refl;
           }))
 
       module _ (enough : sz .K < ops) where

@@ -8,6 +8,7 @@ use native.Mathlib.Omega.{arith}
 use lib.Dec.{eqb, ltb}
 use lib.ListN.{length}
 use borrow.Author.Tests.{lt-ltb}
+use Rattle.prelude.proofs.Tests.{clash}
 use Rattle.model.specs.Sizes.{Sizes, vacant}
 use Rattle.model.specs.Directory.{Directory}
 use Rattle.model.specs.Policy.{inBlock, slotCount, leastRecent, fewestUses, policyChoice, clean, due, occupied, lowestInSlots, dueOf}
@@ -77,6 +78,7 @@ module _ {sz : Sizes} {d : Directory} {flash codes marks wear pspace bspace : Li
           wear-is = refl;
           pages-are = refl;
         };
+        down = λ r. clash r refl;
       }))
 
   module _ (b f : ℕ) (e : due b f ≡ dueOf policyChoice sz d) where
@@ -135,4 +137,5 @@ module _ {sz : Sizes} {d : Directory} {flash codes marks wear pspace bspace : Li
                 wear-is = worn-whole l c;
                 pages-are = c .pages-are l;
               };
+              down = λ r. clash r refl;
             })))

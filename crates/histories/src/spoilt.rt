@@ -118,8 +118,8 @@ pub fn options() {
     opted(b"coded 2", 0, 2, 0, 0);
     opted(b"9 shelf pages", 0, 0, 9, 0);
     opted(b"4294967295 shelf pages", 0, 0, 4294967295, 0);
-    opted(b"marked 1", 0, 0, 0, 1);
     opted(b"marked 2", 0, 0, 0, 2);
+    opted(b"marked 4294967295", 0, 0, 0, 4294967295);
 }
 
 // A vacant record with these options.

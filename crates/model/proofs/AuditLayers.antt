@@ -23,7 +23,8 @@ use Rattle.model.specs.Moves.{writtenPages, steppedPages}
 use Rattle.model.specs.Moves.{oneMore}
 use Rattle.model.specs.Calls.{Answer, openDone, readDone, writeDone, stepDone, stepClean, flushDone, refused, Call, read, write, part}
 use Rattle.model.specs.Calls.{step, flush, checked, readOutcome, writeOutcome, partOutcome, stepOutcome, steps, flushOutcome, decide}
-use Rattle.model.specs.Calls.{stepsPages, combined, callPages, Page, Cell, Format, Buffers, lentOk, openStore, Store, stateOf}
+use Rattle.model.specs.Calls.{stepsPages, combined, callPages, Page, Cell, Format, Buffers, lentOk, tornBlocks, openStore, Store}
+use Rattle.model.specs.Calls.{stateOf}
 use Rattle.model.specs.Calls.{zeroPage, memoryOf, buffersOf, rawOf, marksOf, carriedOut, readsAll, callReading, call, heeding}
 use Rattle.model.specs.Calls.{faultOf, faultMet, somePage, mendsOf, mendsMet, sum, readsFlash, readsPage, stepsMerge, mergesPage}
 use Rattle.model.specs.Calls.{flashCells, pageSeen, lentBuffer}
@@ -181,15 +182,23 @@ shelfOf1 = record {
 }
 
 abbrev unopened : ℕ → ShelfOpened
-unopened n = record { answer = refused n vacant; cache = blankCache; entries = noEntries }
+unopened n = record { answer = refused n vacant; torn = 0; cache = blankCache; entries = noEntries }
 
 opening-rows :
     storeOpen sizesA lentA [] ∷ storeOpen sizesA lentA (0 ∷ []) ∷ storeOpen (plainSizes 1 1 3 1 1 9) lentA (0 ∷ [])
     ∷ storeOpen shelfOf1 lentA (0 ∷ []) ∷ storeOpen shelfOf1 lentA [] ∷ storeOpen shelfOf1 lentA (0 ∷ 0 ∷ []) ∷ []
-    ≡ record { answer = openDone; cache = record { sizes = sizesA; directory = vacantDirectory }; entries = noEntries } ∷ unopened 2
-    ∷ unopened 1 ∷ record { answer = openDone; cache = record { sizes = shelfOf1; directory = vacantDirectory }; entries = noEntries }
+    ≡ record { answer = openDone; torn = 0; cache = record { sizes = sizesA; directory = vacantDirectory }; entries = noEntries } ∷ unopened
+    2
+    ∷ unopened 1 ∷ record {
+      answer = openDone;
+      torn = 0;
+      cache = record { sizes = shelfOf1; directory = vacantDirectory };
+      entries =
+          noEntries;
+    }
     ∷ unopened 2 ∷ unopened 2 ∷ []
-unfolding shelfOf1 start openShelf shelfCall shelfOk shelved shelve entriesAfter shelfAfter shelvingReads ordinary pageSeen openStore call
+unfolding shelfOf1 start tornBlocks openShelf shelfCall shelfOk shelved shelve entriesAfter shelfAfter shelvingReads ordinary pageSeen
+    openStore call
     carriedOut memoryOf buffersOf zeroPage lentOk callPages stepsPages decide flushOutcome steps stepOutcome partOutcome writeOutcome
     readOutcome checked combined laid steppedPages writtenPages readPage stepped written readDirectory rewrittenPages merged vacated
     exchangedPages exchanged givenSlot taken spare unmet joinedPages filled joined putFramePage putSlotPage entered putSlot touched

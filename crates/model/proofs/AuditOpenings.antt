@@ -179,19 +179,31 @@ abbrev pub refusesLent : Sizes → Buffers → ℕ → Opens
 refusesLent sz u r = record {
   sizes = sz;
   lent = u;
-  gives = record { answer = refused r vacant; cache = record { sizes = plainSizes 0 0 0 0 0 0; directory = directoryOf [] [] [] [] [] } };
+  gives = record {
+    answer = refused r vacant;
+    torn = 0;
+    cache = record {
+      sizes = plainSizes 0 0 0 0 0 0;
+      directory = directoryOf [] [] [] []
+          [];
+    };
+  };
 }
 
 abbrev pub refuses : Sizes → ℕ → List ℕ → ℕ → ℕ → ℕ → Opens
 refuses sz flash wear pspace bspace r = refusesLent sz (lengths flash wear pspace bspace) r
 
--- it is accepted, and the record has the sizes and is all vacant
-abbrev pub opensLent : Sizes → Buffers → Opens
-opensLent sz u = record {
+-- it is accepted with so many torn blocks, and the record has the sizes and is all vacant
+abbrev pub opensTorn : Sizes → Buffers → ℕ → Opens
+opensTorn sz u torn = record {
   sizes = sz;
   lent = u;
-  gives = record { answer = openDone; cache = record { sizes = sz; directory = directoryOf [] [] [] [] [] } };
+  gives = record { answer = openDone; torn = torn; cache = record { sizes = sz; directory = directoryOf [] [] [] [] [] } };
 }
+
+-- with none
+abbrev pub opensLent : Sizes → Buffers → Opens
+opensLent sz u = opensTorn sz u 0
 
 abbrev pub opens : Sizes → ℕ → List ℕ → ℕ → ℕ → Opens
 opens sz flash wear pspace bspace = opensLent sz (lengths flash wear pspace bspace)
@@ -279,10 +291,30 @@ plainly = lengths 1536 (0 ∷ 0 ∷ 0 ∷ []) 512 512
 abbrev codesAndMarks : ℕ → ℕ → Buffers
 codesAndMarks codes marks = allLengths 1536 codes marks (0 ∷ 0 ∷ 0 ∷ []) 512 512
 
+-- with these marks, without codes and with codes of 0, which no page of 255 has
+abbrev marksAs : List ℕ → Buffers
+marksAs marks = record {
+  flash = replicate 1536 255;
+  codes = [];
+  marks = marks;
+  wear = 0 ∷ 0 ∷ 0 ∷ [];
+  pspace = replicate 512 0;
+  bspace = replicate 512 0;
+}
+
+abbrev codedMarksAs : List ℕ → Buffers
+codedMarksAs marks = record {
+  flash = replicate 1536 255;
+  codes = replicate 18 0;
+  marks = marks;
+  wear = 0 ∷ 0 ∷ 0 ∷ [];
+  pspace = replicate 512 0;
+  bspace = replicate 512 0;
+}
+
 -- The three policies open, on buffers as for LRU; another number is refused 1. Coded opens, at a multiple of 256 and lent 3 bytes of code
--- for each chunk, else it is refused 1 or 2. Up to 8 shelf pages open. An opening with another option is refused 1, also lent what the option would ask for, and
--- before the buffers are looked at. A store without options is lent no codes and no marks, else it is refused 2, before the wear is looked
--- at.
+-- for each chunk, else it is refused 1 or 2. Up to 8 shelf pages open. Marked opens, lent a mark for each page, and answers how many blocks
+-- have a mark that is not 0. A store without options is lent no codes and no marks, else it is refused 2, before the wear is looked at.
 abbrev pub options : List Opens
 options =
     -- LRU, FIFO, LFU, and two numbers that are no policy
@@ -318,11 +350,31 @@ options =
     ∷ opensLent (withOptions 0 0 8 0) plainly
     ∷ refusesLent (withOptions 0 0 9 0) plainly 1
     ∷ refusesLent (withOptions 0 0 4294967295 0) plainly 1
-    -- marked, without marks and with them
-    ∷ refusesLent (withOptions 0 0 0 1) plainly 1
-    ∷ refusesLent (withOptions 0 0 0 1) (codesAndMarks 0 6) 1
-    -- an option, and buffers that fit no store
-    ∷ refusesLent (withOptions 0 0 0 1) (lengths 0 [] 0 0) 1
+    -- marked, without marks, with one too few and one too many, with codes too, and as it should be; wear above W then
+    ∷ refusesLent (withOptions 0 0 0 1) plainly 2
+    ∷ refusesLent (withOptions 0 0 0 1) (codesAndMarks 0 5) 2
+    ∷ refusesLent (withOptions 0 0 0 1) (codesAndMarks 0 7) 2
+    ∷ refusesLent (withOptions 0 0 0 1) (codesAndMarks 18 6) 2
+    ∷ opensLent (withOptions 0 0 0 1) (codesAndMarks 0 6)
+    ∷ refusesLent (withOptions 0 0 0 1) (allLengths 1536 0 6 (10 ∷ 0 ∷ 0 ∷ []) 512 512) 3
+    -- marked and coded, without codes, without marks and as it should be; all options at once; numbers that are no choice
+    ∷ refusesLent (withOptions 0 1 0 1) (codesAndMarks 0 6) 2
+    ∷ refusesLent (withOptions 0 1 0 1) (codesAndMarks 18 0) 2
+    ∷ opensLent (withOptions 0 1 0 1) (codesAndMarks 18 6)
+    ∷ opensLent (withOptions 2 1 8 1) (codesAndMarks 18 6)
+    ∷ refusesLent (withOptions 0 0 0 2) (codesAndMarks 0 6) 1
+    ∷ refusesLent (withOptions 0 0 0 4294967295) plainly 1
+    -- an option that is no choice, and buffers that fit no store
+    ∷ refusesLent (withOptions 0 0 0 2) (lengths 0 [] 0 0) 1
+    -- torn blocks: a mark of 255 in one block; two in one block; one in each of two blocks; any mark but 0, in the last page; all pages; a
+    -- block torn and unreadable codes beside it; a refused opening counts none
+    ∷ opensTorn (withOptions 0 0 0 1) (marksAs (0 ∷ 0 ∷ 255 ∷ 0 ∷ 0 ∷ 0 ∷ [])) 1
+    ∷ opensTorn (withOptions 0 0 0 1) (marksAs (0 ∷ 0 ∷ 255 ∷ 255 ∷ 0 ∷ 0 ∷ [])) 1
+    ∷ opensTorn (withOptions 0 0 0 1) (marksAs (0 ∷ 255 ∷ 0 ∷ 0 ∷ 255 ∷ 0 ∷ [])) 2
+    ∷ opensTorn (withOptions 0 0 0 1) (marksAs (0 ∷ 0 ∷ 0 ∷ 0 ∷ 0 ∷ 1 ∷ [])) 1
+    ∷ opensTorn (withOptions 0 0 0 1) (marksAs (255 ∷ 255 ∷ 254 ∷ 255 ∷ 255 ∷ 7 ∷ [])) 3
+    ∷ opensTorn (withOptions 0 1 0 1) (codedMarksAs (0 ∷ 0 ∷ 0 ∷ 128 ∷ 0 ∷ 0 ∷ [])) 1
+    ∷ refusesLent (withOptions 0 0 0 0) (marksAs (0 ∷ 0 ∷ 255 ∷ 0 ∷ 0 ∷ 0 ∷ [])) 2
     -- no option, and codes of one page or of all, marks of one or of all
     ∷ refusesLent (withOptions 0 0 0 0) (codesAndMarks 3 0) 2
     ∷ refusesLent (withOptions 0 0 0 0) (codesAndMarks 18 0) 2

@@ -546,7 +546,8 @@ lfu-takes-the-fewest = record {
   };
 }
 
--- LFU, the block of the frame with the fewest uses is worn: of the two others way 7 takes the one with fewer uses, which is the more recent.
+-- LFU, the block of the frame with the fewest uses is worn: of the two others way 7 takes the one with fewer uses, which is the more
+-- recent.
 abbrev byUses : List (Call Page)
 byUses = w 0 ∷ w 2 ∷ w 4 ∷ w 6 ∷ w 8 ∷ r 2 ∷ r 2 ∷ w 2 ∷ r 4 ∷ r 0 ∷ r 0 ∷ w 10 ∷ []
 

@@ -89,8 +89,26 @@ heldBy policy = record { store = withOptions policy 0 0 0; answer = readDone 1; 
 abbrev pub heldWith : ℕ → Unspoilt
 heldWith pages = record { store = withOptions 0 0 pages 0; answer = readDone 1; page = 0 ∷ [] }
 
+-- and with marks
+abbrev pub heldMarked : Unspoilt
+heldMarked = record {
+  store = record {
+    cache = withOptions 0 0 0 1 .cache;
+    lent = record {
+      flash = replicate 12 255;
+      codes = [];
+      marks = replicate 12 0;
+      wear = 0 ∷ 0 ∷ 0 ∷ [];
+      pspace = replicate 3 0;
+      bspace = replicate 8 0;
+    };
+  };
+  answer = readDone 1;
+  page = 0 ∷ [];
+}
+
 abbrev pub unspoilt : List Unspoilt
-unspoilt = held ∷ vacantOnes ∷ highest ∷ heldBy 1 ∷ heldBy 2 ∷ heldWith 1 ∷ heldWith 8 ∷ []
+unspoilt = held ∷ vacantOnes ∷ highest ∷ heldBy 1 ∷ heldBy 2 ∷ heldWith 1 ∷ heldWith 8 ∷ heldMarked ∷ []
 
 -- ---- the first of them spoilt at one place
 
@@ -161,8 +179,9 @@ spoilt =
     -- there are 9 shelf pages, or the highest number
     ∷ withOptions 0 0 9 0
     ∷ withOptions 0 0 4294967295 0
-    -- marked is 1
-    ∷ withOptions 0 0 0 1
+    -- marked is 2, or the highest number
+    ∷ withOptions 0 0 0 2
+    ∷ withOptions 0 0 0 4294967295
     -- a slot holds page N×K
     ∷ withSlots (0 ∷ vacant ∷ 12 ∷ [])
     -- a slot holds a number below vacant that is no page

@@ -19,7 +19,7 @@ use Rattle.model.specs.Moves.{joined, filled, joinedPages, unmet, spare,
 use Rattle.model.specs.Moves.{rewrittenPages, readDirectory, written, stepped, readPage, writtenPages, steppedPages}
 use Rattle.model.specs.Moves.{oneMore}
 use Rattle.model.specs.Calls.{checked, readOutcome, writeOutcome, partOutcome, stepOutcome, steps, flushOutcome, decide, stepsPages}
-use Rattle.model.specs.Calls.{combined, callPages, lentOk, openStore, zeroPage, memoryOf, buffersOf, carriedOut, call}
+use Rattle.model.specs.Calls.{combined, callPages, lentOk, tornBlocks, openStore, zeroPage, memoryOf, buffersOf, carriedOut, call}
 use Rattle.model.specs.Calls.{flashCells, callReading, readsAll, heeding, faultOf, faultMet, somePage, mendsOf, mendsMet, sum}
 use Rattle.model.specs.Calls.{readsFlash}
 use Rattle.model.specs.Calls.{readsPage, stepsMerge, mergesPage}
@@ -41,20 +41,21 @@ pub rows : (map given paper ≡ map listed paper) × (map given ways ≡ map lis
     × (map opened options ≡ map openedListed options) × (map called lendings ≡ map calledListed lendings)
     × (map triedUnspoilt unspoilt ≡ map unspoiltListed unspoilt)
     × (map tried spoilt ≡ map spoiltListed spoilt)
-unfolding openStore call carriedOut memoryOf buffersOf zeroPage lentOk callPages stepsPages decide flushOutcome steps stepOutcome
+unfolding openStore tornBlocks call carriedOut memoryOf buffersOf zeroPage lentOk callPages stepsPages decide flushOutcome steps stepOutcome
     partOutcome writeOutcome readOutcome checked combined laid steppedPages writtenPages readPage stepped written readDirectory
     rewrittenPages merged vacated exchangedPages exchanged givenSlot taken spare unmet joinedPages filled joined putFramePage putSlotPage
     entered putSlot touched recencyAfter oneMore wornBy worn programmed flashPage formatOf torn pageCode flashCells callReading readsAll
     heeding faultOf faultMet somePage mendsOf mendsMet sum readsFlash readsPage stepsMerge mergesPage cellAt isCoded isMarked
     lowestWorn isWorn cached dueOf lowestInSlots occupied plan evictionPlan evictFrame anyEvictable evictable fewestValid victim
     policyChoice fewestUses leastRecent readWay slotCount validCount frameOf frameWith inSlots slotOf inBlock inFrame sound usesOk
-    framePast slotPast listedOnce cachedOnce framesDiffer slotsDiffer frameOk slotOk shapeOk sizesOk vacantDirectory blankCache every first firstFrom count all allPairs
+    framePast slotPast listedOnce cachedOnce framesDiffer slotsDiffer frameOk slotOk shapeOk sizesOk vacantDirectory blankCache every first
+    firstFrom count all allPairs
     tab tabFrom bit mask nth argmax least pageAt pagesOf flat
 rows = (refl, refl, refl, refl, refl, refl, refl, refl, refl, refl, refl, refl)
 
 -- and so does every row of request A5's
 pub policy-rows : (map given policies ≡ map listed policies) × (map begun counts ≡ map begunListed counts)
-unfolding openStore call carriedOut memoryOf buffersOf zeroPage lentOk callPages stepsPages decide flushOutcome steps stepOutcome
+unfolding openStore tornBlocks call carriedOut memoryOf buffersOf zeroPage lentOk callPages stepsPages decide flushOutcome steps stepOutcome
     partOutcome writeOutcome readOutcome checked combined laid steppedPages writtenPages readPage stepped written readDirectory
     rewrittenPages merged vacated exchangedPages exchanged givenSlot taken spare unmet joinedPages filled joined putFramePage putSlotPage
     entered putSlot touched recencyAfter oneMore wornBy worn programmed flashPage formatOf torn flashCells callReading readsAll heeding

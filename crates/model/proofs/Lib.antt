@@ -34,6 +34,7 @@ pub mod Plain
 pub mod Copies
 pub mod AuditLayers
 pub mod AuditShelf
+pub mod AuditCut
 pub mod RulesWords
 pub mod RulesRecord
 pub mod RulesMoves
@@ -49,3 +50,4 @@ pub mod RulesDemand3
 pub mod Shelving
 pub mod Legible
 pub mod Undo
+pub mod CutCalls

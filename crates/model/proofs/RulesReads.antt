@@ -5,6 +5,7 @@ use mathlib.Core.Bool.{true, false}
 use Prim.Native.Nat.{ℕ, _*_, _/_, _%_, _<_}
 use native.Mathlib.Omega.{arith}
 use lib.Dec.{eqb}
+use lib.ListN.{getD}
 use borrow.Author.Tests.{lt-ltb, le-ltb, eqb-true, eq-eqb, ne-eqb}
 use Rattle.prelude.specs.Bits.{bit}
 use Rattle.prelude.proofs.Tests.{by-test, clash, fails, and-l, and-r, and-i, or-l, or-r, or-cases, not-t, not-i}
@@ -20,7 +21,8 @@ use Rattle.model.specs.RulesWords.{_⇔_, ValidIn, Uncached}
 use Rattle.model.specs.RulesReads.{Merged, ReadsAllRule, SumRule, ReadsReadRule, ReadsWriteNoneRule, ReadsWriteRule}
 use Rattle.model.specs.RulesReads.{ReadsPartNoneRule}
 use Rattle.model.specs.RulesReads.{ReadsPartRule, ReadsStepRule, ReadsCleanRule, ReadsFlushRule, NoOptionRule, CodedRule}
-use Rattle.model.proofs.Soundness.{coded-on, coded-off, marked-off, sound-facts}
+use Rattle.model.specs.RulesReads.{MarkedRule, MarkedCodedRule}
+use Rattle.model.proofs.Soundness.{coded-on, coded-off, marked-on, marked-off, sound-facts}
 use Rattle.model.proofs.Lookup.{NoFrame, in-slots, page-div, page-mod, page-split, offset-lt, frame-has}
 use Rattle.model.proofs.Merges.{flush-in, flush-out}
 use Rattle.model.proofs.RulesWords.{absent, frame-found, unfound, valid-found, found-cached}
@@ -148,3 +150,17 @@ pub coded-rule : CodedRule
 unfolding formatOf torn pageCode
 coded-rule sz m a b s = let c = coded-on sz a in let u = marked-off sz (λ e. omega arith) in let e : sz .S / 256 ≡ m = omega arith in
     rw (c, u) (rw (e, s) ((λ x. (refl, refl, (λ l. rw l), (λ l. rw l))), (λ x. refl), refl))
+
+pub marked-rule : MarkedRule
+unfolding formatOf torn
+marked-rule sz a b = let c = coded-off sz (λ e. omega arith) in let u = marked-on sz b in
+    rw (c, u) ((λ x. (refl, refl, (λ e. rw e), (λ e. rw (ne-eqb (getD (x .mark) 0 0) 0 e)))), (λ x. refl), refl)
+
+pub marked-coded-rule : MarkedCodedRule
+unfolding formatOf torn pageCode
+marked-coded-rule sz m a b s = let c = coded-on sz a in let u = marked-on sz b in let e : sz .S / 256 ≡ m = omega arith in
+    rw (c, u) (rw (e, s) (
+      (λ x. (refl, refl, (λ l. rw l), (λ l q. rw (l, q)), (λ l q. rw (l, ne-eqb (getD (x .mark) 0 0) 0 q)))),
+      (λ x. refl),
+      refl,
+    ))

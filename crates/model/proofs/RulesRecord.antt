@@ -2,27 +2,29 @@
 use mathlib.Core.Path.{_≡_, refl, sym, ap, _∙_}
 use mathlib.Core.Logic.{_⊎_, inl, inr}
 use mathlib.Core.Bool.{true, false}
+use mathlib.Core.List.{List, [], _∷_}
 use Prim.Native.Nat.{ℕ, zero, suc, _+_, _-_, _*_, _/_, _%_, _^_, _≤_, _<_}
 use native.Mathlib.Nat.{pow-suc, mod-lt, div-add-mod'}
 use native.Mathlib.Omega.{arith}
 use lib.Dec.{leb, ltb, eqb}
 use lib.ListN.{length, getD, getD-replicate, length-replicate}
 use lib.Pow.{pow-pos, shr-shr}
-use borrow.Author.Tests.{le-leb, lt-leb, ltb-true, ltb-false, eqb-true, eqb-false, eq-eqb}
+use borrow.Author.Tests.{le-leb, lt-leb, ltb-true, ltb-false, eqb-true, eqb-false, eq-eqb, ne-eqb}
 use Rattle.prelude.specs.Bits.{bit}
 use Rattle.prelude.proofs.Tests.{by-test, clash, fails, every-of}
-use Rattle.prelude.proofs.Scan.{all-of, all-fails, listed-at, listed-once}
+use Rattle.prelude.proofs.Scan.{all-of, all-fails, count-none, count-same, listed-at, listed-once}
 use Rattle.prelude.proofs.Tab.{length-tab, getD-tab}
 use Rattle.prelude.proofs.Bits.{bit-zero, bit-pos, bits-some, bit-high}
 use Rattle.model.specs.Sizes.{Sizes, vacant, sizesOk, isCoded}
 use Rattle.model.specs.Directory.{Directory, slotAt, frameAt, validAt, recencyAt, vacantDirectory, blankCache}
 use Rattle.model.specs.Soundness.{sound, Sound}
-use Rattle.model.specs.Calls.{lentOk, openStore}
+use Rattle.model.specs.Calls.{lentOk, tornBlocks, openStore}
 use Rattle.model.specs.Formats.{pageCode}
-use Rattle.model.specs.RulesRecord.{VacantRule, SizesRule, LengthsRule, NoCodesRule, CodesRule, SoundBy, SoundRule}
+use Rattle.model.specs.RulesRecord.{VacantRule, SizesRule, LengthsRule, NoCodesRule, CodesRule, MarksRule, SoundBy, SoundRule}
 use Rattle.model.specs.RulesRecord.{StartRule, BlankRule, BlankUnsoundRule, OpeningSizeRule, OpeningBufferRule, OpeningOverwornRule}
-use Rattle.model.specs.RulesRecord.{OpeningDoneRule}
-use Rattle.model.proofs.Soundness.{coded-on, coded-off, marked-off, limits-of, limits-test, sound-facts, facts-sound, pages-small}
+use Rattle.model.specs.RulesRecord.{OpeningDoneRule, TornBlocksRule}
+use Rattle.model.proofs.Soundness.{coded-on, coded-off, marked-on, marked-off, limits-of, limits-test, sound-facts, facts-sound}
+use Rattle.model.proofs.Soundness.{pages-small}
 use Rattle.model.proofs.Buffers.{fits-of}
 use Rattle.model.proofs.Lookup.{page-div, page-mod, page-vacant, page-split, block-lt, offset-lt, frame-has, has-frame, block-vacant}
 
@@ -53,7 +55,7 @@ sizes-rule sz = (
     B-is = (l .B-low, l .B-high);
     W-is = (l .W-low, l .W-high);
     policy-is = one-of-three (sz .policy) (l .policy-high);
-    options-are = (l .coded-high, l .shelf-high, l .marked-is);
+    options-are = (l .coded-high, l .shelf-high, l .marked-high);
     chunks-are = λ e. (sz .S / 256, sym (l .whole (coded-on sz e)));
   }),
   (λ l. limits-test sz (record {
@@ -72,7 +74,7 @@ sizes-rule sz = (
     policy-high = elim (l .policy-is) [ inl e ↦ omega arith | inr h ↦ elim h [ inl e ↦ omega arith | inr e ↦ omega arith ] ];
     coded-high = l .options-are .0;
     shelf-high = l .options-are .1;
-    marked-is = l .options-are .2;
+    marked-high = l .options-are .2;
     whole = λ e. let m = l .chunks-are (coded-one sz e) in let q = m .1 in omega arith;
   })),
 )
@@ -105,6 +107,17 @@ no-codes-rule sz u a b h = let c = coded-off sz (λ e. omega arith) in let m = m
     let codes : length (u .codes) ≡ sz .N * sz .K * 0 = (rw c at (h .codes-are)) in
     let marks : length (u .marks) ≡ sz .N * sz .K * 0 = (rw m at (h .marks-are)) in
     (omega arith, omega arith)
+
+no-entries : (l : List ℕ) → length l ≡ 0 → l ≡ []
+no-entries [] h = refl
+no-entries (x ∷ l) h = absurd (omega arith)
+
+pub marks-rule : MarksRule
+marks-rule sz u h = (
+  (λ a. let marks : length (u .marks) ≡ sz .N * sz .K * 1 = (rw (marked-on sz a) at (h .marks-are)) in omega arith),
+  (λ a. let marks : length (u .marks) ≡ sz .N * sz .K * 0 = (rw (marked-off sz (λ e. omega arith)) at (h .marks-are)) in
+      no-entries (u .marks) (omega arith)),
+)
 
 pub codes-rule : CodesRule
 unfolding pageCode
@@ -248,21 +261,55 @@ blank-unsound-rule = by-test (sound (blankCache .sizes) (blankCache .directory))
 
 pub opening-size-rule : OpeningSizeRule
 unfolding openStore
-opening-size-rule fmt sz u h = let e = fails (sizesOk sz) (λ t. h (sizes-rule sz .0 t)) in (rw (e, openStore), rw (e, openStore))
+opening-size-rule fmt sz u h = let e = fails (sizesOk sz) (λ t. h (sizes-rule sz .0 t)) in (
+  rw (e, openStore),
+  rw (e, openStore),
+  rw
+      (e, openStore),
+)
 
 pub opening-buffer-rule : OpeningBufferRule
 unfolding openStore
 opening-buffer-rule fmt sz u l h = let a = sizes-rule sz .1 l in let e = fails (lentOk fmt sz u) (λ t. h (lengths-rule fmt sz u .0 t)) in
-    (rw (a, openStore) (rw e), rw (a, openStore) (rw e))
+    (rw (a, openStore) (rw e), rw (a, openStore) (rw e), rw (a, openStore) (rw e))
 
 pub opening-overworn-rule : OpeningOverwornRule
 unfolding openStore
 opening-overworn-rule fmt sz u l r b bl h = let a = sizes-rule sz .1 l in let e = lengths-rule fmt sz u .1 r in
     let c = all-fails (sz .N) (λ i. leb (getD (u .wear) i 0) (sz .W)) b bl (lt-leb (getD (u .wear) b 0) (sz .W) h) in
-    (rw (a, openStore) (rw e (rw c)), rw (a, openStore) (rw e (rw c)))
+    (rw (a, openStore) (rw e (rw c)), rw (a, openStore) (rw e (rw c)), rw (a, openStore) (rw e (rw c)))
 
 pub opening-done-rule : OpeningDoneRule
 unfolding openStore
 opening-done-rule fmt sz u l r h = let a = sizes-rule sz .1 l in let e = lengths-rule fmt sz u .1 r in
-    let c = all-of (sz .N) (λ i. leb (getD (u .wear) i 0) (sz .W)) (λ b bl. le-leb _ _ (h b bl)) in
-    (rw (a, openStore) (rw e (rw c)), rw (a, openStore) (rw e (rw c)), rw (a, openStore) (rw e (rw c start-rule)))
+    let c = all-of (sz .N) (λ i. leb (getD (u .wear) i 0) (sz .W)) (λ b bl. le-leb _ _ (h b bl)) in (
+      rw (a, openStore) (rw e (rw c)),
+      rw (a, openStore) (rw e (rw c)),
+      rw (a, openStore) (rw e (rw c start-rule)),
+      rw (a, openStore) (rw e
+          (rw c)),
+    )
+
+-- ---- torn blocks
+
+mark-none : (n : ℕ) → getD {A = ℕ} [] n 0 ≡ 0
+mark-none zero = refl
+mark-none (suc n) = refl
+
+pub torn-blocks-rule : TornBlocksRule
+unfolding tornBlocks
+torn-blocks-rule sz marks = (
+  (λ torn h. count-same (sz .N) _ torn (λ b bl. by-test (torn b)
+      (λ t. let w = h b bl .0 t in rw (
+        t,
+        all-fails (sz .K) (λ o. eqb (getD marks (b * sz .K + o) 0) 0) (w .0) (w .1)
+            (ne-eqb (getD marks (b * sz .K + w .0) 0) 0 (w .2)),
+      ))
+      (λ t. rw (
+        t,
+        all-of (sz .K) (λ o. eqb (getD marks (b * sz .K + o) 0) 0) (λ o ol. by-test (eqb (getD marks (b * sz .K + o) 0) 0)
+            (λ q. q) (λ q. clash (h b bl .1 (o, ol, eqb-false (getD marks (b * sz .K + o) 0) 0 q)) t)),
+      )))),
+  (λ e. rw e (count-none (sz .N) _ (λ b bl. rw (all-of (sz .K) (λ o. eqb (getD {A = ℕ} [] (b * sz .K + o) 0) 0)
+      (λ o ol. eq-eqb (getD {A = ℕ} [] (b * sz .K + o) 0) 0 (mark-none (b * sz .K + o))))))),
+)

@@ -41,7 +41,8 @@ entries-vacant sz es h =
     let e = each _ h in
     let none = leb-true (shelved es) 0 (e .1 .0) in
     let long = eqb-true (length es) 8 (e .0) in
-    let rule : (i : ℕ) → i < 8 → eqb (getD es i 0) vacant ≡ true = λ i l. ap (λ (x : ℕ). eqb x vacant) (getD-any es i 0 vacant (omega arith))
+    let rule : (i : ℕ) → i < 8 → eqb (getD es i 0) vacant ≡ true = λ i l. ap (λ (x : ℕ). eqb x vacant) (getD-any es i 0 vacant
+    (omega arith))
     ∙ (rw (le-ltb i (shelved es) (omega arith)) at (all-at 8 _ (e .1 .1 .0) i l)) in
     all-of 8 _ rule
 
@@ -226,8 +227,8 @@ module _ (fmt : Format) (h : ℕ) (pick : Choice) (s : Store) (es sb : List ℕ)
         ((ap flat (pages-kept c e (pageSeen fmt s (shelves (plainly c))) (isRefused (ordinary fmt h pick with-shelf (plainly c) .answer)))
         ∙ shelf-again) i)) ∙ ap (λ (r : Result). shelfBeside r es sb) (below-is (plainly c) e)
 
-    -- A call of a store with shelf pages that shelves page n: it reads n besides, and where it is accepted entries and shelf have n, and what
-    -- was seen there, more.
+    -- A call of a store with shelf pages that shelves page n: it reads n besides, and where it is accepted entries and shelf have n, and
+    -- what was seen there, more.
     pub shelving-call : (c : Call Page) → ltb 0 h ≡ true → ltb (shelves (plainly c)) vacant ≡ true → (r : Result)
         → r ≡ callReading fmt pick (shelvingReads fmt h pick with-shelf (plainly c)) s c → (es′ sb′ : List ℕ)
         → es′ ≡ cond (isRefused (r .answer)) es (shelve vacant h (shelved es) es (shelves (plainly c)))
@@ -237,12 +238,14 @@ module _ (fmt : Format) (h : ℕ) (pick : Choice) (s : Store) (es sb : List ℕ)
         → shelfBeside r es′ sb′ ≡ shelfCall fmt h pick with-shelf (plainly c)
     unfolding ordinary entriesAfter shelfAfter
     shelving-call c p t r e es′ sb′ f l g =
-        let is : sb′ ≡ flat (pagesOfShelf (s .cache .sizes) h sb′) = sym (flat-pages (s .cache .sizes .S) h sb′ (l ∙ eqb-true _ _ right-length)) in
+        let is : sb′ ≡ flat (pagesOfShelf (s .cache .sizes) h sb′) = sym (flat-pages (s .cache .sizes .S) h sb′ (l
+        ∙ eqb-true _ _ right-length)) in
         let entries : es′ ≡ entriesAfter h es (plainly c) (isRefused (r .answer)) =
         f ∙ by-test (isRefused (r .answer)) (λ q. rw q) (λ q. rw (q, t)) in
         let pages : sb′ ≡ flat (shelfAfter h es (pagesOfShelf (s .cache .sizes) h sb) (plainly c) (pageSeen fmt s (shelves (plainly c)))
         (isRefused (r .answer))) = is ∙ ap flat (g ∙ by-test (isRefused (r .answer)) (λ q. rw q) (λ q. rw (q, t))) in
-        (λ i. shelfBeside r (entries i) (pages i)) ∙ ap (λ (x : Result). shelfBeside x (entriesAfter h es (plainly c) (isRefused (x .answer)))
+        (λ i. shelfBeside r (entries i) (pages i)) ∙ ap (λ (x : Result). shelfBeside x (entriesAfter h es (plainly c) (isRefused
+        (x .answer)))
         (flat (shelfAfter h es (pagesOfShelf (s .cache .sizes) h sb) (plainly c) (pageSeen fmt s (shelves (plainly c)))
         (isRefused (x .answer))))) e ∙ sym (fit (plainly c) refl)
 
@@ -269,7 +272,8 @@ module _ (fmt : Format) (h : ℕ) (pick : Choice) (s : Store) (es sb : List ℕ)
           store = record {
             store = x .store;
             entries = entriesAfter h es back (isRefused (x .answer));
-            shelf = flat (shelfAfter h es (pagesOfShelf (s .cache .sizes) h sb) back (pageSeen fmt s (shelves back)) (isRefused (x .answer)));
+            shelf = flat (shelfAfter h es (pagesOfShelf (s .cache .sizes) h sb) back (pageSeen fmt s (shelves back)) (isRefused
+                (x .answer)));
           };
           page = [];
         }) below ∙ sym (fit back z)
@@ -281,7 +285,7 @@ not-done e = clash refl (ap isRefused e)
 
 module _ (sz : Sizes) (u : Buffers) where
   abbrev pub openedBelow : ShelfOpened
-  openedBelow = let o = openStore storeFormat sz u in record { answer = o .answer; cache = o .cache; entries = noEntries }
+  openedBelow = let o = openStore storeFormat sz u in record { answer = o .answer; torn = o .torn; cache = o .cache; entries = noEntries }
 
   -- with a shelf that fits
   pub open-fit : (sb : List ℕ) → length sb ≡ sz .shelfPages * sz .S → storeOpen sz u sb ≡ openedBelow
@@ -290,7 +294,7 @@ module _ (sz : Sizes) (u : Buffers) where
 
   -- with another
   pub open-unfit : (sb : List ℕ) → sizesOk sz ≡ true → (length sb ≡ sz .shelfPages * sz .S → ⊥)
-      → storeOpen sz u sb ≡ record { answer = refused 2 vacant; cache = blankCache; entries = noEntries }
+      → storeOpen sz u sb ≡ record { answer = refused 2 vacant; torn = 0; cache = blankCache; entries = noEntries }
   unfolding openShelf
   open-unfit sb a e = rw (a, ne-eqb _ _ e, openShelf)
 

@@ -50,7 +50,7 @@ limits-of sz h = let e = each _ h in let e2 = e .1 .1 .1 .1 in let e3 = e2 .1 .1
   policy-high = leb-true _ _ (e4 .0);
   coded-high = leb-true _ _ (e4 .1 .0);
   shelf-high = leb-true _ _ (e4 .1 .1 .0);
-  marked-is = eqb-true _ _ (e4 .1 .1 .1 .0);
+  marked-high = leb-true _ _ (e4 .1 .1 .1 .0);
   whole = whole-of sz (e4 .1 .1 .1 .1 .0);
 }
 
@@ -102,7 +102,7 @@ limits-test sz h = every-of _ (
                           le-leb _ _ (h .policy-high),
                           (
                             le-leb _ _ (h .coded-high),
-                            (le-leb _ _ (h .shelf-high), (eq-eqb _ _ (h .marked-is), (whole-test sz (h .coded-high) (h .whole), tt))),
+                            (le-leb _ _ (h .shelf-high), (le-leb _ _ (h .marked-high), (whole-test sz (h .coded-high) (h .whole), tt))),
                           ),
                         ),
                       ),

@@ -7,26 +7,32 @@ use Prim.Native.Nat.{ℕ, _+_, _-_, _*_, _/_, _%_, _≤_, _<_}
 use native.Mathlib.Omega.{arith}
 use lib.Arith.{digits-lt}
 use lib.Dec.{leb, ltb, eqb}
-use lib.ListN.{length, getD, set, replicate, length-replicate, getD-replicate}
-use lib.Seq.{getD-set-same, getD-set-other}
+use lib.ListN.{length, getD, set, drop, replicate, length-replicate, getD-replicate}
+use lib.Seq.{getD-set-same, getD-set-other, getD-take, getD-drop}
 use borrow.Author.Tests.{ltb-true, ltb-false, eqb-true, eqb-false, lt-ltb, le-ltb}
 use Rattle.prelude.specs.Scan.{tab, first}
 use Rattle.prelude.specs.Bits.{bit}
+use Rattle.prelude.specs.Pages.{pageAt}
 use Rattle.prelude.proofs.Tests.{by-test, clash, or-l, or-r}
 use Rattle.prelude.proofs.Scan.{first-hit, first-at, count-le}
 use Rattle.prelude.proofs.Bits.{bit-zero}
 use Rattle.prelude.proofs.Tab.{length-tab, getD-tab}
-use Rattle.model.specs.Sizes.{Sizes, vacant}
+use Rattle.model.specs.Sizes.{Sizes, vacant, isMarked, InLimits}
 use Rattle.model.specs.Directory.{Directory, slotAt, frameAt, validAt, inFrame}
 use Rattle.model.specs.Soundness.{Sound}
 use Rattle.model.specs.Policy.{Choice, slotOf, inSlots, frameWith, Plan, plan, erasedBy, isWorn, lowestWorn, Due, clean, due, dueOf}
 use Rattle.model.specs.Moves.{Chip, Memory, cellAt, flashPage, wornBy, written, stepped, readDirectory, writtenPages, steppedPages}
-use Rattle.model.specs.Calls.{isRefused, Call, read, write, part, step, flush, State, Outcome, turnedDown, checked, readOutcome}
+use Rattle.model.specs.Calls.{Answer, isRefused, Call, read, write, part, step, flush, State, Outcome, turnedDown, checked}
+use Rattle.model.specs.Calls.{readOutcome}
 use Rattle.model.specs.Calls.{writeOutcome, partOutcome, stepOutcome, Tally, steps, flushOutcome, decide, heeding, stepsPages, Page}
 use Rattle.model.specs.Calls.{noBytes, Cell, Format, Buffers, Store, flashCells, openStore, openDone, callReading, told}
 use Rattle.model.specs.Lists.{Bears, Borne, flipped, bookSays, opened, Chosen, AllPick, noCell, Picks, Put, Accepted, Reference}
 use Rattle.model.specs.Lists.{logAfter, isFlush, fed}
 use Rattle.model.specs.Formats.{Code, formatOf, torn, Matches, NearBy}
+use Rattle.model.specs.Formats.{storeFormat, chipFor, StoreMatches, StoreNear}
+use Rattle.model.specs.Shelf.{ShelfStore, ShelfReference, ShelfChosen, isBack, shelved, meant, noEntries, shelfBookSays, shelfFed}
+use Rattle.model.specs.Shelf.{shelfOpened}
+use Rattle.model.specs.CutCalls.{WholeBlocks, ShelfEnds}
 use Rattle.model.proofs.Soundness.{pages-small, limits-of}
 use Rattle.model.proofs.Opening.{open-accepted, opened-sound}
 use Rattle.model.proofs.Buffers.{fits-of}
@@ -35,7 +41,9 @@ use Rattle.model.proofs.Lookup.{not-in-slots, frame-has, has-frame, no-
 use Rattle.model.proofs.Consistent.{Consistent, write-good, step-good}
 use Rattle.model.proofs.Steps.{Ready, Empty, due-elim, steps-clean}
 use Rattle.model.proofs.Calls.{Kept, decide-kept, heeding-kept}
-use Rattle.model.proofs.Demand3.{log-kept, not-flushed, decide-keeps, heeding-keeps, Holds, holds-step, holds-opened}
+use Rattle.model.proofs.Demand3.{log-kept, not-flushed, decide-keeps, heeding-keeps, Holds, holds-step, holds-opened, holds-borne}
+use Rattle.model.proofs.Formats.{store-bears}
+use Rattle.model.proofs.Shelf.{AllShelfPick, Shelves, shelf-step, shelves-opened}
 use Rattle.model.proofs.Flush.{Moved, moved-none, read-good, step-moved, write-moves, flush-all}
 
 -- page p is cached
@@ -232,7 +240,7 @@ new-put a l (part n f y page) p x = by-test (noBytes y) (λ t. rw t (λ h. inr h
 new-put a l step p x = λ h. inr h
 new-put a l flush p x = λ h. inr h
 
-heeding-same : (k : State) (late : ℕ) (o : Outcome) → isRefused (heeding k late o .answer) ≡ false → heeding k late o ≡ o
+pub heeding-same : (k : State) (late : ℕ) (o : Outcome) → isRefused (heeding k late o .answer) ≡ false → heeding k late o ≡ o
 unfolding heeding
 heeding-same k late o = by-test (isRefused (o .answer))
     (λ e. rw (e, heeding) (λ h. refl))
@@ -361,3 +369,81 @@ module _ (code : Code) (Flips : Sizes → Page → List ℕ → Page → List �
         put = λ p x h l. absurd h;
         gone = λ h. clash h refl;
       })
+
+-- ---- a whole list with a shelf, on the store's own cells
+
+-- fed a call that is turned down
+logged-down : (sz : Sizes) (w₀ : List ℕ) (r : Reference) → Logged sz w₀ r → (c : Call Page) (n b : ℕ) (cs : List Cell)
+    → Logged sz w₀ (fed sz r c (turnedDown (r .book) n b) cs)
+unfolding fed
+logged-down sz w₀ r i c n b cs = record {
+  numbers = i .numbers;
+  wear-length = i .wear-length;
+  least = i .least;
+  put = rw (log-kept (r .array) (r .log) c) (i .put);
+  gone = rw (not-flushed c) (λ h. clash h refl);
+}
+
+-- the mark of a cell is a byte of the marks
+mark-of : (l : List ℕ) (n : ℕ) → getD (pageAt 1 l n) 0 0 ≡ getD l n 0
+unfolding pageAt
+mark-of l n = getD-take 1 (drop (n * 1) l) 0 0 (omega arith) ∙ getD-drop (n * 1) l 0 0 ∙ ap (λ (i : ℕ). getD l i 0) (omega arith)
+
+module _ (sz : Sizes) (limits : InLimits sz) (marked : isMarked sz ≡ true) (u : Buffers) (h : ℕ) (h-le : h ≤ 8) where
+  abbrev At : ShelfStore → ShelfReference → Type 0
+  At s r = Shelves storeFormat StoreMatches StoreNear sz (store-bears sz (limits .whole)) u limits h h-le s r
+
+  -- what is near a cell that was programmed is marked 0
+  near-zero : (y : Page) (c : Cell) → StoreNear sz (chipFor sz .cell y) c → getD (c .mark) 0 0 ≡ 0
+  unfolding formatOf
+  near-zero y c k = rw (k .1, marked)
+
+  cell-mark : (v : Buffers) (n : ℕ) → n < sz .N * sz .K → getD (getD (flashCells storeFormat sz v) n noCell .mark) 0 0 ≡ getD (v .marks) n 0
+  unfolding flashCells
+  cell-mark v n l = ap (λ (c : Cell). getD (c .mark) 0 0) (getD-tab (sz .N * sz .K) _ noCell n l) ∙ rw marked (mark-of (v .marks) n)
+
+  whole-now : (s : ShelfStore) (r : ShelfReference) → At s r → Logged sz (u .wear) (r .reference)
+      → WholeBlocks sz (s .store .lent .marks) (r .reference)
+  whole-now s r x i q p y acc pl n nl e =
+      let bears = store-bears sz (limits .whole) in
+      let w = made-whole storeFormat StoreMatches StoreNear sz bears u (s .store) (r .reference) (x .holds) i q p y acc pl n nl e in
+      let b = holds-borne storeFormat StoreMatches StoreNear sz bears u (s .store) (r .reference) (x .holds) in
+      sym (cell-mark (s .store .lent) n nl) ∙ near-zero (w .0) _ (rw (w .1) at (b .near n nl))
+
+  shelf-logged : (r : ShelfReference) (t : ShelfChosen) → Picks (t .choice) → Logged sz (u .wear) (r .reference) → (a : Answer)
+      (cs : List Cell)
+      → Logged sz (u .wear) (shelfFed sz h r t (shelfBookSays sz h r t a) cs .reference)
+  unfolding shelfFed shelfBookSays
+  shelf-logged r t p i a cs = by-test (isBack (t .call) && eqb (shelved (r .entries)) 0)
+      (λ e. rw (e, shelfBookSays) (logged-down sz (u .wear) (r .reference) i _ 8 vacant cs))
+      (λ e. rw (e, shelfBookSays) (logged-fed sz (u .wear) (r .reference) i (t .choice) p (meant (r .entries) (r .shelf) (t .call)) _ cs))
+
+  shelf-ends : (cs : List ShelfChosen) → AllShelfPick cs → (s : ShelfStore) (r : ShelfReference) → At s r
+      → Logged sz (u .wear) (r .reference) → ShelfEnds storeFormat StoreNear sz h cs s r
+  shelf-ends [] p s r x i = whole-now s r x i
+  shelf-ends (t ∷ cs) p s r x i = λ fl cd b.
+      let st = shelf-step storeFormat StoreMatches StoreNear sz (store-bears sz (limits .whole)) u limits h h-le s r x t (p .0) fl cd b in
+      shelf-ends cs (p .1) _ _ (st .then) (shelf-logged r t (p .0) i _ _)
+
+-- from an accepted opening of a marked store whose codes match
+pub store-made-whole : (sz : Sizes) (u : Buffers) → openStore storeFormat sz u .answer ≡ openDone → isMarked sz ≡ true
+    → ((n : ℕ) → n < sz .N * sz .K → StoreMatches sz (getD (flashCells storeFormat sz u) n noCell))
+    → (h : ℕ) → h ≤ 8 → (shelf : List ℕ) → length shelf ≡ h * sz .S → (cs : List ShelfChosen) → AllShelfPick cs
+    → ShelfEnds storeFormat StoreNear sz h cs (record {
+      store = record { cache = openStore storeFormat sz u .cache; lent = u };
+      entries = noEntries;
+      shelf = shelf;
+    })
+    (shelfOpened storeFormat sz h u shelf)
+unfolding opened
+store-made-whole sz u acc marked ok h hl shelf sl cs p = let a = open-accepted storeFormat sz u acc in
+    let limits = limits-of sz (a .sizes-ok) in
+    let bears = store-bears sz (limits .whole) in
+    shelf-ends sz limits marked u h hl cs p _ _ (shelves-opened storeFormat StoreMatches StoreNear sz bears u limits h hl a ok shelf sl)
+    (record {
+      numbers = opened-sound sz limits;
+      wear-length = fits-of storeFormat sz u (a .lent-ok) .wear-length;
+      least = λ p l. omega arith;
+      put = λ p x h l. absurd h;
+      gone = λ h. clash h refl;
+    })

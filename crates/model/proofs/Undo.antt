@@ -42,7 +42,8 @@ module _ (fmt : Format) (Matched : Sizes → Cell → Type 0) (Near : Sizes → 
   shelf-long s r x = ap length (sym (x .shelf-are)) ∙ length-tab h _
 
   -- what the book says of an accepted call
-  book-accepts : (s : ShelfStore) (r : ShelfReference) (t : ShelfChosen) → Stepped s r t → isRefused (made fmt Near sz h s t .answer) ≡ false
+  book-accepts : (s : ShelfStore) (r : ShelfReference) (t : ShelfChosen) → Stepped s r t → isRefused (made fmt Near sz h s t .answer)
+      ≡ false
       → isRefused (shelfBookSays sz h r t (made fmt Near sz h s t .answer) .answer) ≡ false
   book-accepts s r t st ok = ap isRefused (sym (st .answers)) ∙ ok
 
@@ -114,7 +115,8 @@ module _ (fmt : Format) (Matched : Sizes → Cell → Type 0) (Near : Sizes → 
           → pageSeen fmt (flipped (s₂ .store) fl₂ cd₂) n ≡ pageSeen fmt (s₀ .store) n
       seen-again fl₂ cd₂ b₂ n l =
           let after : ShelfStep fmt Near sz h u (shelfFlipped s₂ fl₂ cd₂) r₂ (record { choice = t .choice; call = plainly step }) Holding =
-          shelf-step fmt Matched Near sz laws u limits h h-le s₂ r₂ (two .then) (record { choice = t .choice; call = plainly step }) p fl₂ cd₂
+          shelf-step fmt Matched Near sz laws u limits h h-le s₂ r₂ (two .then)
+          (record { choice = t .choice; call = plainly step }) p fl₂ cd₂
           b₂ in
           after .shows n l ∙ ap (λ (a : List Page). getD a n []) array-back ∙ sym (one .shows n l)
 

@@ -6,7 +6,7 @@ use Prim.Native.Nat.{ℕ, zero, suc, _+_, _*_, _/_, _%_}
 use lib.Dec.{leb, ltb, eqb}
 use lib.ListN.{length, getD, replicate}
 use Rattle.prelude.specs.Tests.{every}
-use Rattle.prelude.specs.Scan.{all, first, tab}
+use Rattle.prelude.specs.Scan.{all, count, first, tab}
 use Rattle.prelude.specs.Bits.{bit}
 use Rattle.prelude.specs.Pages.{pageAt, laid, pagesOf, flat}
 use Rattle.model.specs.Sizes.{Sizes, vacant, sizesOk}
@@ -280,19 +280,25 @@ pub record Fits (fmt : Format) (sz : Sizes) (u : Buffers) : Type 0 where
   pub pspace-length : length (u .pspace) ≡ sz .P * sz .S
   pub bspace-length : length (u .bspace) ≡ sz .B * sz .K * sz .S
 
--- Opening: refusals 1, 2, 3, and the blank record with them; else a record with the sizes set and all vacant.
+-- Request A12: the blocks with a mark that is not 0, each counted once; where there are no marks none is torn.
+unfoldable pub tornBlocks : Sizes → List ℕ → ℕ
+tornBlocks sz marks = count (sz .N) (λ b. not (all (sz .K) (λ o. eqb (getD marks (b * sz .K + o) 0) 0)))
+
+-- Opening: refusals 1, 2, 3, and the blank record with them; else a record with the sizes set and all vacant, and the number of torn
+-- blocks.
 pub record Opened : Type 0 where
   pub answer : Answer
+  pub torn : ℕ
   pub cache : Cache
 
 unfoldable pub openStore : Format → Sizes → Buffers → Opened
 openStore fmt sz u = elim (sizesOk sz) [
-  | false ↦ record { answer = refused 1 vacant; cache = blankCache }
+  | false ↦ record { answer = refused 1 vacant; torn = 0; cache = blankCache }
   | true ↦ elim (lentOk fmt sz u) [
-    | false ↦ record { answer = refused 2 vacant; cache = blankCache }
+    | false ↦ record { answer = refused 2 vacant; torn = 0; cache = blankCache }
     | true ↦ elim (all (sz .N) (λ b. leb (getD (u .wear) b 0) (sz .W))) [
-      | false ↦ record { answer = refused 3 vacant; cache = blankCache }
-      | true ↦ record { answer = openDone; cache = record { sizes = sz; directory = vacantDirectory } }
+      | false ↦ record { answer = refused 3 vacant; torn = 0; cache = blankCache }
+      | true ↦ record { answer = openDone; torn = tornBlocks sz (u .marks); cache = record { sizes = sz; directory = vacantDirectory } }
     ]
   ]
 ]

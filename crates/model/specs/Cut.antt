@@ -6,6 +6,7 @@ use mathlib.Core.Bool.{true, false, cond}
 use mathlib.Core.List.{List}
 use Prim.Native.Nat.{ℕ, zero, suc, _-_, _*_, _/_, _<_}
 use lib.Dec.{leb, ltb}
+use lib.ListN.{getD}
 use Rattle.model.specs.Sizes.{Sizes}
 use Rattle.model.specs.Directory.{Directory, frameAt}
 use Rattle.model.specs.Policy.{Choice, Plan, slotHit, frameHit, freeSlot, join, fill, exchange, evict, plan, Due, clean, due, dueOf}
@@ -61,20 +62,33 @@ module _ {C : Type 0} (chip : Chip C Page) (filler : Page) (pick : Choice) (sz :
   cutCall ops k m step = cutStep chip filler sz ops (k .directory) (k .wear) m (dueOf pick sz (k .directory))
   cutCall ops k m flush = cutSteps chip filler sz pick (sz .N) ops (k .directory) (k .wear) m
 
+-- how many operations are enough for the whole call
+abbrev pub operations : Sizes → Call Page → ℕ
+operations sz (read n x) = 0
+operations sz (write n x) = suc (sz .K)
+operations sz (part n first x page) = suc (sz .K)
+operations sz step = suc (sz .K)
+operations sz flush = sz .N * suc (sz .K)
+
 -- ---- what is left
 
--- fl before the call, fl₁ after the whole call, fl′ after the cut
-module _ {C A : Type 0} (chip : Chip C A) (filler : A) (sz : Sizes) (fl fl₁ fl′ : List C) where
-  -- block b is as in fl₀, cell by cell
-  abbrev pub BlockAs : List C → ℕ → Type 0
-  BlockAs fl₀ b = (n : ℕ) → n < sz .N * sz .K → n / sz .K ≡ b → cellAt chip filler fl′ n ≡ cellAt chip filler fl₀ n
+-- l before the call, l₁ after the whole call, l′ after the cut
+module _ {C A : Type 0} (chip : Chip C A) (filler : A) (sz : Sizes) (l l₁ l′ : Left C) where
+  -- block b is as in l₀, cell by cell, and its wear
+  abbrev pub BlockAs : Left C → ℕ → Type 0
+  BlockAs l₀ b = ((n : ℕ) → n < sz .N * sz .K → n / sz .K ≡ b → cellAt chip filler (l′ .flash) n ≡ cellAt chip filler (l₀ .flash) n)
+      × (getD (l′ .wear) b 0 ≡ getD (l₀ .wear) b 0)
+
+  -- each cell of block b is as after the whole call or erased, and the wear is as after the whole call
+  abbrev pub UnderWay : ℕ → Type 0
+  UnderWay b = ((n : ℕ) → n < sz .N * sz .K → n / sz .K ≡ b → (cellAt chip filler (l′ .flash) n ≡ cellAt chip filler (l₁ .flash) n)
+      ⊎ (cellAt chip filler (l′ .flash) n ≡ chip .erased)) × (getD (l′ .wear) b 0 ≡ getD (l₁ .wear) b 0)
 
   pub record CutShort : Type 0 where
     -- the block under way
     pub under : ℕ
-    -- every other block is as before the call, or as after its own rewrite in the call
-    pub others : (b : ℕ) → b < sz .N → (b ≡ under → ⊥) → BlockAs fl b ⊎ BlockAs fl₁ b
-    -- in the block under way each cell is erased or as after its rewrite; before its erasure it is the old block
-    pub in-under : BlockAs fl under
-        ⊎ ((n : ℕ) → n < sz .N * sz .K → n / sz .K ≡ under → (cellAt chip filler fl′ n ≡ cellAt chip filler fl₁ n)
-        ⊎ (cellAt chip filler fl′ n ≡ chip .erased))
+    -- every other block is as before the call, or as after its own rewrite in the call, and so is its wear
+    pub others : (b : ℕ) → b < sz .N → (b ≡ under → ⊥) → BlockAs l b ⊎ BlockAs l₁ b
+    -- before its erasure the block under way is the old block; from then on its wear is counted, and each cell is erased or as after its
+    -- rewrite
+    pub in-under : BlockAs l under ⊎ UnderWay under

@@ -19,3 +19,4 @@ pub mod RulesCalls
 pub mod RulesReads
 pub mod RulesLists
 pub mod RulesDemand3
+pub mod CutCalls

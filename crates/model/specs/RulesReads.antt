@@ -3,9 +3,9 @@
 use mathlib.Core.Path.{_≡_}
 use mathlib.Core.Logic.{_⊎_}
 use mathlib.Core.Bool.{Bool, true, false}
-use mathlib.Core.List.{[]}
+use mathlib.Core.List.{[], _∷_}
 use Prim.Native.Nat.{ℕ, suc, _+_, _*_, _<_}
-use lib.ListN.{replicate}
+use lib.ListN.{getD, replicate}
 use Rattle.prelude.specs.Bits.{bit}
 use Rattle.codes.specs.Code.{codesOf}
 use Rattle.codes.specs.Reading.{pageLegible, pageMended, pageMends}
@@ -88,3 +88,23 @@ CodedRule = (sz : Sizes) (m : ℕ) → sz .coded ≡ 1 → sz .marked ≡ 0 → 
     × (pageLegible m (c .bytes) (c .code) ≡ false → chipFor sz .fault c ≡ 7))
     × ((x : Page) → chipFor sz .cell x ≡ record { bytes = x; code = codesOf m x; mark = [] })
     × (chipFor sz .erased ≡ record { bytes = replicate (m * 256) 255; code = replicate (m * 3) 255; mark = [] })
+
+-- In a marked store without codes a page is read as its bytes and mends nothing; it meets refusal 14 where its mark is not 0, whatever it
+-- is. It is programmed with mark 0, and an erased page has mark 255.
+abbrev pub MarkedRule : Type 0
+MarkedRule = (sz : Sizes) → sz .coded ≡ 0 → sz .marked ≡ 1
+    → ((c : Cell) → (chipFor sz .page c ≡ c .bytes) × (chipFor sz .mends c ≡ 0) × (getD (c .mark) 0 0 ≡ 0 → chipFor sz .fault c ≡ 0)
+    × ((getD (c .mark) 0 0 ≡ 0 → ⊥) → chipFor sz .fault c ≡ 14))
+    × ((x : Page) → chipFor sz .cell x ≡ record { bytes = x; code = []; mark = 0 ∷ [] })
+    × (chipFor sz .erased ≡ record { bytes = replicate (sz .S) 255; code = []; mark = 255 ∷ [] })
+
+-- With codes too, a page that is unreadable meets refusal 7, torn or not; one that can be read meets 14 where its mark is not 0. The rest
+-- is as by the rule of the codes.
+abbrev pub MarkedCodedRule : Type 0
+MarkedCodedRule = (sz : Sizes) (m : ℕ) → sz .coded ≡ 1 → sz .marked ≡ 1 → sz .S ≡ m * 256
+    → ((c : Cell) → (chipFor sz .page c ≡ pageMended m (c .bytes) (c .code)) × (chipFor sz .mends c ≡ pageMends m (c .bytes) (c .code))
+    × (pageLegible m (c .bytes) (c .code) ≡ false → chipFor sz .fault c ≡ 7)
+    × (pageLegible m (c .bytes) (c .code) ≡ true → getD (c .mark) 0 0 ≡ 0 → chipFor sz .fault c ≡ 0)
+    × (pageLegible m (c .bytes) (c .code) ≡ true → (getD (c .mark) 0 0 ≡ 0 → ⊥) → chipFor sz .fault c ≡ 14))
+    × ((x : Page) → chipFor sz .cell x ≡ record { bytes = x; code = codesOf m x; mark = 0 ∷ [] })
+    × (chipFor sz .erased ≡ record { bytes = replicate (m * 256) 255; code = replicate (m * 3) 255; mark = 255 ∷ [] })

@@ -2,14 +2,16 @@
 -- Part 1: chip, page space, block space; the cache record; opening.
 use mathlib.Core.Path.{_≡_}
 use mathlib.Core.Logic.{_⊎_}
-use mathlib.Core.Bool.{true, false}
+use mathlib.Core.Bool.{Bool, true, false}
+use mathlib.Core.List.{List, []}
 use Prim.Native.Nat.{ℕ, _+_, _*_, _≤_, _<_}
 use lib.ListN.{length, getD}
+use Rattle.prelude.specs.Scan.{count}
 use Rattle.prelude.specs.Bits.{bit}
 use Rattle.model.specs.Sizes.{Sizes, vacant, sizesOk}
 use Rattle.model.specs.Directory.{Directory, slotAt, frameAt, validAt, recencyAt, usesAt, vacantDirectory, blankCache}
 use Rattle.model.specs.Soundness.{sound}
-use Rattle.model.specs.Calls.{openDone, refused, Format, Buffers, lentOk, openStore}
+use Rattle.model.specs.Calls.{openDone, refused, Format, Buffers, lentOk, tornBlocks, openStore}
 use Rattle.model.specs.Formats.{storeFormat}
 use Rattle.model.specs.RulesWords.{_⇔_}
 
@@ -21,7 +23,7 @@ VacantRule = vacant ≡ 4294967295
 
 -- Page bytes S 1 to 2,048; pages per block K 2 to 64; flash blocks N 1 to 4,096; page places P 1 to 128; block frames B 1 to 8; wear limit
 -- W 1 to 1,000,000. The policy is 0 LRU, 1 FIFO or 2 LFU (request A5). Coded is 0 or 1, and 1 only where S is a multiple of 256 (A6). There
--- are 0 to 8 shelf pages (A8). Marks are not taken yet: marked is 0.
+-- are 0 to 8 shelf pages (A8). Marked is 0 or 1 (A12).
 pub record WithinLimits (sz : Sizes) : Type 0 where
   pub S-is : (1 ≤ sz .S) × (sz .S ≤ 2048)
   pub K-is : (2 ≤ sz .K) × (sz .K ≤ 64)
@@ -30,7 +32,7 @@ pub record WithinLimits (sz : Sizes) : Type 0 where
   pub B-is : (1 ≤ sz .B) × (sz .B ≤ 8)
   pub W-is : (1 ≤ sz .W) × (sz .W ≤ 1000000)
   pub policy-is : (sz .policy ≡ 0) ⊎ ((sz .policy ≡ 1) ⊎ (sz .policy ≡ 2))
-  pub options-are : (sz .coded ≤ 1) × (sz .shelfPages ≤ 8) × (sz .marked ≡ 0)
+  pub options-are : (sz .coded ≤ 1) × (sz .shelfPages ≤ 8) × (sz .marked ≤ 1)
   pub chunks-are : sz .coded ≡ 1 → (m : ℕ) × (sz .S ≡ m * 256)
 
 -- The test of the sizes passes exactly within these limits.
@@ -59,6 +61,11 @@ NoCodesRule = (sz : Sizes) (u : Buffers) → sz .coded ≡ 0 → sz .marked ≡ 
 abbrev pub CodesRule : Type 0
 CodesRule = (sz : Sizes) (u : Buffers) (m : ℕ) → sz .coded ≡ 1 → sz .S ≡ m * 256 → RightLengths storeFormat sz u
     → length (u .codes) ≡ sz .N * sz .K * (m * 3)
+
+-- A marked store is lent one byte for each page, an unmarked one none (A12).
+abbrev pub MarksRule : Type 0
+MarksRule = (sz : Sizes) (u : Buffers) → RightLengths storeFormat sz u
+    → (sz .marked ≡ 1 → length (u .marks) ≡ sz .N * sz .K) × (sz .marked ≡ 0 → u .marks ≡ [])
 
 -- ---- when a record is sound
 
@@ -135,6 +142,7 @@ BlankUnsoundRule = sound (blankCache .sizes) (blankCache .directory) ≡ false
 -- an opening that is turned down for cause r hands back the blank record
 abbrev pub OpeningRefused : Format → Sizes → Buffers → ℕ → Type 0
 OpeningRefused fmt sz u r = (openStore fmt sz u .answer ≡ refused r 4294967295) × (openStore fmt sz u .cache ≡ blankCache)
+    × (openStore fmt sz u .torn ≡ 0)
 
 -- Opening refuses 1 when a size or W is beyond its limits, the policy is none of the three, or another option is set.
 abbrev pub OpeningSizeRule : Type 0
@@ -154,3 +162,10 @@ abbrev pub OpeningDoneRule : Type 0
 OpeningDoneRule = (fmt : Format) (sz : Sizes) (u : Buffers) → WithinLimits sz → RightLengths fmt sz u
     → ((b : ℕ) → b < sz .N → getD (u .wear) b 0 ≤ sz .W)
     → (openStore fmt sz u .answer ≡ openDone) × (openStore fmt sz u .cache .sizes ≡ sz) × AllVacant (openStore fmt sz u .cache .directory)
+    × (openStore fmt sz u .torn ≡ tornBlocks sz (u .marks))
+
+-- The torn blocks are those below N with a mark that is not 0, however many marks that are; where there are no marks none is torn.
+abbrev pub TornBlocksRule : Type 0
+TornBlocksRule = (sz : Sizes) (marks : List ℕ) → ((torn : ℕ → Bool)
+    → ((b : ℕ) → b < sz .N → (torn b ≡ true) ⇔ ((o : ℕ) × (o < sz .K) × (getD marks (b * sz .K + o) 0 ≡ 0 → ⊥)))
+    → tornBlocks sz marks ≡ count (sz .N) torn) × (marks ≡ [] → tornBlocks sz marks ≡ 0)

@@ -103,6 +103,7 @@ pagesOfShelf sz h l = pagesOf (sz .S) h l
 -- what an opening hands out, the shelf's entries with it
 pub record ShelfOpened : Type 0 where
   pub answer : Answer
+  pub torn : ℕ
   pub cache : Cache
   pub entries : List ℕ
 
@@ -110,8 +111,8 @@ pub record ShelfOpened : Type 0 where
 -- entries.
 unfoldable pub openShelf : Format → ℕ → Sizes → Buffers → List ℕ → ShelfOpened
 openShelf fmt h sz u shelf = elim (sizesOk sz && not (eqb (length shelf) (h * sz .S))) [
-  | true ↦ record { answer = refused 2 vacant; cache = blankCache; entries = noEntries }
-  | false ↦ record { answer = openStore fmt sz u .answer; cache = openStore fmt sz u .cache; entries = noEntries }
+  | true ↦ record { answer = refused 2 vacant; torn = 0; cache = blankCache; entries = noEntries }
+  | false ↦ let o = openStore fmt sz u in record { answer = o .answer; torn = o .torn; cache = o .cache; entries = noEntries }
 ]
 
 module _ (fmt : Format) (h : ℕ) (pick : Choice) where

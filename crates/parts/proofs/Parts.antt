@@ -109,6 +109,13 @@ module _ (sz : Sizes) (s f v r us : List ℕ) (u : Buffers) (n first : ℕ) (x w
           wear-is = k .wear-is;
           pages-are = k .pages-are ∙ pages-so;
         };
+        down = λ l. let k = h .down l in record {
+          answer-is = k .answer-is;
+          mends-are = k .mends-are;
+          directory-is = k .directory-is;
+          wear-is = k .wear-is;
+          pages-are = k .pages-are ∙ pages-so;
+        };
       };
       page-is = e ∙ buffer-so;
     }

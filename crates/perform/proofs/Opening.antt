@@ -14,7 +14,7 @@ use Rattle.model.specs.Sizes as model
 use Rattle.model.specs.Sizes.{isCoded, isMarked}
 use Rattle.model.specs.Sizes.{vacant, sizesOk}
 use Rattle.model.specs.Directory.{vacantDirectory}
-use Rattle.model.specs.Calls.{openDone, refused, Fits, lentOk}
+use Rattle.model.specs.Calls.{openDone, refused, Fits, lentOk, tornBlocks}
 use Rattle.model.specs.Formats.{storeFormat, codeLong, markLong}
 use Rattle.model.specs.Shelf.{noEntries, ShelfOpened, ShelfStore, storeOpen}
 use Rattle.answer.specs.Numbers.{openingOf}
@@ -81,6 +81,7 @@ module _ (sz : model.Sizes) where
   -- within limits, the store opens
   open-fresh : NoneAsked → sizesOk sz ≡ true → opens ≡ record {
     answer = openDone;
+    torn = tornBlocks sz (fresh sz .below .marks);
     cache = record { sizes = sz; directory = vacantDirectory };
     entries = noEntries;
   }

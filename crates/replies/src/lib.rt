@@ -7,9 +7,10 @@ use answer::Step;
 use answer::Write;
 use cache::VACANT;
 ghost use mathlib.Core.Path.{_≡_};
-ghost use Rattle.answer.specs.Numbers.{refusalOf, openingOf, readOf, writeOf, stepOf, flushOf};
+ghost use Rattle.model.specs.Sizes.{vacant};
+ghost use Rattle.answer.specs.Numbers.{refusalOf, openingOf, tornOf, readOf, writeOf, stepOf, flushOf};
 ghost use Rattle.answer.specs.Numbers.{mendsOfRead, mendsOfWrite, mendsOfStep, mendsOfFlush};
-ghost use Rattle.replies.specs.Numbers.{accepted, turnedDown, numbersOf};
+ghost use Rattle.replies.specs.Numbers.{accepted, turnedDown, answerNumbers, numbersOf};
 
 // `refusal` is document 01's number, and 0 where the call is accepted. What a call does not answer is 0, and `block` is VACANT where no
 // block is meant.
@@ -26,14 +27,16 @@ pub struct Answer {
     pub merged: u32,
     // chunks that the page codes mended
     pub mended: u32,
+    // torn blocks that an opening found
+    pub torn: u32,
 }
 
 // What an opening answers.
 pub fn of_opening(a: Opening) -> Answer
-    ensures { λ r. ⌜ r ≡ numbersOf (openingOf a) 0 ⌝ }
+    ensures { λ r. ⌜ r ≡ answerNumbers (openingOf a) 0 (tornOf a) ⌝ }
 {
     match a {
-        Opening::Done => done(0, VACANT, 0, 0, 0),
+        Opening::Done { torn } => opened(torn),
         Opening::Refused(why) => refused(why),
     }
 }
@@ -92,9 +95,24 @@ pub fn of_flush(a: Flush) -> Answer
     }
 }
 
-// An accepted call.
+// An accepted opening.
+fn opened(torn: u32) -> Answer
+    ensures { λ r. ⌜ r ≡ accepted 0 vacant 0 0 0 torn ⌝ }
+{
+    Answer {
+        refusal: 0,
+        way: 0,
+        block: VACANT,
+        rewrites: 0,
+        merged: 0,
+        mended: 0,
+        torn,
+    }
+}
+
+// Any other accepted call.
 fn done(way: u32, block: u32, rewrites: u32, merged: u32, mended: u32) -> Answer
-    ensures { λ r. ⌜ r ≡ accepted way block rewrites merged mended ⌝ }
+    ensures { λ r. ⌜ r ≡ accepted way block rewrites merged mended 0 ⌝ }
 {
     Answer {
         refusal: 0,
@@ -103,11 +121,12 @@ fn done(way: u32, block: u32, rewrites: u32, merged: u32, mended: u32) -> Answer
         rewrites,
         merged,
         mended,
+        torn: 0,
     }
 }
 
 // A refused one.
-fn refused(why: Refusal) -> Answer
+pub fn refused(why: Refusal) -> Answer
     ensures { λ r. ⌜ r ≡ numbersOf (refusalOf why) 0 ⌝ }
 {
     match why {
@@ -134,5 +153,6 @@ fn turned_down(number: u32, block: u32) -> Answer
         rewrites: 0,
         merged: 0,
         mended: 0,
+        torn: 0,
     }
 }

@@ -20,7 +20,7 @@ pub fn opening(out: &mut [u8], answer: Opening) -> usize
     ensures { λ r. ⌜ Printed lineRoom (openLine (openingOf answer)) (now (out .entry)) 0 (now (out .exit)) r ⌝ }
 {
     match answer {
-        Opening::Done => print::put_open(out, 0),
+        Opening::Done { torn: _ } => print::put_open(out, 0),
         Opening::Refused(why) => print::put_open_refused(out, 0, number(why)),
     }
 }

@@ -94,7 +94,7 @@ fn options() {
     vacant(b"1 shelf page", with_options(s, 0, 0, 1, 0), true);
     vacant(b"8 shelf pages", with_options(s, 0, 0, 8, 0), true);
     vacant(b"9 shelf pages", with_options(s, 0, 0, 9, 0), false);
-    vacant(b"marked 1", with_options(s, 0, 0, 0, 1), false);
+    vacant(b"marked 1", with_options(s, 0, 0, 0, 1), true);
     vacant(b"marked 2", with_options(s, 0, 0, 0, 2), false);
 }
 

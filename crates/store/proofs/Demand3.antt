@@ -36,16 +36,16 @@ use Rattle.store.specs.Histories.{AsContracted, byPolicy, saidBy, fedBy,
 use Rattle.store.specs.Histories.{Contract, OpeningContract, Legible, NeverUnreadable, UndoneBy, Undoes, TakenBack}
 
 -- the calls of a list, each by the policy of the record
-abbrev chosen : List Turn → List ShelfChosen
+abbrev pub chosen : List Turn → List ShelfChosen
 chosen [] = []
 chosen (t ∷ ts) = byPolicy (t .made) ∷ chosen ts
 
-chosen-pick : (ts : List Turn) → AllShelfPick (chosen ts)
+pub chosen-pick : (ts : List Turn) → AllShelfPick (chosen ts)
 chosen-pick [] = tt
 chosen-pick (t ∷ ts) = (policyChoice-picks, chosen-pick ts)
 
 -- the store after a call is the one in what came out of it
-store-after : (u : Lent) (m : Made) → resultOf u m .store ≡ storeOf (cacheAfter m) (lentAfter u m)
+pub store-after : (u : Lent) (m : Made) → resultOf u m .store ≡ storeOf (cacheAfter m) (lentAfter u m)
 store-after u (read n page out page′) = refl
 store-after u (write n page out u′) = refl
 store-after u (part n first x page out u′ page′) = refl
@@ -55,10 +55,10 @@ store-after u (back out below′) = refl
 
 -- one call of a store with sizes sz, by its contract
 module _ (sz : model.Sizes) (c : Cache) (v : Lent) (m : Made) (e : sizesOf (c .sizes) ≡ sz) (h : Contract c v m) where
-  called : resultOf v m ≡ shelfCall storeFormat (sz .shelfPages) policyChoice (storeOf c v) (callOf m)
+  pub called : resultOf v m ≡ shelfCall storeFormat (sz .shelfPages) policyChoice (storeOf c v) (callOf m)
   called = h ∙ ap (λ (w : model.Sizes). shelfCall storeFormat (w .shelfPages) policyChoice (storeOf c v) (callOf m)) e
 
-  same-sizes : sizesOf (cacheAfter m .sizes) ≡ sz
+  pub same-sizes : sizesOf (cacheAfter m .sizes) ≡ sz
   same-sizes = ap (λ (s : ShelfStore). s .store .cache .sizes) (sym (store-after v m))
       ∙ ap (λ (x : ShelfResult). x .store .store .cache .sizes) called
       ∙ sizes-stay storeFormat policyChoice (sz .shelfPages) (storeOf c v) (callOf m) ∙ e
@@ -68,7 +68,7 @@ module _ (sz : model.Sizes) (u₀ : Lent) where
   Left ts s r = ShelfClaim storeFormat StoreNear sz (sz .shelfPages) (u₀ .below) (chosen ts) s r
 
   -- what the reference is fed, with a result x of the call m
-  abbrev fedWith : ShelfReference → Made → ShelfResult → ShelfReference
+  abbrev pub fedWith : ShelfReference → Made → ShelfResult → ShelfReference
   fedWith r m x = shelfFed sz (sz .shelfPages) r (byPolicy m) (shelfBookSays sz (sz .shelfPages) r (byPolicy m) (x .answer))
       (flashCells storeFormat sz (x .store .store .lent))
 
@@ -98,16 +98,16 @@ module _ (sz : model.Sizes) (u₀ : Lent) where
 
 -- what an accepted opening begins with
 module _ (sz : model.Sizes) (u : Lent) (done : storeOpen sz (u .below) (u .shelf) .answer ≡ openDone) where
-  opened-as : (storeOpen sz (u .below) (u .shelf) ≡ openedBelow sz (u .below)) × (length (u .shelf) ≡ sz .shelfPages * sz .S)
+  pub opened-as : (storeOpen sz (u .below) (u .shelf) ≡ openedBelow sz (u .below)) × (length (u .shelf) ≡ sz .shelfPages * sz .S)
   opened-as = opened-shelf sz (u .below) (u .shelf) done
 
-  accepted : openStore storeFormat sz (u .below) .answer ≡ openDone
+  pub accepted : openStore storeFormat sz (u .below) .answer ≡ openDone
   accepted = ap (λ (x : ShelfOpened). x .answer) (sym (opened-as .0)) ∙ done
 
   within : model.InLimits sz
   within = limits-of sz (open-accepted storeFormat sz (u .below) accepted .sizes-ok)
 
-  few-pages : sz .shelfPages ≤ 8
+  pub few-pages : sz .shelfPages ≤ 8
   few-pages = within .shelf-high
 
   -- the store, with the record that the opening made

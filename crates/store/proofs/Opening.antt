@@ -14,7 +14,7 @@ use Rattle.model.specs.Sizes.{Sizes, vacant, sizesOk, InLimits}
 use Rattle.model.specs.Directory.{vacantDirectory, blankCache}
 use Rattle.model.specs.Formats.{storeFormat}
 use Rattle.model.specs.Shelf.{ShelfOpened, noEntries, storeOpen}
-use Rattle.model.specs.Calls.{Buffers, openDone, refused, lentOk, openStore}
+use Rattle.model.specs.Calls.{Buffers, openDone, refused, lentOk, tornBlocks, openStore}
 use Rattle.model.proofs.Shelving.{openedBelow, open-fit, open-unfit, open-unsized}
 
 pub wear-length : (sz : Sizes) (u : Buffers) → lentOk storeFormat sz u ≡ true → length (u .wear) ≡ sz .N
@@ -27,7 +27,15 @@ shelf-small sz h = let a : sz .shelfPages * sz .S ≤ 8 * 2048 = mul-le-mul (h .
 
 module _ (sz : Sizes) (u : Buffers) where
   abbrev refusedAs : ℕ → ShelfOpened
-  refusedAs n = record { answer = refused n vacant; cache = blankCache; entries = noEntries }
+  refusedAs n = record { answer = refused n vacant; torn = 0; cache = blankCache; entries = noEntries }
+
+  abbrev doneWith : ShelfOpened
+  doneWith = record {
+    answer = openDone;
+    torn = tornBlocks sz (u .marks);
+    cache = record { sizes = sz; directory = vacantDirectory };
+    entries = noEntries;
+  }
 
   abbrev within : ℕ → Bool
   within n = all n (λ b. leb (getD (u .wear) b 0) (sz .W))
@@ -45,7 +53,7 @@ module _ (sz : Sizes) (u : Buffers) where
   overworn-below a b c = let d : within (sz .N) ≡ false = sym (ap within (wear-length sz u b)) ∙ c in rw (a, openStore) (rw b (rw d))
 
   done-below : sizesOk sz ≡ true → lentOk storeFormat sz u ≡ true → within (length (u .wear)) ≡ true → openedBelow sz u
-      ≡ record { answer = openDone; cache = record { sizes = sz; directory = vacantDirectory }; entries = noEntries }
+      ≡ doneWith
   unfolding openStore
   done-below a b c = let d : within (sz .N) ≡ true = sym (ap within (wear-length sz u b)) ∙ c in rw (a, openStore) (rw b (rw d))
 
@@ -69,5 +77,5 @@ module _ (sz : Sizes) (u : Buffers) where
     open-overworn a b e c = open-fit sz u sb e ∙ overworn-below a b c
 
     pub open-done : sizesOk sz ≡ true → lentOk storeFormat sz u ≡ true → Fitting → within (length (u .wear)) ≡ true
-        → storeOpen sz u sb ≡ record { answer = openDone; cache = record { sizes = sz; directory = vacantDirectory }; entries = noEntries }
+        → storeOpen sz u sb ≡ doneWith
     open-done a b e c = open-fit sz u sb e ∙ done-below a b c

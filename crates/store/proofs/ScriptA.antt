@@ -25,7 +25,7 @@ use Rattle.model.specs.Moves.{oneMore}
 use Rattle.model.specs.Calls.{checked, readOutcome, writeOutcome, stepOutcome, steps, flushOutcome, decide, stepsPages, callPages, Page}
 use Rattle.model.specs.Calls.{Buffers, lentOk, openStore, zeroPage, memoryOf, buffersOf, flashCells, carriedOut, callReading, call}
 use Rattle.model.specs.Calls.{readsAll, heeding, faultOf, faultMet, somePage, mendsOf, mendsMet, readsFlash, readsPage, stepsMerge}
-use Rattle.model.specs.Calls.{mergesPage, sum, openDone, Answer, isRefused}
+use Rattle.model.specs.Calls.{tornBlocks, mergesPage, sum, openDone, Answer, isRefused}
 use Rattle.model.specs.Calls as calls
 use Rattle.model.specs.Formats.{formatOf, torn, storeFormat, StoreNear}
 use Rattle.model.specs.Lists.{fed, flashPages, After}
@@ -78,7 +78,7 @@ holding m n b v c = record {
 }
 
 abbrev pub opening : Opened
-opening = record { cache = holding vacant vacant vacant 0 0; answer = openings.Done }
+opening = record { cache = holding vacant vacant vacant 0 0; answer = openings.Done 0 }
 
 abbrev byte : ℕ → Page
 byte b = b ∷ []
@@ -127,7 +127,7 @@ abbrev pub turns : List Turn
 turns = quietly lentA made-a
 
 pub accepted : OpeningContract sizes lentA opening
-unfolding openShelf openStore lentOk isCoded isMarked sizesOk vacantDirectory blankCache every all tab tabFrom directoryOf
+unfolding openShelf openStore lentOk isCoded isMarked sizesOk vacantDirectory blankCache every all tab tabFrom directoryOf tornBlocks count
 accepted = refl
 
 -- each call was made on what the one before it left, and did what its contract says

@@ -2,13 +2,12 @@
 use mathlib.Core.List.{List, []}
 use Prim.Native.Nat.{ℕ}
 use Rattle.model.specs.Directory as directory
-use Rattle.model.specs.Calls.{Answer, Buffers, Page}
+use Rattle.model.specs.Calls.{Buffers, Page}
 use Rattle.model.specs.Shelf.{ShelfOpened, ShelfStore, ShelfResult}
 use Rattle.cache.specs.declared.Sizes.{Sizes}
 use Rattle.cache.specs.View.{sizesOf, directoryOf}
-use Rattle.checked.specs.Lists.{storeWith}
 use Rattle.answer.specs.Carried.{buffers}
-use Rattle.answer.specs.Numbers.{openingOf, readOf, writeOf, stepOf, flushOf, mendsOfRead, mendsOfWrite, mendsOfStep, mendsOfFlush}
+use Rattle.answer.specs.Numbers.{openingOf, tornOf, readOf, writeOf, stepOf, flushOf, mendsOfRead, mendsOfWrite, mendsOfStep, mendsOfFlush}
 use Rattle.store.specs.declared.Cache.{Cache}
 use Rattle.store.specs.declared.Opened.{Opened}
 use Rattle.store.specs.declared.ReadOut.{ReadOut}
@@ -20,7 +19,7 @@ abbrev pub cacheOf : Cache → directory.Cache
 cacheOf c = record { sizes = sizesOf (c .sizes); directory = directoryOf (c .directory) }
 
 abbrev pub openedOf : Opened → ShelfOpened
-openedOf r = record { answer = openingOf (r .answer); cache = cacheOf (r .cache); entries = r .cache .entries }
+openedOf r = record { answer = openingOf (r .answer); torn = tornOf (r .answer); cache = cacheOf (r .cache); entries = r .cache .entries }
 
 -- what is lent: the buffers that every store has, and the shelf
 pub record Lent : Type 0 where
@@ -38,14 +37,6 @@ plainLent flash wear pspace bspace = lent flash [] [] wear pspace bspace []
 -- the record with its lent buffers
 abbrev pub storeOf : Cache → Lent → ShelfStore
 storeOf c u = record { store = record { cache = cacheOf c; lent = u .below }; entries = c .entries; shelf = u .shelf }
-
--- the same of the directory's lists and the entries
-abbrev pub storeOn : Sizes → directory.Directory → List ℕ → Lent → ShelfStore
-storeOn z d es u = record { store = storeWith z d (u .below); entries = es; shelf = u .shelf }
-
--- what a call on them leaves
-abbrev pub resultOn : Answer → ℕ → Sizes → directory.Directory → List ℕ → Lent → Page → ShelfResult
-resultOn a mends z d es u page = record { answer = a; mends = mends; store = storeOn z d es u; page = page }
 
 abbrev pub readResult : ReadOut → Lent → Page → ShelfResult
 readResult r u page = record { answer = readOf (r .answer); mends = mendsOfRead (r .answer); store = storeOf (r .cache) u; page = page }

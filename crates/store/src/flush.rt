@@ -2,7 +2,6 @@
 use crate::Cache;
 use crate::FlushOut;
 use crate::StepOut;
-use crate::lists;
 use cache::Directory;
 ghost use Rattle.store.specs.View.{lent};
 ghost use Rattle.store.specs.Histories.{Contract};
@@ -34,7 +33,7 @@ impl Cache {
         let mut valid = d.valid;
         let recency = d.recency;
         let mut uses = d.uses;
-        let answer = lists::step(
+        let answer = shelving::step(
             z,
             &entries,
             &mut slots,
@@ -49,6 +48,7 @@ impl Cache {
             pspace,
             bspace,
             shelf,
+            checked::UNCUT,
         );
         StepOut {
             cache: Cache {
@@ -85,7 +85,7 @@ impl Cache {
         let mut valid = d.valid;
         let recency = d.recency;
         let mut uses = d.uses;
-        let answer = lists::flush(
+        let answer = shelving::flush(
             z,
             &entries,
             &mut slots,
@@ -100,6 +100,7 @@ impl Cache {
             pspace,
             bspace,
             shelf,
+            checked::UNCUT,
         );
         FlushOut {
             cache: Cache {

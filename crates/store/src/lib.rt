@@ -1,13 +1,11 @@
 // The page store: the cache record, and the calls on it. Each call takes the record by value with the lent buffers and hands
 // back the next record beside its answer; a refused call changes nothing.
 mod back; // back.rt: taking a write back
+mod cut; // cut.rt: calls that are cut off after so many operations of the chip
 mod flush; // flush.rt: a flush step, and a flush
-mod keep; // keep.rt: writes of a store with shelf pages
-mod lists; // lists.rt: the calls on the directory's lists
 mod open; // open.rt: the blank record, and opening a store
 mod part; // part.rt: writing part of a page
 mod read; // read.rt: reading a page
-mod unfit; // unfit.rt: calls that are refused for their entries and shelf
 mod write; // write.rt: writing a page
 
 use answer::Opening;

@@ -24,7 +24,7 @@ impl Cache {
         }
     }
 
-    // Opens a store of these sizes on the buffers lent: checks the sizes, the buffers' lengths and the wear.
+    // Opens a store of these sizes on the buffers lent: checks the sizes, the buffers' lengths and the wear, and counts the torn blocks.
     pub fn open(
         sizes: Sizes,
         flash: &[u8],
@@ -61,20 +61,21 @@ impl Cache {
         if !lent::wear_ok(wear, sizes.wear_limit) {
             return refused(Refusal::Overworn);
         }
+        let torn = chip::torn::count(sizes, marks);
         Opened {
             cache: Cache {
                 sizes: sizes,
                 entries: [VACANT; 8],
                 directory: Directory::vacant(),
             },
-            answer: Opening::Done,
+            answer: Opening::Done { torn },
         }
     }
 }
 
 // A refused opening, with the blank record.
 fn refused(why: Refusal) -> Opened
-    ensures { λ r. ⌜ openedOf r ≡ record { answer = refusalOf why; cache = blankCache; entries = noEntries } ⌝ }
+    ensures { λ r. ⌜ openedOf r ≡ record { answer = refusalOf why; torn = 0; cache = blankCache; entries = noEntries } ⌝ }
 {
     Opened {
         cache: Cache::blank(),

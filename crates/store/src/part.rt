@@ -1,7 +1,6 @@
 // Writing part of a page.
 use crate::Cache;
 use crate::WriteOut;
-use crate::lists;
 use address::PageNo;
 use cache::Directory;
 ghost use Rattle.store.specs.View.{lent};
@@ -40,7 +39,7 @@ impl Cache {
         let mut valid = d.valid;
         let mut recency = d.recency;
         let mut uses = d.uses;
-        let answer = lists::part(
+        let answer = shelving::part(
             z,
             &mut entries,
             &mut slots,
@@ -59,6 +58,7 @@ impl Cache {
             first,
             bytes,
             page,
+            checked::UNCUT,
         );
         WriteOut {
             cache: Cache {

@@ -1,7 +1,6 @@
 // Reading a page.
 use crate::Cache;
 use crate::ReadOut;
-use crate::lists;
 use address::PageNo;
 ghost use Rattle.store.specs.View.{lent};
 ghost use Rattle.store.specs.Histories.{Contract};
@@ -35,7 +34,7 @@ impl Cache {
         let valid = d.valid;
         let mut recency = d.recency;
         let mut uses = d.uses;
-        let answer = lists::read(
+        let answer = shelving::read(
             z,
             &entries,
             &slots,

@@ -1,7 +1,6 @@
 // Writing a page.
 use crate::Cache;
 use crate::WriteOut;
-use crate::lists;
 use address::PageNo;
 use cache::Directory;
 ghost use Rattle.store.specs.View.{lent};
@@ -37,7 +36,7 @@ impl Cache {
         let mut valid = d.valid;
         let mut recency = d.recency;
         let mut uses = d.uses;
-        let answer = lists::write(
+        let answer = shelving::write(
             z,
             &mut entries,
             &mut slots,
@@ -54,6 +53,7 @@ impl Cache {
             shelf,
             n,
             page,
+            checked::UNCUT,
         );
         WriteOut {
             cache: Cache {

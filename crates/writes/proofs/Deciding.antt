@@ -203,6 +203,7 @@ module _ (sz : Sizes) (d : Directory) (u : Buffers) (n : ℕ) (page : Page) (bes
             wear-is = c .wear-is e;
             pages-are = c .pages-are e;
           };
+          down = λ e. clash e refl;
         }))
 
     -- the plan may be carried out then

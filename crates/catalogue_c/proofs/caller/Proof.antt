@@ -22,7 +22,7 @@ returns-3 c =
     let else1 : tie.Else1 = search in
     let start : tie.Start = search in
     λ i. record {
-      role = role-2-of (start .args .role) (start .pre) (else1 .if1 .left) (else2 .if2 .left) i;
+      role = role-2-of (start .args .role) (else1 .if1 .left) (else2 .if2 .left) i;
       number = start .args .number;
     }
 

@@ -28,30 +28,30 @@ mark-size-requires c κs = search needs
 cast-at : tie.Need-cast-at
 cast-at c = search needs
 
-fill-page-requires : tie.Need-fill-page-requires
-fill-page-requires c κs =
-    let size : tie.After-block-size = search in let start : tie.Start = search in let q = start .pre in
-    rw (size .block-size .ensures) (block-fits _ _ _ (start .args .flash .now) (q .lent .codes-lent .flash-length) _ (q .b-lt))
-
 mul-fill-page : tie.Need-mul-fill-page
 mul-fill-page c =
-    let code : tie.After-code-size = search in let start : tie.Start = search in
-    record { fits = codes-fit _ (start .pre .lent .codes-lent .limits) _ (code .code-size .ensures) }
-
-fill-page-requires-2 : tie.Need-fill-page-requires-2
-fill-page-requires-2 c κs =
-    let code : tie.After-code-size = search in let start : tie.Start = search in let q = start .pre in
-    rw (code .code-size .ensures) (block-fits _ _ _ (start .args .codes .now) (q .lent .codes-lent .codes-length) _ (q .b-lt))
-
-mul-fill-page-2 : tie.Need-mul-fill-page-2
-mul-fill-page-2 c =
     let mark : tie.After-mark-size = search in let start : tie.Start = search in
     record { fits = marks-fit _ (start .pre .lent .codes-lent .limits) _ (mark .mark-size .ensures) }
 
-fill-page-requires-3 : tie.Need-fill-page-requires-3
-fill-page-requires-3 c κs =
+fill-page-requires : tie.Need-fill-page-requires
+fill-page-requires c κs =
     let mark : tie.After-mark-size = search in let start : tie.Start = search in let q = start .pre in
     rw (mark .mark-size .ensures) (block-fits _ _ _ (start .args .marks .now) (q .lent .marks-length) _ (q .b-lt))
+
+fill-page-requires-2 : tie.Need-fill-page-requires-2
+fill-page-requires-2 c κs =
+    let size : tie.After-block-size = search in let start : tie.Start = search in let q = start .pre in
+    rw (size .block-size .ensures) (block-fits _ _ _ (start .args .flash .now) (q .lent .codes-lent .flash-length) _ (q .b-lt))
+
+mul-fill-page-2 : tie.Need-mul-fill-page-2
+mul-fill-page-2 c =
+    let code : tie.After-code-size = search in let start : tie.Start = search in
+    record { fits = codes-fit _ (start .pre .lent .codes-lent .limits) _ (code .code-size .ensures) }
+
+fill-page-requires-3 : tie.Need-fill-page-requires-3
+fill-page-requires-3 c κs =
+    let code : tie.After-code-size = search in let start : tie.Start = search in let q = start .pre in
+    rw (code .code-size .ensures) (block-fits _ _ _ (start .args .codes .now) (q .lent .codes-lent .codes-length) _ (q .b-lt))
 
 mul-wear : tie.Need-mul-wear
 mul-wear c = search needs
@@ -88,7 +88,7 @@ returns c =
     let start : tie.Start = search in let q = start .pre in
     record {
       cells-are = erased-by _ _ _ _ _ (q .lent) (q .b-lt) _ _ _ (size .block-size .ensures) (code .code-size .ensures)
-          (mark .mark-size .ensures) _ _ _ (fill .fill-page .ensures) (fill2 .fill-page2 .ensures) (fill3 .fill-page3 .ensures);
+          (mark .mark-size .ensures) _ _ _ (fill2 .fill-page2 .ensures) (fill3 .fill-page3 .ensures) (fill .fill-page .ensures);
       wear-is = rw add-one;
     }
 
@@ -101,8 +101,8 @@ erase-spec =
     code-size-requires
     mark-size-requires
     cast-at
-    fill-page-requires
     mul-fill-page
+    fill-page-requires
     fill-page-requires-2
     mul-fill-page-2
     fill-page-requires-3

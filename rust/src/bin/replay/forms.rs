@@ -1,59 +1,40 @@
-//! What a line may say: the tables of forms, options and record fields, each with the release from which it is in force.
+//! What a line may say: the table of forms, each with the release from which it is in force.
+use crate::fields::{options, sizes, spoilt, Field};
+use crate::words::Words;
 use crate::Release;
-use clash::{Cache, Catalogue, NewRun, Options, Role, Sizes};
+use clash::{Catalogue, NewRun, Options, Role, Setting, Sizes};
 
+/// A page buffer has `len` bytes, as many as the record's page size where that is not said. A cut names its call's word.
 pub enum Form {
     Open(Sizes, Options),
     Reopen(Sizes, Options),
-    SetWear {
-        block: u32,
-        wear: u32,
-    },
-    FlipCode {
-        byte: u32,
-        bit: u32,
-    },
-    FlipFlash {
-        byte: u32,
-        bit: u32,
-    },
-    Spoil {
-        field: &'static Field,
-        index: usize,
-        value: u64,
-    },
-    /// a page buffer of `len` bytes, of the record's page size where it is not said
-    Write {
-        n: u32,
-        seed: u32,
-        len: Option<u32>,
-    },
-    Read {
-        n: u32,
-        len: Option<u32>,
-    },
-    /// `len` bytes from byte `first` of the page on
-    Part {
-        n: u32,
-        first: u32,
-        seed: u32,
-        len: u32,
-    },
-    TakeBack,
-    Step,
-    Flush,
-    /// a call of the catalogue, and who makes it
-    Run(Catalogue, RunCall),
+    SetWear { block: u32, wear: u32 },
+    SetMark { n: u32, mark: u32 },
+    FlipCode { byte: u32, bit: u32 },
+    FlipFlash { byte: u32, bit: u32 },
+    Spoil { field: &'static Field, index: usize, value: u64 },
+    Read { n: u32, len: Option<u32> },
+    Look { who: Catalogue, run: u32 },
+    List { who: Catalogue, position: u32 },
+    ReadRun { who: Catalogue, run: u32, index: u32 },
+    Call(Call),
+    Cut { operations: u32, word: &'static str, call: Call },
+    Rehearse(Setting),
+    Report,
     Dump,
 }
 
-pub enum RunCall {
-    Add(NewRun),
-    Look { run: u32 },
-    List { position: u32 },
-    Read { run: u32, index: u32 },
-    Mark { run: u32, mark: u32 },
-    Replace { run: u32, new: NewRun },
+/// A call that may change a buffer. A part write has `len` bytes, from byte `first` of the page on.
+#[derive(Clone, Copy)]
+pub enum Call {
+    Write { n: u32, seed: u32, len: Option<u32> },
+    Part { n: u32, first: u32, seed: u32, len: u32 },
+    TakeBack,
+    Step,
+    Flush,
+    Add { who: Catalogue, new: NewRun },
+    Replace { who: Catalogue, run: u32, new: NewRun },
+    Mark { who: Catalogue, run: u32, mark: u32 },
 }
 
 /// A form by its first word, and how it is made of the words after it.
@@ -68,66 +49,32 @@ const FORMS: &[Row] = &[
     Row { word: "open", since: 0, make: |w| Some(Form::Open(sizes(w)?, options(w)?)) },
     Row { word: "reopen", since: 0, make: |w| Some(Form::Reopen(sizes(w)?, options(w)?)) },
     Row { word: "setwear", since: 0, make: |w| Some(Form::SetWear { block: w.number()?, wear: w.number()? }) },
+    Row { word: "setmark", since: 12, make: |w| Some(Form::SetMark { n: w.number()?, mark: w.number()? }) },
     Row { word: "flip", since: 0, make: flip },
-    Row { word: "spoil", since: 0, make: spoil },
-    Row { word: "write", since: 0, make: |w| Some(Form::Write { n: w.number()?, seed: w.number()?, len: None }) },
-    Row { word: "writelen", since: 0, make: |w| Some(Form::Write { n: w.number()?, seed: w.number()?, len: Some(w.number()?) }) },
+    Row { word: "spoil", since: 0, make: |w| spoilt(w).map(|(field, index, value)| Form::Spoil { field, index, value }) },
     Row { word: "read", since: 0, make: |w| Some(Form::Read { n: w.number()?, len: None }) },
     Row { word: "readlen", since: 0, make: |w| Some(Form::Read { n: w.number()?, len: Some(w.number()?) }) },
-    Row { word: "part", since: 1, make: |w| Some(Form::Part { n: w.number()?, first: w.number()?, seed: w.number()?, len: w.number()? }) },
-    Row { word: "takeback", since: 8, make: |_| Some(Form::TakeBack) },
-    Row { word: "step", since: 0, make: |_| Some(Form::Step) },
-    Row { word: "flush", since: 0, make: |_| Some(Form::Flush) },
-    Row { word: "add", since: 9, make: |w| Some(Form::Run(caller(w)?, RunCall::Add(new_run(w)?))) },
-    Row { word: "look", since: 9, make: |w| Some(Form::Run(caller(w)?, RunCall::Look { run: w.number()? })) },
-    Row { word: "list", since: 9, make: |w| Some(Form::Run(caller(w)?, RunCall::List { position: w.number()? })) },
-    Row { word: "cread", since: 9, make: |w| Some(Form::Run(caller(w)?, RunCall::Read { run: w.number()?, index: w.number()? })) },
-    Row { word: "mark", since: 9, make: |w| Some(Form::Run(caller(w)?, RunCall::Mark { run: w.number()?, mark: w.number()? })) },
-    Row { word: "replace", since: 11, make: |w| Some(Form::Run(caller(w)?, RunCall::Replace { run: w.number()?, new: new_run(w)? })) },
+    Row { word: "write", since: 0, make: |w| call(Call::Write { n: w.number()?, seed: w.number()?, len: None }) },
+    Row { word: "writelen", since: 0, make: |w| call(Call::Write { n: w.number()?, seed: w.number()?, len: Some(w.number()?) }) },
+    Row { word: "part", since: 1, make: |w| call(Call::Part { n: w.number()?, first: w.number()?, seed: w.number()?, len: w.number()? }) },
+    Row { word: "takeback", since: 8, make: |_| call(Call::TakeBack) },
+    Row { word: "step", since: 0, make: |_| call(Call::Step) },
+    Row { word: "flush", since: 0, make: |_| call(Call::Flush) },
+    Row { word: "add", since: 9, make: |w| call(Call::Add { who: caller(w)?, new: new_run(w)? }) },
+    Row { word: "look", since: 9, make: |w| Some(Form::Look { who: caller(w)?, run: w.number()? }) },
+    Row { word: "list", since: 9, make: |w| Some(Form::List { who: caller(w)?, position: w.number()? }) },
+    Row { word: "cread", since: 9, make: |w| Some(Form::ReadRun { who: caller(w)?, run: w.number()?, index: w.number()? }) },
+    Row { word: "mark", since: 9, make: |w| call(Call::Mark { who: caller(w)?, run: w.number()?, mark: w.number()? }) },
+    Row { word: "replace", since: 11, make: |w| call(Call::Replace { who: caller(w)?, run: w.number()?, new: new_run(w)? }) },
+    Row { word: "cut", since: 12, make: cut },
+    Row { word: "rehearse", since: 13, make: rehearse },
+    Row { word: "report", since: 14, make: |_| Some(Form::Report) },
     Row { word: "dump", since: 0, make: |_| Some(Form::Dump) },
 ];
 
-/// An option of an opening: 0 before its release, and never above `most`.
-struct Choice {
-    since: u32,
-    most: u32,
+fn call(call: Call) -> Option<Form> {
+    Some(Form::Call(call))
 }
-
-const POLICY: Choice = Choice { since: 5, most: u32::MAX };
-const CODED: Choice = Choice { since: 6, most: 1 };
-const SHELF: Choice = Choice { since: 8, most: u32::MAX };
-const MARKED: Choice = Choice { since: 12, most: 1 };
-
-/// A field of the record: how many entries it has, the largest number that one holds, and how it is set.
-pub struct Field {
-    word: &'static str,
-    since: u32,
-    entries: usize,
-    most: u64,
-    pub set: fn(&mut Cache, usize, u64),
-}
-
-const WORD: u64 = u32::MAX as u64;
-
-#[rustfmt::skip]
-static FIELDS: &[Field] = &[
-    Field { word: "s", since: 0, entries: 1, most: WORD, set: |c, _, v| c.sizes.page_size = v as u32 },
-    Field { word: "k", since: 0, entries: 1, most: WORD, set: |c, _, v| c.sizes.pages_per_block = v as u32 },
-    Field { word: "n", since: 0, entries: 1, most: WORD, set: |c, _, v| c.sizes.blocks = v as u32 },
-    Field { word: "p", since: 0, entries: 1, most: WORD, set: |c, _, v| c.sizes.slots = v as u32 },
-    Field { word: "b", since: 0, entries: 1, most: WORD, set: |c, _, v| c.sizes.frames = v as u32 },
-    Field { word: "w", since: 0, entries: 1, most: WORD, set: |c, _, v| c.sizes.wear_limit = v as u32 },
-    Field { word: "place", since: 0, entries: 128, most: WORD, set: |c, i, v| c.directory.slots[i] = v as u32 },
-    Field { word: "frame", since: 0, entries: 8, most: WORD, set: |c, i, v| c.directory.frames[i] = v as u32 },
-    Field { word: "valid", since: 0, entries: 8, most: u64::MAX, set: |c, i, v| c.directory.valid[i] = v },
-    Field { word: "order", since: 0, entries: 8, most: 255, set: |c, i, v| c.directory.recency[i] = v as u8 },
-    Field { word: "policy", since: 5, entries: 1, most: WORD, set: |c, _, v| c.options.policy = v as u32 },
-    Field { word: "uses", since: 5, entries: 8, most: WORD, set: |c, i, v| c.directory.uses[i] = v as u32 },
-    Field { word: "coded", since: 6, entries: 1, most: WORD, set: |c, _, v| c.options.coded = v as u32 },
-    Field { word: "shelf", since: 8, entries: 1, most: WORD, set: |c, _, v| c.options.shelf_pages = v as u32 },
-    Field { word: "shelfno", since: 8, entries: 8, most: WORD, set: |c, i, v| c.entries[i] = v as u32 },
-    Field { word: "marked", since: 12, entries: 1, most: WORD, set: |c, _, v| c.options.marked = v as u32 },
-];
 
 /// The form that a line says, with its first word; none where the line is bad.
 pub fn parse(release: Release, line: &[u8]) -> Option<(&'static str, Form)> {
@@ -141,23 +88,6 @@ fn form(words: &mut Words) -> Option<(&'static str, Form)> {
     let first = words.next()?;
     let row = FORMS.iter().find(|row| words.release.has(row.since) && row.word.as_bytes() == first)?;
     Some((row.word, (row.make)(words)?))
-}
-
-fn sizes(words: &mut Words) -> Option<Sizes> {
-    let mut sizes = [0; 6];
-    for size in &mut sizes {
-        *size = words.number()?;
-    }
-    Some(Sizes::from(sizes))
-}
-
-fn options(words: &mut Words) -> Option<Options> {
-    Some(Options {
-        policy: words.choice(POLICY)?,
-        coded: words.choice(CODED)?,
-        shelf_pages: words.choice(SHELF)?,
-        marked: words.choice(MARKED)?,
-    })
 }
 
 /// The number of sheets, the role and the trainee number. Before roles are in force whoever calls may do all, and sees all.
@@ -177,55 +107,26 @@ fn new_run(words: &mut Words) -> Option<NewRun> {
     Some(NewRun { sample: words.number()?, first: words.number()?, count: words.number()? })
 }
 
+fn rehearse(words: &mut Words) -> Option<Form> {
+    let (sizes, benches, turns) = (sizes(words)?, words.number()?, words.number()?);
+    let (write_rate, run_rate, state) = (words.number()?, words.number()?, words.number()?);
+    Some(Form::Rehearse(Setting { sizes, benches, turns, write_rate, run_rate, state }))
+}
+
+/// A call with the number of its operations before it; one with a page buffer of another length cannot be cut.
+fn cut(words: &mut Words) -> Option<Form> {
+    let operations = words.number()?;
+    match form(words)? {
+        (word, Form::Call(call)) if word != "writelen" => Some(Form::Cut { operations, word, call }),
+        _ => None,
+    }
+}
+
 fn flip(words: &mut Words) -> Option<Form> {
     match words.next()? {
         b"flash" => Some(Form::FlipFlash { byte: words.number()?, bit: words.number()? }),
         b"code" if words.release.has(6) => Some(Form::FlipCode { byte: words.number()?, bit: words.number()? }),
         _ => None,
-    }
-}
-
-fn spoil(words: &mut Words) -> Option<Form> {
-    let name = words.next()?;
-    let field = FIELDS.iter().find(|field| words.release.has(field.since) && field.word.as_bytes() == name)?;
-    let index = words.number()? as usize;
-    let value = words.wide()?;
-    // the index of a field that is one number is ignored
-    let fits = (field.entries == 1 || index < field.entries) && value <= field.most;
-    fits.then_some(Form::Spoil { field, index, value })
-}
-
-/// The words of a line that are still to be read, none once the last was read, and the release that they are read at.
-struct Words<'a> {
-    release: Release,
-    rest: Option<&'a [u8]>,
-}
-
-impl<'a> Words<'a> {
-    /// The next word; single spaces part them, so that it is empty where two stand together.
-    fn next(&mut self) -> Option<&'a [u8]> {
-        let rest = self.rest?;
-        let end = rest.iter().position(|&byte| byte == b' ');
-        self.rest = end.map(|at| &rest[at + 1..]);
-        Some(&rest[..end.unwrap_or(rest.len())])
-    }
-
-    fn number(&mut self) -> Option<u32> {
-        self.wide()?.try_into().ok()
-    }
-
-    fn choice(&mut self, choice: Choice) -> Option<u32> {
-        let most = if self.release.has(choice.since) { choice.most } else { 0 };
-        self.number().filter(|&x| x <= most)
-    }
-
-    /// A decimal number of 64 bits without leading zeros.
-    fn wide(&mut self) -> Option<u64> {
-        let digits = self.next()?;
-        if !digits.iter().all(u8::is_ascii_digit) || (digits.len() > 1 && digits[0] == b'0') {
-            return None;
-        }
-        std::str::from_utf8(digits).ok()?.parse().ok()
     }
 }
 
@@ -287,6 +188,14 @@ mod tests {
             "(cread 1 2 0 1 0)",
             "(mark 1 2 0 1 4294967295)",
             "(replace 1 1 0 1 0 0 0)",
+            "(open 1 2 3 2 1 9 0 0 0 1)",
+            "(spoil marked 0 9)",
+            "(setmark 0 255)",
+            "(cut 0 step)",
+            "(cut 4294967295 part 0 0 0 0)",
+            "(cut 3 replace 1 1 0 1 0 0 0)",
+            "(rehearse 0 0 0 0 0 0 0 0 0 0 4294967295)",
+            "(report)",
         ] {
             assert!(parse(line.as_bytes()).is_some(), "{line}");
         }
@@ -312,13 +221,12 @@ mod tests {
         "(spoil order 0 256)",
         "(spoil place 128 0)",
         "(spoil valid 0 18446744073709551616)",
-        "(spoil marked 0 0)",
         "(spoil shelfno 8 0)",
         "(flip code 0)",
         "(flip mark 0 0)",
         "(open 1 2 3 2 1 9)",
         "(open 1 2 3 2 1 9 0 2 0 0)",
-        "(open 1 2 3 2 1 9 0 0 0 1)",
+        "(open 1 2 3 2 1 9 0 0 0 2)",
         "(part 0 0 1)",
         "(part 0 0 1 1 1)",
         "(takeback 0)",
@@ -329,8 +237,20 @@ mod tests {
         "(list 1 0 0 0 0)",
         "(mark 1 2 0 1)",
         "(replace 1 1 0 1 0 0)",
-        "(cut 1 step)",
-        "(report)",
+        "(setmark 0)",
+        "(cut step)",
+        "(cut 1)",
+        "(cut 1 read 0)",
+        "(cut 1 look 1 0 0 1)",
+        "(cut 1 writelen 0 0 1)",
+        "(cut 1 cut 1 step)",
+        "(cut 1 (step))",
+        "(cut 4294967296 step)",
+        "(rehearse 1 2 3 2 1 9 1 0 0 0)",
+        "(rehearse 1 2 3 2 1 9 1 0 0 0 0 0)",
+        "(cut 1 rehearse 1 2 3 2 1 9 1 0 0 0 0)",
+        "(report 0)",
+        "(cut 1 report)",
     ];
 
     #[test]

@@ -1,9 +1,11 @@
 //! The replay driver: reads a script of the line protocol from standard input, carries each line out on the store and prints what
 //! the protocol asks. `forms` has the tables of what a line may say, with the release from which each is in force.
 mod crc32;
+mod fields;
 mod forms;
 mod perform;
 mod print;
+mod words;
 
 use std::io::{self, BufWriter, Read, Write};
 
@@ -11,7 +13,7 @@ use std::io::{self, BufWriter, Read, Write};
 #[derive(Clone, Copy)]
 pub struct Release(u32);
 
-const RELEASE: Release = Release(11);
+const RELEASE: Release = Release(14);
 
 impl Release {
     /// Whether what request `since` brings, or the base where it is 0, is in force.
@@ -74,7 +76,7 @@ mod tests {
         let script = "(open 1 2 3 2 1 9 0 0 0 0)\n(write 0 10)\n(write 2 20)\n(write 4 30)\n(write 3 40)\n(read 2)\n(writelen 0 0 2)\n\
                       (step)\n(flush)\n(step)\n(read 6)\n(setwear 0 9)\n(write 0 1)\n(step)\n(spoil s 0 0)\n(readlen 0 1)\n";
         let said = [
-            "(open (done))",
+            "(open (done) (torn 0))",
             "(write (way 3) (erased none) (merged 0) (mended 0))",
             "(write (way 3) (erased none) (merged 0) (mended 0))",
             "(write (way 5) (erased none) (merged 0) (mended 0))",
@@ -97,7 +99,7 @@ mod tests {
         let script = "(open 2 4 3 3 1 9 0 0 0 0)\n(part 0 1 10 1)\n(part 0 0 20 2)\n(part 0 2 0 0)\n(part 0 1 0 2)\n(part 0 3 0 0)\n\
                       (part 12 9 0 9)\n(read 0)\n(part 0 0 0)\n(part 0 0 0 4294967295)\n";
         let said = [
-            "(open (done))",
+            "(open (done) (torn 0))",
             "(part (way 3) (erased none) (merged 0) (mended 0) (page 32280693))",
             "(part (way 1) (erased none) (merged 0) (mended 0) (page e5120c46))",
             "(part (way 0) (erased none) (merged 0) (mended 0) (page 34150d34))",
@@ -111,13 +113,13 @@ mod tests {
         assert_eq!(replay(script), said);
     }
 
-    /// At release 6 the same without the mends.
+    /// At release 6 the same without the mends and the torn blocks.
     #[test]
     fn flipped_bits() {
         let script = "(open 256 2 3 2 1 9 0 1 0 0)\n(read 0)\n(flip flash 5 3)\n(flip code 3 0)\n(write 1 9)\n(read 0)\n(flip flash 5 4)\n\
                       (read 0)\n(flush)\n(flip code 17 8)\n(flip code 18 0)\n(flip flash 5 4)\n(flush)\n";
         let said = [
-            "(open (done))",
+            "(open (done) (torn 0))",
             "(read (way 3) (mended 0) (page fea8a821))",
             "(write (way 3) (erased none) (merged 0) (mended 0))",
             "(read (way 3) (mended 1) (page fea8a821))",
@@ -128,7 +130,9 @@ mod tests {
             "(flush (rewrites 1) (merged 1) (mended 1))",
         ];
         assert_eq!(replay(script), said);
-        assert_eq!(replay_at(Release(6), script), said.map(|line| line.replace(" (mended 0)", "").replace(" (mended 1)", "")));
+        let plainly =
+            said.map(|line| [" (mended 0)", " (mended 1)", " (torn 0)"].iter().fold(line.into(), |l: String, word| l.replace(word, "")));
+        assert_eq!(replay_at(Release(6), script), plainly);
     }
 
     #[test]
@@ -142,7 +146,8 @@ mod tests {
         let said = replay("(dump)").concat();
         assert!(said.starts_with("(dump (sizes 0 0 0 0 0 0) (places 4294967295 "), "{said}");
         let middle = " (valid 0 0 0 0 0 0 0 0) (order 0 1 2 3 4 5 6 7) (flash 00000000) (wear) (pspace 00000000) (bspace 00000000)";
-        let end = format!(" (coded 0) (codes 00000000) (shelf 0) (shelfno{}) (shelfbytes 00000000))", " 4294967295".repeat(8));
+        let shelf = format!(" (shelf 0) (shelfno{}) (shelfbytes 00000000)", " 4294967295".repeat(8));
+        let end = format!(" (coded 0) (codes 00000000){shelf} (marked 0) (marks 00000000))");
         assert!(said.contains(middle) && said.contains(" (policy 0) (uses 0 0 0 0 0 0 0 0)") && said.ends_with(&end), "{said}");
     }
 
@@ -165,7 +170,7 @@ mod tests {
         let script = "(open 1 2 3 2 1 9 0 0 2 0)\n(takeback)\n(write 0 10)\n(write 0 20)\n(part 0 0 30 1)\n(takeback)\n(read 0)\n\
                       (takeback)\n(read 0)\n(takeback)\n(takeback 0)\n";
         let said = [
-            "(open (done))",
+            "(open (done) (torn 0))",
             "(takeback (refused 8))",
             "(write (way 3) (erased none) (merged 0) (mended 0))",
             "(write (way 1) (erased none) (merged 0) (mended 0))",
@@ -181,6 +186,58 @@ mod tests {
         assert_eq!(replay_at(Release(7), "(takeback)"), ["(bad 1)"]);
     }
 
+    #[test]
+    fn cuts_lose_the_record() {
+        let script = "(open 1 2 3 2 1 9 0 0 0 1)\n(write 0 1)\n(cut 2 flush)\n(flush)\n(reopen 1 2 3 2 1 9 0 0 0 1)\n(read 0)\n(read 1)\n\
+                      (write 1 1)\n(cut 3 step)\n(reopen 1 2 3 2 1 9 0 0 0 1)\n(setmark 4 7)\n(cut 0 write 6 1)\n\
+                      (reopen 1 2 3 2 1 9 0 0 0 1)\n(cut 1 read 0)\n(setmark 6 0)\n(setmark 5 256)\n";
+        let said = [
+            "(open (done) (torn 0))",
+            "(write (way 3) (erased none) (merged 0) (mended 0))",
+            "(cut stopped)",
+            "(flush (refused 4))",
+            "(open (done) (torn 1))",
+            "(read (way 3) (mended 0) (page a505df1b))",
+            "(read (refused 14))",
+            "(write (way 3) (erased none) (merged 0) (mended 0))",
+            "(cut whole)",
+            "(open (done) (torn 0))",
+            "(write (refused 5))",
+            "(open (done) (torn 1))",
+            "(bad 14)",
+            "(bad 15)",
+            "(bad 16)",
+        ];
+        assert_eq!(replay(script), said);
+        assert_eq!(replay_at(Release(11), "(cut 1 step)\n(setmark 0 0)"), ["(bad 1)", "(bad 2)"]);
+    }
+
+    #[test]
+    fn rehearsals_touch_no_store() {
+        let class = "(rehearse 1 2 3 2 1 9 2 8 128 128 7)";
+        let said =
+            replay(&format!("(open 1 2 3 2 1 9 0 0 0 0)\n(write 0 1)\n(dump)\n{class}\n(rehearse 1 2 3 2 1 9 17 8 0 0 7)\n(dump)\n"));
+        assert!(said[3].starts_with("(rehearse (reads ") && said[3].ends_with(" (refused 0))"), "{}", said[3]);
+        assert_eq!((&said[4][..], &said[2]), ("(rehearse (refused 1))", &said[5]));
+        assert_eq!(replay_at(Release(12), class), ["(bad 1)"]);
+    }
+
+    #[test]
+    fn reports() {
+        let script = "(report)\n(open 1 2 3 2 1 9 0 0 0 0)\n(report)\n(setwear 0 9)\n(setwear 2 4)\n(report)\n(setwear 1 10)\n(report)\n\
+                      (spoil s 0 2)\n(report)\n";
+        let said = [
+            "(report (refused 4))",
+            "(open (done) (torn 0))",
+            "(report (total 0) (largest 0) (spread 0))",
+            "(report (total 13) (largest 9) (spread 122))",
+            "(report (refused 3))",
+            "(report (refused 2))",
+        ];
+        assert_eq!(replay(script), said);
+        assert_eq!(replay_at(Release(13), "(report)"), ["(bad 1)"]);
+    }
+
     const RUNS: &str = "(open 32 4 4 2 1 9 0 0 0 0)\n(add 3 0 7 5 3 2)\n(look 3 0 7 1)\n(look 3 0 8 1)\n(list 3 0 7 0)\n(list 3 0 7 1)\n\
                         (write 4 9)\n(cread 3 0 8 1 1)\n(cread 3 0 8 1 2)\n(mark 3 1 0 1 9)\n(mark 3 2 0 1 101)\n(mark 3 2 0 1 9)\n\
                         (replace 3 1 7 1 5 4 1)\n(replace 3 1 7 1 5 5 1)\n(look 3 2 0 1)\n(mark 3 2 0 1 10)\n(add 16 0 0 0 1 1)\n";
@@ -188,7 +245,7 @@ mod tests {
     #[test]
     fn runs() {
         let said = [
-            "(open (done))",
+            "(open (done) (torn 0))",
             "(add 1 (way 3) (erased none) (merged 0) (mended 0) (page 1aea41e0))",
             "(look 1 7 5 3 2 255 0 1 (mended 0))",
             "(look 1 0 5 3 2 255 0 1 (mended 0))",
@@ -219,24 +276,24 @@ mod tests {
         assert_eq!((&nine[12][..], &ten[12][..]), ("(bad 13)", "(bad 13)"));
     }
 
-    /// An option that is in force is the store's to take or to refuse; it takes no marks yet.
+    /// An option that is in force is the store's to take or to refuse.
     #[test]
     fn options_reach_the_store() {
         let script = |options| format!("(open 256 2 3 2 1 9 {options})\n(open 256 2 3 2 1 9 0 0 0 0)\n(reopen 256 2 3 2 1 9 {options})\n");
-        assert_eq!(replay(&script("0 0 0 1")), ["(bad 1)", "(open (done))", "(bad 3)"]);
-        assert_eq!(replay_at(Release(12), &script("0 0 0 1")), ["(open (refused 1))", "(open (done))", "(open (refused 1))"]);
+        let done = "(open (done) (torn 0))";
         for options in ["3 0 0 0", "0 0 9 0", "0 0 4294967295 0"] {
-            assert_eq!(replay(&script(options)), ["(open (refused 1))", "(open (done))", "(open (refused 1))"]);
+            assert_eq!(replay(&script(options)), ["(open (refused 1))", done, "(open (refused 1))"]);
         }
         for (options, since, again) in [
-            ("1 0 0 0", 5, "(done)"),
-            ("2 0 0 0", 5, "(done)"),
-            ("0 1 0 0", 6, "(refused 2)"),
-            ("0 0 1 0", 8, "(refused 2)"),
-            ("0 0 8 0", 8, "(refused 2)"),
+            ("1 0 0 0", 5, done),
+            ("2 0 0 0", 5, done),
+            ("0 1 0 0", 6, "(open (refused 2))"),
+            ("0 0 1 0", 8, "(open (refused 2))"),
+            ("0 0 8 0", 8, "(open (refused 2))"),
+            ("0 0 0 1", 12, "(open (refused 2))"),
         ] {
             assert_eq!(replay_at(Release(since - 1), &script(options)), ["(bad 1)", "(open (done))", "(bad 3)"]);
-            assert_eq!(replay(&script(options)), ["(open (done))", "(open (done))", &format!("(open {again})")]);
+            assert_eq!(replay(&script(options)), [done, done, again]);
         }
         assert_eq!(replay("(open 255 2 3 2 1 9 0 1 0 0)"), ["(open (refused 1))"]);
     }
@@ -244,9 +301,11 @@ mod tests {
     #[test]
     fn what_the_options_add_to_a_record_can_be_spoilt() {
         let script = |spoil| format!("(open 1 2 3 2 1 9 0 0 0 0)\n(spoil {spoil})\n(read 0)\n");
-        assert_eq!(replay(&script("marked 0 1"))[1], "(bad 2)");
-        assert_eq!(replay_at(Release(12), &script("marked 0 1"))[1..], ["(read (refused 4))"]);
-        assert_eq!(replay(&script("shelf 0 1"))[1..], ["(read (refused 2))"]);
+        assert_eq!(replay_at(Release(11), &script("marked 0 1"))[1], "(bad 2)");
+        assert_eq!(replay(&script("marked 0 2"))[1..], ["(read (refused 4))"]);
+        for spoil in ["shelf 0 1", "marked 0 1"] {
+            assert_eq!(replay(&script(spoil))[1..], ["(read (refused 2))"]);
+        }
         for spoil in ["shelf 0 9", "shelfno 0 0", "shelfno 7 4294967294"] {
             assert_eq!(replay_at(Release(7), &script(spoil))[1], "(bad 2)", "{spoil}");
             assert_eq!(replay(&script(spoil))[1..], ["(read (refused 4))"], "{spoil}");

@@ -1,9 +1,10 @@
 //! Carries a form out on the one store of a script.
 use crate::crc32::crc32;
-use crate::forms::{Form, RunCall};
-use clash::{Added, Answer, Cache, Catalogue, Listed, Looked, Memory, Options, Refusal, Sizes};
+use crate::forms::{Call, Form};
+use clash::{rehearse, Added, Answer, Cache, Catalogue, Listed, Looked, Memory, Opened, Options, Refusal, Report, Sizes, Tallies};
 
 /// The record, the blank one before an opening, and the buffers.
+#[derive(Clone)]
 pub struct State {
     pub cache: Cache,
     pub memory: Memory,
@@ -12,21 +13,19 @@ pub struct State {
 /// What a form came to.
 pub enum Said {
     Nothing,
-    Opened(Result<(), Refusal>),
-    /// a call's answer, and the CRC-32 of the page buffer that a read or a part write left
+    /// with the number of torn blocks
+    Opened(Result<u32, Refusal>),
+    /// a call's answer, and the CRC-32 of the page buffer that it may have changed
     Called(Result<Answer, Refusal>, Option<u32>),
-    /// a call of the catalogue, and the CRC-32 of the page buffer after it
-    Ran(Result<Ran, Refusal>, u32),
+    /// the same with the run
+    Added(Result<Added, Refusal>, u32),
+    Looked(Result<Looked, Refusal>),
+    Listed(Result<Listed, Refusal>),
+    /// of a call by its word, whether it was done whole
+    Cut(&'static str, Result<bool, Refusal>),
+    Rehearsed(Result<Tallies, Refusal>),
+    Reported(Result<Report, Refusal>),
     Dump,
-}
-
-/// What a call of the catalogue answers.
-pub enum Ran {
-    Added(Added),
-    Looked(Looked),
-    Listed(Listed),
-    /// of a read or a mark
-    Called(Answer),
 }
 
 /// A line that cannot be carried out.
@@ -48,6 +47,10 @@ impl State {
             Form::Open(sizes, options) => self.open(sizes, options),
             Form::Reopen(sizes, options) => Ok(self.reopen(sizes, options)),
             Form::SetWear { block, wear } => set(&mut self.memory.wear, block, |entry| *entry = wear),
+            Form::SetMark { n, mark } => {
+                let mark = mark.try_into().map_err(|_| Bad)?;
+                set(&mut self.memory.marks, n, |entry| *entry = mark)
+            }
             Form::FlipFlash { bit: 8.., .. } | Form::FlipCode { bit: 8.., .. } => Err(Bad),
             Form::FlipCode { byte, bit } => set(&mut self.memory.codes, byte, |entry| *entry ^= 1 << bit),
             Form::FlipFlash { byte, bit } => set(&mut self.memory.flash, byte, |entry| *entry ^= 1 << bit),
@@ -55,13 +58,20 @@ impl State {
                 (field.set)(&mut self.cache, index, value);
                 Ok(Said::Nothing)
             }
-            Form::Write { n, seed, len } => Ok(self.write(n, seed, len)),
             Form::Read { n, len } => Ok(self.read(n, len)),
-            Form::Part { n, first, seed, len } => Ok(self.part(n, first, seed, len)),
-            Form::TakeBack => Ok(Said::Called(self.cache.take_back(&mut self.memory.lend()), None)),
-            Form::Step => Ok(Said::Called(self.cache.step(&mut self.memory.lend()), None)),
-            Form::Flush => Ok(Said::Called(self.cache.flush(&mut self.memory.lend()), None)),
-            Form::Run(who, call) => Ok(self.run(&who, call)),
+            Form::Look { who, run } => {
+                let page = &mut self.page();
+                Ok(Said::Looked(self.cache.run_look(&self.memory.lend(), &who, run, page)))
+            }
+            Form::List { who, position } => {
+                let page = &mut self.page();
+                Ok(Said::Listed(self.cache.run_list(&self.memory.lend(), &who, position, page)))
+            }
+            Form::ReadRun { who, run, index } => Ok(self.read_run(&who, run, index)),
+            Form::Call(call) => Ok(self.call(call)),
+            Form::Cut { operations, word, call } => Ok(Said::Cut(word, self.cut(operations, call))),
+            Form::Rehearse(class) => Ok(Said::Rehearsed(rehearse(class))),
+            Form::Report => Ok(Said::Reported(self.cache.report(&self.memory.lend()))),
             Form::Dump => Ok(Said::Dump),
         }
     }
@@ -69,28 +79,26 @@ impl State {
     /// An opening with buffers made afresh; a refused one keeps the store in use.
     fn open(&mut self, sizes: Sizes, options: Options) -> Result<Said, Bad> {
         if !sizes.in_limits() || !options.in_limits(&sizes) {
-            return Ok(Said::Opened(Cache::open(sizes, options, &Memory::default().lend()).map(|_| ())));
+            return Ok(Said::Opened(Cache::open(sizes, options, &Memory::default().lend()).map(|opened| opened.torn)));
         }
         if sizes.flash_len() > MOST_FLASH {
             return Err(Bad);
         }
         let mut memory = Memory::with_options(&sizes, &options);
         let opened = Cache::open(sizes, options, &memory.lend());
-        if let Ok(cache) = opened {
+        if let Ok(Opened { cache, .. }) = opened {
             *self = State { cache, memory };
         }
-        Ok(Said::Opened(opened.map(|_| ())))
+        Ok(Said::Opened(opened.map(|opened| opened.torn)))
     }
 
     /// An opening with the buffers as they are.
     fn reopen(&mut self, sizes: Sizes, options: Options) -> Said {
         let opened = Cache::open(sizes, options, &self.memory.lend());
-        Said::Opened(opened.map(|cache| self.cache = cache))
-    }
-
-    fn write(&mut self, n: u32, seed: u32, len: Option<u32>) -> Said {
-        let page = pattern(seed, self.page_len(len));
-        Said::Called(self.cache.write(&mut self.memory.lend(), n, &page), None)
+        Said::Opened(opened.map(|Opened { cache, torn }| {
+            self.cache = cache;
+            torn
+        }))
     }
 
     fn read(&mut self, n: u32, len: Option<u32>) -> Said {
@@ -99,25 +107,76 @@ impl State {
         Said::Called(answer, Some(crc32(&page)))
     }
 
-    fn part(&mut self, n: u32, first: u32, seed: u32, len: u32) -> Said {
-        let bytes = pattern(seed, len.min(TOO_LONG) as usize);
-        let mut page = vec![0xA5; self.page_len(None)];
-        let answer = self.cache.part(&mut self.memory.lend(), n, first, &bytes, &mut page);
+    fn read_run(&mut self, who: &Catalogue, run: u32, index: u32) -> Said {
+        let mut page = self.page();
+        let answer = self.cache.run_read(&self.memory.lend(), who, run, index, &mut page);
         Said::Called(answer, Some(crc32(&page)))
     }
 
-    fn run(&mut self, who: &Catalogue, call: RunCall) -> Said {
-        let mut page = vec![0xA5; self.page_len(None)];
+    fn call(&mut self, call: Call) -> Said {
+        let mut page = self.page();
         let (cache, lent, to) = (&mut self.cache, &mut self.memory.lend(), &mut page);
-        let answer = match call {
-            RunCall::Add(new) => cache.run_add(lent, who, new, to).map(Ran::Added),
-            RunCall::Look { run } => cache.run_look(lent, who, run, to).map(Ran::Looked),
-            RunCall::List { position } => cache.run_list(lent, who, position, to).map(Ran::Listed),
-            RunCall::Read { run, index } => cache.run_read(lent, who, run, index, to).map(Ran::Called),
-            RunCall::Mark { run, mark } => cache.run_mark(lent, who, run, mark, to).map(Ran::Called),
-            RunCall::Replace { run, new } => cache.run_replace(lent, who, run, new, to).map(Ran::Added),
+        match call {
+            Call::Write { n, seed, len } => {
+                let from = pattern(seed, len.map_or(to.len(), |len| len.min(TOO_LONG) as usize));
+                Said::Called(cache.write(lent, n, &from), None)
+            }
+            Call::Part { n, first, seed, len } => {
+                let answer = cache.part(lent, n, first, &pattern(seed, len.min(TOO_LONG) as usize), to);
+                Said::Called(answer, Some(crc32(&page)))
+            }
+            Call::TakeBack => Said::Called(cache.take_back(lent), None),
+            Call::Step => Said::Called(cache.step(lent), None),
+            Call::Flush => Said::Called(cache.flush(lent), None),
+            Call::Add { who, new } => {
+                let answer = cache.run_add(lent, &who, new, to);
+                Said::Added(answer, crc32(&page))
+            }
+            Call::Replace { who, run, new } => {
+                let answer = cache.run_replace(lent, &who, run, new, to);
+                Said::Added(answer, crc32(&page))
+            }
+            Call::Mark { who, run, mark } => {
+                let answer = cache.run_mark(lent, &who, run, mark, to);
+                Said::Called(answer, Some(crc32(&page)))
+            }
+        }
+    }
+
+    /// A call with so many operations of the chip, and whether it was done whole. It answers nothing, so the ordinary call is made on a
+    /// copy: that says why it is refused, and by its erasures how many operations it needs. The record is lost, also where it is refused.
+    fn cut(&mut self, operations: u32, call: Call) -> Result<bool, Refusal> {
+        let mut copy = self.clone();
+        let said = copy.call(call);
+        let erased: u64 = copy.memory.wear.iter().zip(&self.memory.wear).map(|(after, before)| (after - before) as u64).sum();
+        let needed = erased * (self.cache.sizes.pages_per_block as u64 + 1);
+        self.cut_off(operations, call);
+        match said {
+            Said::Called(Err(why), _) | Said::Added(Err(why), _) => Err(why),
+            _ => Ok(needed <= operations as u64),
+        }
+    }
+
+    fn cut_off(&mut self, operations: u32, call: Call) {
+        let mut page = self.page();
+        let (cache, lent, to) = (self.cache, &mut self.memory.lend(), &mut page);
+        self.cache = match call {
+            Call::Write { n, seed, .. } => cache.cut_write(lent, n, &pattern(seed, to.len()), operations),
+            Call::Part { n, first, seed, len } => {
+                cache.cut_part(lent, n, first, &pattern(seed, len.min(TOO_LONG) as usize), to, operations)
+            }
+            Call::TakeBack => cache.cut_take_back(lent, operations),
+            Call::Step => cache.cut_step(lent, operations),
+            Call::Flush => cache.cut_flush(lent, operations),
+            Call::Add { who, new } => cache.cut_run_add(lent, &who, new, to, operations),
+            Call::Replace { who, run, new } => cache.cut_run_replace(lent, &who, run, new, to, operations),
+            Call::Mark { who, run, mark } => cache.cut_run_mark(lent, &who, run, mark, to, operations),
         };
-        Said::Ran(answer, crc32(&page))
+    }
+
+    /// A page buffer.
+    fn page(&self) -> Vec<u8> {
+        vec![0xA5; self.page_len(None)]
     }
 
     fn page_len(&self, len: Option<u32>) -> usize {

@@ -1,30 +1,32 @@
 //! What is printed of a form, and the dump.
 use crate::crc32::crc32;
-use crate::perform::{Ran, Said, State};
+use crate::perform::{Said, State};
 use crate::Release;
-use clash::{Answer, Looked, Refusal};
+use clash::{Added, Answer, Looked, Refusal, Tallies};
 use std::fmt::Display;
 
 /// The line of a form that was carried out, none where it prints nothing.
 pub fn said(release: Release, word: &str, said: &Said, state: &State) -> Option<String> {
     match said {
         Said::Nothing => None,
-        Said::Opened(Ok(())) => Some("(open (done))".into()),
+        Said::Opened(Ok(torn)) if release.has(12) => Some(format!("(open (done) (torn {torn}))")),
+        Said::Opened(Ok(_)) => Some("(open (done))".into()),
         Said::Opened(Err(why)) => Some(format!("(open {})", refused(why))),
         Said::Called(Ok(answer), page) => Some(format!("({word} {}{})", accepted(release, answer), with_page(page))),
-        Said::Ran(Ok(ran), page) => Some(format!("({word} {})", ran_as(release, ran, *page))),
-        Said::Called(Err(why), _) | Said::Ran(Err(why), _) => Some(format!("({word} {})", refused(why))),
+        Said::Added(Ok(Added { run, answer }), page) => {
+            Some(format!("({word} {run} {}{})", accepted(release, answer), with_page(&Some(*page))))
+        }
+        Said::Looked(Ok(looked)) => Some(format!("({word} {})", look(release, looked))),
+        Said::Listed(Ok(listed)) => Some(format!("({word} {} (mended {}))", listed.run, listed.mended)),
+        Said::Called(Err(why), _) | Said::Added(Err(why), _) => Some(format!("({word} {})", refused(why))),
+        Said::Looked(Err(why)) | Said::Listed(Err(why)) => Some(format!("({word} {})", refused(why))),
+        Said::Cut(_, Ok(true)) => Some("(cut whole)".into()),
+        Said::Cut(_, Ok(false)) => Some("(cut stopped)".into()),
+        Said::Cut(word, Err(why)) => Some(format!("({word} {})", refused(why))),
+        Said::Rehearsed(Ok(tallies)) => Some(rehearsed(tallies)),
+        Said::Reported(Ok(r)) => Some(format!("(report (total {}) (largest {}) (spread {}))", r.total, r.largest, r.spread)),
+        Said::Rehearsed(Err(why)) | Said::Reported(Err(why)) => Some(format!("({word} {})", refused(why))),
         Said::Dump => Some(dump(release, state)),
-    }
-}
-
-/// The page buffer is told where the call may change it.
-fn ran_as(release: Release, ran: &Ran, page: u32) -> String {
-    match ran {
-        Ran::Added(added) => format!("{} {}{}", added.run, accepted(release, &added.answer), with_page(&Some(page))),
-        Ran::Looked(looked) => look(release, looked),
-        Ran::Listed(listed) => format!("{} (mended {})", listed.run, listed.mended),
-        Ran::Called(answer) => format!("{}{}", accepted(release, answer), with_page(&Some(page))),
     }
 }
 
@@ -48,6 +50,12 @@ fn accepted(release: Release, answer: &Answer) -> String {
         Answer::Clean => "clean".into(),
         Answer::Flush { rewrites, merged, mended: m } => format!("(rewrites {rewrites}) (merged {merged}){}", mended(m)),
     }
+}
+
+/// No read and no write goes by way 0.
+fn rehearsed(t: &Tallies) -> String {
+    let ways = format!("{} {}", list("reads", &t.reads[1..]), list("writes", &t.writes[1..]));
+    format!("(rehearse {ways} (erased {}) (merged {}) (refused {}))", t.erased, t.merged, t.refused)
 }
 
 fn with_page(crc: &Option<u32>) -> String {

@@ -15,8 +15,8 @@ use Rattle.cache.specs.View.{sizesOf, numbers}
 use Rattle.answer.specs.Carried.{buffers}
 use Rattle.checked.specs.Lists.{storeWith}
 use Rattle.lent.proofs.Lengths.{lengths-lent}
-use Rattle.checked.proofs.Carrying.{part-checked, reading-record, reading-buffer, reading-page-buffer}
-use Rattle.checked.proofs.Carrying.{reading-page, reading-reach, part-ready}
+use Rattle.checked.proofs.Carrying.{part-checked, reading-record, reading-buffer, reading-page-buffer, reading-page, reading-reach}
+use Rattle.checked.proofs.Carrying.{part-ready}
 use Rattle.checked.proofs.Keeping.{front-page, refused-keeps, part-keeps}
 use Rattle.checked.proofs.keep.part.Statement.{statement}
 use Rattle.checked.proofs.keep.part.Tie as tie
@@ -94,7 +94,7 @@ returns c =
     let after-lists-sound : tie.After-lists-sound = search back in
     let s : tie.Start = search back in
     let a = s .args in
-    refused-keeps (a .z) _ _ (a .n .0) (part (a .n .0) (a .first) (a .bytes .now) (a .page .now)) 4 _
+    refused-keeps (a .z) _ _ (a .n .0) _ (part (a .n .0) (a .first) (a .bytes .now) (a .page .now)) 4 _
     (λ b. reading-record policyChoice (store s) _ b (sym (after-lists-sound .lists-sound .ensures) ∙ not-true _ (c .if1 .taken)))
 
 lengths-ok-requires : tie.Need-lengths-ok-requires
@@ -106,9 +106,9 @@ returns-2 c =
     let else1 : tie.Else1 = search back in
     let s : tie.Start = search back in
     let a = s .args in
-    refused-keeps (a .z) _ _ (a .n .0) (part (a .n .0) (a .first) (a .bytes .now) (a .page .now)) 2 _
-    (λ b. reading-buffer policyChoice (store s) _ b (passed else1) (sym (lengths-lent (sizesOf (a .z)) (a .flash .now) (a
-    .codes .now) (a .marks .now) (a .wear .now) (a .pspace .now) (a .bspace .now))
+    refused-keeps (a .z) _ _ (a .n .0) _ (part (a .n .0) (a .first) (a .bytes .now) (a .page .now)) 2 _
+    (λ b. reading-buffer policyChoice (store s) _ b (passed else1) (sym (lengths-lent (sizesOf (a .z)) (a .flash .now) (a .codes .now)
+    (a .marks .now) (a .wear .now) (a .pspace .now) (a .bspace .now))
     ∙ sym (after-lengths-ok .lengths-ok .ensures) ∙ not-true _ (c .if2 .taken)))
 
 cast-if3 : tie.Need-cast-if3
@@ -120,9 +120,9 @@ returns-3 c =
     let else1 : tie.Else1 = search back in
     let s : tie.Start = search back in
     let a = s .args in
-    refused-keeps (a .z) _ _ (a .n .0) (part (a .n .0) (a .first) (a .bytes .now) (a .page .now)) 2 _
-    (λ b. reading-page-buffer (store s) _ _ _ _ (part-checked (store s) (a .n .0) (a .first) (a .bytes .now) (a .page .now))
-    (passed else1) (fitting else2) b (c .if3 .taken))
+    refused-keeps (a .z) _ _ (a .n .0) _ (part (a .n .0) (a .first) (a .bytes .now) (a .page .now)) 2 _
+    (λ b. reading-page-buffer (store s) _ _ _ _ (part-checked (store s) (a .n .0) (a .first) (a .bytes .now) (a .page .now)) (passed else1)
+    (fitting else2) b (c .if3 .taken))
 
 mul-if4 : tie.Need-mul-if4
 mul-if4 c =
@@ -137,9 +137,9 @@ returns-4 c =
     let else1 : tie.Else1 = search back in
     let s : tie.Start = search back in
     let a = s .args in
-    refused-keeps (a .z) _ _ (a .n .0) (part (a .n .0) (a .first) (a .bytes .now) (a .page .now)) 5 _
-    (λ b. reading-page (store s) _ _ _ _ (part-checked (store s) (a .n .0) (a .first) (a .bytes .now) (a .page .now)) (passed
-    else1) (fitting else2) b (else3 .if3 .left) (c .if4 .taken))
+    refused-keeps (a .z) _ _ (a .n .0) _ (part (a .n .0) (a .first) (a .bytes .now) (a .page .now)) 5 _
+    (λ b. reading-page (store s) _ _ _ _ (part-checked (store s) (a .n .0) (a .first) (a .bytes .now) (a .page .now)) (passed else1)
+    (fitting else2) b (else3 .if3 .left) (c .if4 .taken))
 
 reach-ok-requires : tie.Need-reach-ok-requires
 reach-ok-requires c κs = search needs
@@ -153,7 +153,7 @@ returns-5 c =
     let else1 : tie.Else1 = search back in
     let s : tie.Start = search back in
     let a = s .args in
-    refused-keeps (a .z) _ _ (a .n .0) (part (a .n .0) (a .first) (a .bytes .now) (a .page .now)) 2 _
+    refused-keeps (a .z) _ _ (a .n .0) _ (part (a .n .0) (a .first) (a .bytes .now) (a .page .now)) 2 _
     (λ b. reading-reach (store s) (a .n .0) (a .first) (a .bytes .now) (a .page .now) (passed else1) (fitting else2) (else3 .if3 .left)
     (else4 .if4 .left) b (sym (after-reach-ok .reach-ok .ensures) ∙ not-true _ (c .if5 .taken)))
 
@@ -247,8 +247,7 @@ returns-6 c =
       pspace-length = omega (arith, w .kept, f);
       bspace-length = omega (arith, w .kept, f);
     })
-    _ _ _ _ (let k = q .K-high in omega arith) _ _ (front-page _ _ _ (omega (arith, w .kept, g))) (a .first) (a .bytes .now) (a
-    .page .now) _ (else3 .if3 .left)
+    _ _ _ _ _ _ (front-page _ _ _ (omega (arith, w .kept, g))) (a .first) (a .bytes .now) (a .page .now) _ (else3 .if3 .left)
     (sym (after-reach-ok .reach-ok .ensures) ∙ not-false _ (else5 .if5 .left)) (ne-eqb _ 0 (s .pre .2)) (w .ensures)
 
 pub part-spec : {M : Type 1} → statement M

@@ -77,7 +77,7 @@ returns c =
     let after-lists-sound : tie.After-lists-sound = search back in
     let s : tie.Start = search back in
     let a = s .args in
-    refused-keeps (a .z) _ _ (a .n .0) (write (a .n .0) (a .page .now)) 4 _
+    refused-keeps (a .z) _ _ (a .n .0) _ (write (a .n .0) (a .page .now)) 4 _
     (λ b. reading-record policyChoice (store s) _ b (sym (after-lists-sound .lists-sound .ensures) ∙ not-true _ (c .if1 .taken)))
 
 lengths-ok-requires : tie.Need-lengths-ok-requires
@@ -89,9 +89,9 @@ returns-2 c =
     let else1 : tie.Else1 = search back in
     let s : tie.Start = search back in
     let a = s .args in
-    refused-keeps (a .z) _ _ (a .n .0) (write (a .n .0) (a .page .now)) 2 _
-    (λ b. reading-buffer policyChoice (store s) _ b (passed else1) (sym (lengths-lent (sizesOf (a .z)) (a .flash .now) (a
-    .codes .now) (a .marks .now) (a .wear .now) (a .pspace .now) (a .bspace .now))
+    refused-keeps (a .z) _ _ (a .n .0) _ (write (a .n .0) (a .page .now)) 2 _
+    (λ b. reading-buffer policyChoice (store s) _ b (passed else1) (sym (lengths-lent (sizesOf (a .z)) (a .flash .now) (a .codes .now)
+    (a .marks .now) (a .wear .now) (a .pspace .now) (a .bspace .now))
     ∙ sym (after-lengths-ok .lengths-ok .ensures) ∙ not-true _ (c .if2 .taken)))
 
 cast-if3 : tie.Need-cast-if3
@@ -103,9 +103,9 @@ returns-3 c =
     let else1 : tie.Else1 = search back in
     let s : tie.Start = search back in
     let a = s .args in
-    refused-keeps (a .z) _ _ (a .n .0) (write (a .n .0) (a .page .now)) 2 _
-    (λ b. reading-page-buffer (store s) _ _ _ _ (write-checked (store s) (a .n .0) (a .page .now)) (passed else1) (fitting
-    else2) b (c .if3 .taken))
+    refused-keeps (a .z) _ _ (a .n .0) _ (write (a .n .0) (a .page .now)) 2 _
+    (λ b. reading-page-buffer (store s) _ _ _ _ (write-checked (store s) (a .n .0) (a .page .now)) (passed else1) (fitting else2) b
+    (c .if3 .taken))
 
 mul-if4 : tie.Need-mul-if4
 mul-if4 c =
@@ -120,7 +120,7 @@ returns-4 c =
     let else1 : tie.Else1 = search back in
     let s : tie.Start = search back in
     let a = s .args in
-    refused-keeps (a .z) _ _ (a .n .0) (write (a .n .0) (a .page .now)) 5 _
+    refused-keeps (a .z) _ _ (a .n .0) _ (write (a .n .0) (a .page .now)) 5 _
     (λ b. reading-page (store s) _ _ _ _ (write-checked (store s) (a .n .0) (a .page .now)) (passed else1) (fitting else2) b
     (else3 .if3 .left) (c .if4 .taken))
 
@@ -205,8 +205,7 @@ returns-5 c =
       pspace-length = omega (arith, w .kept, f);
       bspace-length = omega (arith, w .kept, f);
     })
-    _ _ _ _ (let k = q .K-high in omega arith) _ _ (front-page _ _ _ (omega (arith, w .kept, g))) (a .page .now) (else3 .if3
-    .left) (w .ensures)
+    _ _ _ _ _ _ (front-page _ _ _ (omega (arith, w .kept, g))) (a .page .now) (else3 .if3 .left) (w .ensures)
 
 pub write-spec : {M : Type 1} → statement M
 write-spec =

@@ -3,11 +3,14 @@ use native.Mathlib.Omega.{arith}
 use mathlib.Core.Path.{_≡_, sym, _∙_}
 use mathlib.Core.Bool.{true}
 use borrow.Author.Tests.{not-true, not-false}
-use Rattle.model.specs.Calls.{openDone}
+use Rattle.model.specs.Calls.{openDone, lentOk}
+use Rattle.model.specs.Formats.{storeFormat}
 use Rattle.model.specs.Shelf.{noEntries}
 use Rattle.model.specs.Sizes.{sizesOk}
 use Rattle.model.proofs.Soundness.{limits-of}
+use Rattle.model.proofs.Buffers.{fits-of}
 use Rattle.cache.specs.View.{sizesOf}
+use Rattle.answer.specs.Carried.{buffers}
 use Rattle.lent.proofs.Lengths.{lengths-lent}
 use Rattle.store.proofs.Opening.{shelf-small, open-size, open-buffer, open-shelf, open-overworn, open-done}
 use Rattle.store.proofs.Cache.open.Statement.{statement}
@@ -18,6 +21,7 @@ use Rattle.cache.proofs.Directory.vacant.Reads as vacant-reads
 use Rattle.cache.proofs.Sizes.ok.Reads as ok-reads
 use Rattle.lent.proofs.lengths_ok.Reads as lengths-ok-reads
 use Rattle.lent.proofs.wear_ok.Reads as wear-ok-reads
+use Rattle.chip.proofs.torn.count.Reads as count-reads
 use Rattle.store.proofs.open.refused.Reads as refused-reads
 
 -- the ways back, from place to place: `search back` goes by them
@@ -66,7 +70,10 @@ from-after-refused4 c = search
 abbrev from-else4 : tie.Else4 → tie.After-wear-ok
 from-else4 c = search
 
-abbrev from-after-vacant : tie.After-vacant → tie.Else4
+abbrev from-after-count : tie.After-count → tie.Else4
+from-after-count c = search
+
+abbrev from-after-vacant : tie.After-vacant → tie.After-count
 from-after-vacant c = search
 
 ruleset back = (
@@ -85,16 +92,26 @@ ruleset back = (
   from-then4,
   from-after-refused4,
   from-else4,
+  from-after-count,
   from-after-vacant,
 )
 
--- the sizes are accepted, the buffers fit, and there is no shelf
+-- the sizes are accepted, and the buffers fit
 sized : (c : tie.Else1) →
     let start : tie.Start = search back in
     sizesOk (sizesOf (start .args .sizes)) ≡ true
 sized c =
     let after-ok : tie.After-ok = search back in
     sym (after-ok .ok .ensures) ∙ not-false _ (c .if1 .left)
+
+fitted : (c : tie.Else2) →
+    let start : tie.Start = search back in
+    let a = start .args in
+    lentOk storeFormat (sizesOf (a .sizes)) (buffers (a .flash .now) (a .codes .now) (a .marks .now)
+    (a .wear .now) (a .pspace .now) (a .bspace .now)) ≡ true
+fitted c =
+    let after-lengths-ok : tie.After-lengths-ok = search back in
+    sym (lengths-lent _ _ _ _ _ _ _) ∙ sym (after-lengths-ok .lengths-ok .ensures) ∙ not-false _ (c .if2 .left)
 
 ok-requires : tie.Need-ok-requires
 ok-requires c κs = search needs
@@ -143,31 +160,37 @@ returns-4 c =
     let after-wear-ok : tie.After-wear-ok = search back in
     let else3 : tie.Else3 = search back in
     let else2 : tie.Else2 = search back in
-    let after-lengths-ok : tie.After-lengths-ok = search back in
     let else1 : tie.Else1 = search back in
     c .refused4 .ensures ∙ sym (open-overworn _ _ _ (sized else1)
-    (sym (lengths-lent _ _ _ _ _ _ _) ∙ sym (after-lengths-ok .lengths-ok .ensures) ∙ not-false _ (else2 .if2 .left)) (else3 .if3 .left)
+    (fitted else2) (else3 .if3 .left)
     (sym (after-wear-ok .wear-ok .ensures) ∙ not-true _ (then4 .if4 .taken)))
+
+count-requires : tie.Need-count-requires
+count-requires c κs =
+    let else2 : tie.Else2 = search back in
+    let else1 : tie.Else1 = search back in
+    (limits-of _ (sized else1), fits-of storeFormat _ _ (fitted else2) .marks-length)
 
 vacant-requires : tie.Need-vacant-requires
 vacant-requires c κs = search needs
 
 returns-5 : tie.Need-returns-5
 returns-5 c =
+    let after-count : tie.After-count = search back in
     let else4 : tie.Else4 = search back in
     let after-wear-ok : tie.After-wear-ok = search back in
     let else3 : tie.Else3 = search back in
     let else2 : tie.Else2 = search back in
-    let after-lengths-ok : tie.After-lengths-ok = search back in
     let else1 : tie.Else1 = search back in
     let start : tie.Start = search back in
     (λ i. record {
       answer = openDone;
+      torn = after-count .count .ensures i;
       cache = record { sizes = sizesOf (start .args .sizes); directory = c .vacant .ensures i };
       entries = noEntries;
     })
     ∙ sym (open-done _ _ _ (sized else1)
-    (sym (lengths-lent _ _ _ _ _ _ _) ∙ sym (after-lengths-ok .lengths-ok .ensures) ∙ not-false _ (else2 .if2 .left)) (else3 .if3 .left)
+    (fitted else2) (else3 .if3 .left)
     (sym (after-wear-ok .wear-ok .ensures) ∙ not-false _ (else4 .if4 .left)))
 
 cast-long : tie.Need-cast-long
@@ -201,5 +224,6 @@ open-spec =
     wear-ok-requires
     refused-requires-4
     returns-4
+    count-requires
     vacant-requires
     returns-5)

@@ -3,6 +3,7 @@ use mathlib.Core.Path.{_≡_}
 use lib.ListN.{length, length-map}
 use Rattle.cache.specs.View.{directoryOf, numbers}
 use Rattle.cache.proofs.View.{shape-of, lists-of}
+use Rattle.shelving.proofs.OnLists.{uncut}
 use Rattle.store.proofs.OnLists.{on-lists}
 use Rattle.store.proofs.Cache.take_back.Statement.{statement}
 use Rattle.store.proofs.Cache.take_back.Tie as tie
@@ -74,7 +75,8 @@ returns c =
     let start : tie.Start = search back in
     let after-back : tie.After-back = search back in
     let after-block-numbers : tie.After-block-numbers = search back in
-    on-lists _ _ _ _ _ _ _ _ _ _ _ _ _ (lists after-block-numbers) (c .of .ensures) (after-back .back .ensures)
+    on-lists _ _ _ _ _ _ _ _ _ _ _ _ _ (lists after-block-numbers) (c .of .ensures)
+    (uncut _ _ _ (after-back .back .ensures))
 
 same-length-5 : tie.Need-same-length-5
 same-length-5 c = search needs

@@ -3,6 +3,7 @@ use mathlib.Core.Path.{_≡_}
 use lib.ListN.{length, length-map}
 use Rattle.cache.specs.View.{directoryOf, numbers}
 use Rattle.cache.proofs.View.{shape-of, lists-of}
+use Rattle.shelving.proofs.OnLists.{uncut}
 use Rattle.store.proofs.OnLists.{on-lists}
 use Rattle.store.proofs.Cache.write_part.Statement.{statement}
 use Rattle.store.proofs.Cache.write_part.Tie as tie
@@ -77,7 +78,8 @@ returns c =
     let start : tie.Start = search back in
     let after-part : tie.After-part = search back in
     let after-block-numbers : tie.After-block-numbers = search back in
-    on-lists _ _ _ _ _ _ _ _ _ _ _ _ _ (lists after-block-numbers) (c .of .ensures) (after-part .part .ensures)
+    on-lists _ _ _ _ _ _ _ _ _ _ _ _ _ (lists after-block-numbers) (c .of .ensures)
+    (uncut _ _ _ (after-part .part .ensures))
 
 same-length-6 : tie.Need-same-length-6
 same-length-6 c = search needs

@@ -12,7 +12,7 @@ blank-requires c κs = search needs
 returns : tie.Need-returns
 returns c =
     let start : tie.Start = search in
-    λ i. record { answer = refusalOf (start .args .why); cache = c .blank .ensures .0 i; entries = c .blank .ensures .1 i }
+    λ i. record { answer = refusalOf (start .args .why); torn = 0; cache = c .blank .ensures .0 i; entries = c .blank .ensures .1 i }
 
 pub refused-spec : {M : Type 1} → statement M
 refused-spec = tie.close (tie.spec blank-requires returns)

@@ -1,14 +1,15 @@
 // All sheets of a catalogue read from the store, as no use, into a table.
+mod sheet; // sheet.rt: one sheet, decoded where it lies
+
 use address::PageNo;
 use cache::Sizes;
-use sheets::bytes;
 use sheets::table;
 ghost use mathlib.Core.List.{[]};
 ghost use Rattle.cache.specs.View.{sizesOf, numbers};
 ghost use Rattle.gather.specs.Gather.{Gatherable, Gathered};
 
-// Reads the first c pages one after the other through a page of its own, into a table of sheets and the mends of each. Answers the refusal
-// of the first page that the store refuses, and stops there; 0 where it refuses none.
+// Reads the sheets on the first c pages one after the other, into a table and the mends of each; a page that wants mending goes into a page
+// that is lent. Answers the refusal of the first page that the store refuses, and stops there; 0 where it refuses none.
 pub fn gather(
     z: Sizes,
     slots: &[u32; 128],
@@ -32,7 +33,7 @@ pub fn gather(
 {
     let mut i: u32 = 0;
     while i < c {
-        let given = reads::peek(
+        let met = sheet::read(
             z,
             slots,
             frames,
@@ -45,14 +46,14 @@ pub fn gather(
             PageNo(i),
             whole,
         );
-        let fault = given.fault;
+        let fault = met.fault;
         if fault != 0 {
             return fault;
         }
-        let s = bytes::decode(whole);
         let at = i as usize;
+        let s = met.sheet;
         table::put(t, at, s);
-        mends[at] = given.mends;
+        mends[at] = met.mends;
         i += 1;
     }
     0

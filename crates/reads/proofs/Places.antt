@@ -31,7 +31,7 @@ use Rattle.chip.specs.Chip.{faultOn, mendsOn}
 use Rattle.chip.proofs.Looking.{fault-none, mends-none, fault-one, mends-one}
 
 -- a page put over a whole page buffer
-put-whole : (s : ℕ) (l pg : List ℕ) → length l ≡ s → putPage s l 0 pg ≡ pg
+pub put-whole : (s : ℕ) (l pg : List ℕ) → length l ≡ s → putPage s l 0 pg ≡ pg
 unfolding putPage
 put-whole s l pg e = rw (zero-mul s, zero-add s, ← e, drop-length l) (append-nil pg)
 

@@ -1,18 +1,16 @@
 use borrow.Author.Needs.{needs}
 use native.Mathlib.Omega.{arith}
-use mathlib.Core.Path.{_≡_, refl, sym, ap, _∙_}
+use mathlib.Core.Path.{_≡_, refl, sym, _∙_}
 use mathlib.Core.List.{[]}
 use Prim.Native.Nat.{_-_, _≤_}
 use lib.ListN.{length, length-set}
 use Rattle.cache.specs.View.{sizesOf, numbers}
-use Rattle.runs.specs.Sheet.{sheetOf}
-use Rattle.gather.proofs.Laws.{SoFar, so-far-none, page-met, so-far-more, met-first, none-met}
+use Rattle.gather.proofs.Laws.{SoFar, so-far-none, so-far-more, met-first, none-met}
 use Rattle.gather.proofs.gather.Statement.{statement}
 use Rattle.gather.proofs.gather.Tie as tie
 use Rattle.gather.proofs.gather.Reads as reads
 use Rattle.gather.proofs.gather.Lts as lts
-use Rattle.reads.proofs.peek.Reads as peek-reads
-use Rattle.sheets.proofs.bytes.decode.Reads as decode-reads
+use Rattle.gather.proofs.sheet.read.Reads as read-reads
 use Rattle.sheets.proofs.table.put.Reads as put-reads
 
 -- the pages below i were not refused, and their sheets and mends stand in the tables
@@ -33,21 +31,24 @@ ruleset back = (from-at-loop)
 loop-holds : tie.Need-loop-holds Inv-loop μ-loop
 loop-holds c = (omega arith, (refl, (refl, (refl, so-far-none _ _ _ _ _ _ _ _ _))))
 
-peek-requires : tie.Need-peek-requires Inv-loop μ-loop
-peek-requires c κs =
+read-requires : tie.Need-read-requires Inv-loop μ-loop
+read-requires c κs =
     let in-loop : tie.In-loop Inv-loop μ-loop = search in
     let at-loop : tie.At-loop Inv-loop μ-loop = search in
     let start : tie.Start Inv-loop μ-loop = search in
     let p = start .pre in
     let l = in-loop .loop-test .taken in
     let q = at-loop .loop .inv .1 .0 in
-    record {
-      lent = p .lent;
-      pspace-length = p .pspace-length;
-      bspace-length = p .bspace-length;
-      page-lt = let f = p .sheets-fit in omega arith;
-      page-length = q ∙ p .whole-length;
-    }
+    let f = p .sheets-fit in (
+      record {
+        lent = p .lent;
+        pspace-length = p .pspace-length;
+        bspace-length = p .bspace-length;
+        page-lt = omega arith;
+        page-length = q ∙ p .whole-length;
+      },
+      p .wide,
+    )
 
 same-length : tie.Need-same-length Inv-loop μ-loop
 same-length c = search needs
@@ -61,15 +62,12 @@ same-length-3 c = search needs
 returns : tie.Need-returns Inv-loop μ-loop
 returns c =
     let then1 : tie.Then1 Inv-loop μ-loop = search in
-    let after-peek : tie.After-peek Inv-loop μ-loop = search in
+    let after-read : tie.After-read Inv-loop μ-loop = search in
     let in-loop : tie.In-loop Inv-loop μ-loop = search in
     let at-loop : tie.At-loop Inv-loop μ-loop = search in
     let l = at-loop .loop in
-    met-first _ _ _ _ _ _ _ _ (l .i) _ _ (l .inv .1 .1 .1 .1) (in-loop .loop-test .taken) _ (after-peek .peek .ensures .fault-is)
+    met-first _ _ _ _ _ _ _ _ (l .i) _ _ (l .inv .1 .1 .1 .1) (in-loop .loop-test .taken) _ (after-read .read .ensures .fault-is)
     (then1 .if1 .taken)
-
-decode-requires : tie.Need-decode-requires Inv-loop μ-loop
-decode-requires c κs = search needs
 
 cast-at : tie.Need-cast-at Inv-loop μ-loop
 cast-at c = search needs
@@ -104,9 +102,8 @@ loop-less c = search needs
 loop-again : tie.Need-loop-again Inv-loop μ-loop
 loop-again c =
     let after-put : tie.After-put Inv-loop μ-loop = search in
-    let after-decode : tie.After-decode Inv-loop μ-loop = search in
     let else1 : tie.Else1 Inv-loop μ-loop = search in
-    let after-peek : tie.After-peek Inv-loop μ-loop = search in
+    let after-read : tie.After-read Inv-loop μ-loop = search in
     let in-loop : tie.In-loop Inv-loop μ-loop = search in
     let at-loop : tie.At-loop Inv-loop μ-loop = search in
     let start : tie.Start Inv-loop μ-loop = search back in
@@ -119,16 +116,16 @@ loop-again c =
     let tl = i .1 .1 .0 in
     let me = i .1 .1 .1 .0 in
     let none = else1 .if1 .left in
-    let k = after-peek .peek .ensures in (
+    let k = after-read .read .ensures in (
       omega arith,
       (
-        omega (arith, after-peek .peek .kept),
+        omega (arith, after-read .read .kept),
         (
           omega (arith, after-put .put .kept),
           (
             simp length-set me,
             so-far-more _ _ _ _ _ _ _ (l .i) (l .t) (l .mends) _ _ _ (omega arith) (me ∙ ml) (i .1 .1 .1 .1) (sym (k .fault-is) ∙ none)
-                (after-decode .decode .ensures ∙ ap sheetOf (page-met _ _ _ _ _ _ _ _ _ _ _ k none)) (k .mends-are)
+                (k .sheet-is none) (k .mends-are)
                 (after-put .put .ensures),
           ),
         ),
@@ -159,12 +156,11 @@ gather-spec =
     Inv-loop
     μ-loop
     loop-holds
-    peek-requires
+    read-requires
     same-length
     same-length-2
     same-length-3
     returns
-    decode-requires
     cast-at
     put-requires
     mul-mends

@@ -22,6 +22,8 @@ static uint32_t wear[BLOCKS], n;
 static enum kind kind;
 static clash_reply reply;
 static clash_run_reply run;
+static clash_report_reply report;
+static clash_tallies tallies;
 
 /* As large as a rehearsal takes them. */
 static const clash_setting setting = { 64, 16, 32, 128, 8, 1000, 16, 1024, 200, 200, 1 };
@@ -47,6 +49,8 @@ static void *call(void *unused) {
     case FETCH: run = clash_run_read(reply.cache, LENT, WHO, n % SHEETS, 0, page, PAGE); break;
     case REPLACE: run = clash_run_replace(reply.cache, LENT, WHO, n % SHEETS, 1, n, 1, page, PAGE); break;
     case MARK: run = clash_run_mark(reply.cache, LENT, WHO, n % SHEETS, 50, page, PAGE); break;
+    case REPORT: report = clash_report(reply.cache, LENT); break;
+    case REHEARSE: tallies = clash_rehearse(setting); break;
     case NOTHING: break;
     }
     if (kind >= ADD && kind <= MARK) reply.cache = run.cache;
@@ -139,5 +143,7 @@ int main(int words, char **word) {
     for (i = 1; i <= 7; i++) printf("back %u  %zu\n", i, back[i]);
     printf("step    %zu\nflush   %zu\n", step, flush);
     used_by_runs(none, state);
-    return 0;
+    printf("report  %zu\n", used(REPORT) - none);
+    printf("class   %zu\n", used(REHEARSE) - none);
+    return report.refusal || tallies.refusal;
 }

@@ -40,7 +40,7 @@ enum {
     CLASH_ACCEPTED = 0,
     CLASH_SIZE = 1,       /* open: a size, the wear limit or an option is beyond its limits */
     CLASH_BUFFER = 2,     /* a lent buffer has another length than sizes and options ask for; part: the bytes reach past the page */
-    CLASH_OVERWORN = 3,   /* open: a wear entry is above the wear limit */
+    CLASH_OVERWORN = 3,   /* open, report: a wear entry is above the wear limit */
     CLASH_RECORD = 4,     /* the record is not sound; the blank one is not */
     CLASH_PAGE = 5,       /* there is no such page */
     CLASH_WORN = 6,       /* a rewrite is due for block `block`, whose wear has reached the limit */
@@ -106,6 +106,15 @@ typedef struct {
     clash_answer answer;
 } clash_reply;
 
+/* What a report answers: the record as it was, and the wear in whole figures. All but the refusal is 0 where it is refused. */
+typedef struct {
+    clash_cache cache;
+    uint32_t refusal;
+    uint32_t largest; /* the wear of the block that was erased most */
+    uint64_t total;   /* erasures of all blocks */
+    uint64_t spread;  /* blocks times the sum of squares, minus the total squared: 0 where all blocks are worn alike */
+} clash_report_reply;
+
 /* The layout that the archive was compiled for. */
 #if defined(__cplusplus) && __cplusplus >= 201103L
 #define CLASH_ASSERT(condition, text) static_assert(condition, text)
@@ -122,6 +131,9 @@ CLASH_ASSERT(offsetof(clash_cache, directory) == 72 && offsetof(clash_reply, ans
 CLASH_ASSERT(offsetof(clash_directory, valid) == 8 && offsetof(clash_directory, uses) == 72, "valid sets and uses in the directory");
 CLASH_ASSERT(offsetof(clash_directory, frames) == 104 && offsetof(clash_directory, slots) == 136, "frames and slots in the directory");
 CLASH_ASSERT(offsetof(clash_answer, block) == 8 && offsetof(clash_answer, mended) == 20, "block and mends in the answer");
+CLASH_ASSERT(offsetof(clash_answer, torn) == 24, "torn blocks in the answer");
+CLASH_ASSERT(sizeof(clash_report_reply) == 744 && offsetof(clash_report_reply, refusal) == 720, "the report");
+CLASH_ASSERT(offsetof(clash_report_reply, total) == 728 && offsetof(clash_report_reply, spread) == 736, "its figures");
 
 /* Changes no buffer. A refused opening gives the blank record. Of a marked store it answers how many blocks are torn: those whose
  * rewrite was cut between its erasure and its last page. */
@@ -169,6 +181,13 @@ clash_reply clash_step(clash_cache cache,
 clash_reply clash_flush(clash_cache cache,
     uint8_t *flash, size_t flash_bytes, uint8_t *codes, size_t codes_bytes, uint8_t *marks, size_t marks_bytes,
     uint32_t *wear, size_t wear_count, const uint8_t *pspace, size_t pspace_bytes, uint8_t *bspace, size_t bspace_bytes,
+    const uint8_t *shelf, size_t shelf_bytes);
+
+/* The wear in whole figures. Refused 4, then 2, then 3; changes nothing. The standard deviation of the blocks' wear is the square root of
+ * the spread, divided by the number of blocks. */
+clash_report_reply clash_report(clash_cache cache,
+    const uint8_t *flash, size_t flash_bytes, const uint8_t *codes, size_t codes_bytes, const uint8_t *marks, size_t marks_bytes,
+    const uint32_t *wear, size_t wear_count, const uint8_t *pspace, size_t pspace_bytes, const uint8_t *bspace, size_t bspace_bytes,
     const uint8_t *shelf, size_t shelf_bytes);
 
 #ifdef __cplusplus

@@ -138,4 +138,11 @@ static inline clash_answer clash_store_flush(clash_store *store) {
     return clash_store_next(store, clash_flush(store->cache, CLASH_LENT));
 }
 
+/* The wear in whole figures. */
+static inline clash_report_reply clash_store_report(clash_store *store) {
+    clash_report_reply reply = clash_report(store->cache, CLASH_LENT);
+    store->cache = reply.cache;
+    return reply;
+}
+
 #endif

@@ -38,6 +38,7 @@ int main(void) {
     clash_sizes sizes = { PAGE, PER_BLOCK, BLOCKS, SLOTS, FRAMES, 9 };
     clash_options options = { CLASH_LRU, 1, SHELF, 0 };
     clash_store store;
+    clash_report_reply report;
     uint8_t page[PAGE], bytes[3] = { 1, 2, 3 };
     uint32_t n;
 
@@ -85,6 +86,9 @@ int main(void) {
     say("flush", clash_store_flush(&store), 0, 0, 2, 0);
     say("step", clash_store_step(&store), 0, 0, 0, 0);
 
+    report = clash_store_report(&store);
+    printf("%-28s total %u, largest %u, spread %u\n", "report", (unsigned)report.total, report.largest, (unsigned)report.spread);
+    wrong += report.refusal || report.total != 3 || report.largest != 1 || report.spread != 0;
     flash[5] ^= 1;
     say("read 0, a bit flipped", clash_store_read(&store, 0, page), 0, 3, 0, 1);
     wrong += page[5] != 7;
@@ -97,7 +101,10 @@ int main(void) {
     say("write 5", clash_store_write(&store, 5, page), 0, 3, 0, 0);
     say("flush, a worn block", clash_store_flush(&store), CLASH_WORN, 0, 0, 0);
     wear[2] = 10;
-    say("open, wear above the limit", clash_store_open(&store, sizes, options), CLASH_OVERWORN, 0, 0, 0);
+    report = clash_store_report(&store);
+    printf("%-28s refused %u\n", "report, wear above it", report.refusal);
+    wrong += report.refusal != CLASH_OVERWORN;
+    say_open("open, wear above the limit", clash_store_open(&store, sizes, options), CLASH_OVERWORN, 0);
     printf("%s\n", wrong ? "some answers are wrong" : "each answer is as it must be");
     return wrong != 0;
 }

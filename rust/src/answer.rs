@@ -17,6 +17,18 @@ pub enum Answer {
     Flush { rewrites: u32, merged: u32, mended: u32 },
 }
 
+/// The wear in whole figures, which a report answers.
+#[derive(Clone, Copy, Debug, PartialEq, Eq)]
+pub struct Report {
+    /// erasures of all blocks
+    pub total: u64,
+    /// the wear of the block that was erased most
+    pub largest: u32,
+    /// N times the sum of squares, minus the total squared: 0 where all blocks are worn alike. Its square root divided by N is the
+    /// standard deviation of the blocks' wear
+    pub spread: u64,
+}
+
 /// Why a call is turned down, by the documents' words.
 #[derive(Clone, Copy, Debug, PartialEq, Eq)]
 pub enum Refusal {
@@ -25,7 +37,7 @@ pub enum Refusal {
     Size,
     /// 2: a lent buffer has another length than sizes and options ask for, or the bytes of a part write reach past the page
     Buffer,
-    /// 3, opening: a wear entry is above the wear limit
+    /// 3, opening and report: a wear entry is above the wear limit
     Overworn,
     /// 4: the record is not sound
     Record,

@@ -1,6 +1,6 @@
-//! The calls of the store's archive, as `include/clash.h` declares them. Here and in `runs` is all unsafe code: a slice crosses as its
-//! pointer and its length, and Rust's borrows say that the buffers do not overlap.
-use crate::{Answer, Buffers, Cache, Options, Refusal, Sizes, VACANT};
+//! The calls of the store's archive, as `include/clash.h` declares them. Here, in `runs`, `cut` and `rehearsal` is all unsafe code: a slice
+//! crosses as its pointer and its length, and Rust's borrows say that the buffers do not overlap.
+use crate::{Answer, Buffers, Cache, Opened, Options, Refusal, Report, Sizes, VACANT};
 
 #[repr(C)]
 pub(crate) struct RawAnswer {
@@ -19,7 +19,17 @@ struct Reply {
     answer: RawAnswer,
 }
 
-const _: () = assert!(std::mem::size_of::<RawAnswer>() == 24 && std::mem::size_of::<Reply>() == 744);
+#[repr(C)]
+struct ReportReply {
+    cache: Cache,
+    refusal: u32,
+    largest: u32,
+    total: u64,
+    spread: u64,
+}
+
+const _: () = assert!(std::mem::size_of::<ReportReply>() == 744);
+const _: () = assert!(std::mem::size_of::<RawAnswer>() == 28 && std::mem::size_of::<Reply>() == 752);
 
 #[rustfmt::skip]
 extern "C" {
@@ -65,6 +75,12 @@ extern "C" {
         wear: *mut u32, wear_count: usize, pspace: *const u8, pspace_bytes: usize, bspace: *mut u8, bspace_bytes: usize,
         shelf: *const u8, shelf_bytes: usize,
     ) -> Reply;
+    fn clash_report(
+        cache: Cache,
+        flash: *const u8, flash_bytes: usize, codes: *const u8, codes_bytes: usize, marks: *const u8, marks_bytes: usize,
+        wear: *const u32, wear_count: usize, pspace: *const u8, pspace_bytes: usize, bspace: *const u8, bspace_bytes: usize,
+        shelf: *const u8, shelf_bytes: usize,
+    ) -> ReportReply;
 }
 
 /// Calls a function of the archive: what stands before the buffers, each buffer's pointer and length, and what stands after them.
@@ -139,6 +155,19 @@ impl Cache {
         let reply = call!(clash_flush(*self; lent.as_mut_ptr;));
         let a = self.next(&reply)?;
         Ok(Answer::Flush { rewrites: a.rewrites, merged: a.merged, mended: a.mended })
+    }
+
+    /// The wear in whole figures.
+    pub fn report(&self, lent: &Buffers) -> Result<Report, Refusal> {
+        let reply = call!(clash_report(*self; lent.as_ptr;));
+        debug_assert_eq!(reply.cache, *self, "a report changes nothing");
+        match reply.refusal {
+            0 => Ok(Report { total: reply.total, largest: reply.largest, spread: reply.spread }),
+            2 => Err(Refusal::Buffer),
+            3 => Err(Refusal::Overworn),
+            4 => Err(Refusal::Record),
+            other => unreachable!("a report has no refusal {other}"),
+        }
     }
 
     /// Takes the record of a reply, and gives the answer where the call was accepted.

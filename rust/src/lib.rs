@@ -29,7 +29,7 @@ mod record;
 mod runs;
 mod store;
 
-pub use answer::{Answer, Refusal};
+pub use answer::{Answer, Refusal, Report};
 pub use catalogue::{Added, Catalogue, Listed, Looked, NewRun, Role, Sheet};
 pub use memory::{Buffers, Memory};
 pub use record::{Cache, Directory, Options, Sizes, FIFO, LFU, LRU, VACANT};

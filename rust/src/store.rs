@@ -1,4 +1,4 @@
-use crate::{Answer, Buffers, Cache, Options, Refusal, Sizes};
+use crate::{Answer, Buffers, Cache, Opened, Options, Refusal, Report, Sizes};
 
 /// An open store. It keeps the record; the buffers are the caller's and are lent to each call.
 ///
@@ -103,6 +103,23 @@ impl Store {
     pub fn flush(&mut self, lent: &mut Buffers) -> Result<Answer, Refusal> {
         self.expect(lent);
         self.cache.flush(lent)
+    }
+
+    /// The wear in whole figures. Refused as overworn where an entry is above the wear limit.
+    ///
+    /// ```
+    /// use clash::{Memory, Options, Report, Sizes, Store};
+    ///
+    /// let sizes = Sizes::from([1, 2, 3, 2, 1, 9]);
+    /// let mut memory = Memory::new(&sizes);
+    /// memory.wear = vec![4, 0, 2];
+    /// let store = Store::open(sizes, Options::default(), &memory.lend())?;
+    /// assert_eq!(store.report(&memory.lend())?, Report { total: 6, largest: 4, spread: 3 * (16 + 0 + 4) - 6 * 6 });
+    /// # Ok::<(), clash::Refusal>(())
+    /// ```
+    pub fn report(&self, lent: &Buffers) -> Result<Report, Refusal> {
+        self.expect(lent);
+        self.cache.report(lent)
     }
 
     /// The record, for who wants to look at it or to call it directly.

@@ -1,5 +1,5 @@
 //! The same calls with the record by value, as document 01 has it: taken, and handed back beside the answer.
-use crate::{Buffers, Plain, Said};
+use crate::{Buffers, Plain, Refusal, Report, Said};
 
 pub type Outcome = (Plain, Said);
 
@@ -30,6 +30,12 @@ impl Plain {
     #[inline(never)]
     pub fn step_by_value(mut self, lent: &mut Buffers) -> Outcome {
         let answer = self.step(lent);
+        (self, answer)
+    }
+
+    #[inline(never)]
+    pub fn report_by_value(self, lent: &Buffers) -> (Plain, Result<Report, Refusal>) {
+        let answer = self.report(lent);
         (self, answer)
     }
 

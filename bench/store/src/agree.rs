@@ -73,6 +73,22 @@ fn history(random: &mut Random, tally: &mut Tally) {
     }
 }
 
+/// The reports of both, perhaps with an entry above the wear limit.
+fn report(random: &mut Random, side: &mut Side, tally: &mut Tally) {
+    let before = side.memory.wear[0];
+    if random.one_in(6) {
+        side.memory.wear[0] = random.of(&[side.cache.sizes.wear_limit, side.cache.sizes.wear_limit.wrapping_add(1), u32::MAX]);
+    }
+    let said = side.cache.report(&side.memory.lend()).map(both::report).map_err(both::refused);
+    assert_eq!(said, both::plain(side.cache).report(&both::lent(side.memory.lend())));
+    side.memory.wear[0] = before;
+    tally.calls += 1;
+    match said {
+        Ok(_) => tally.reports += 1,
+        Err(why) => tally.refused[why.number() as usize - 1] += 1,
+    }
+}
+
 fn opened(random: &mut Random, tally: &mut Tally) -> Option<Side> {
     let (limit, coded) = (1 + random.below(60), random.one_in(3));
     let s = if coded { 256 * (1 + random.below(2)) } else { 1 + random.below(20) };

@@ -8,7 +8,7 @@ use crate::random::Random;
 use clash::{Cache, Memory, Options, Sizes};
 use plain::{codes, Plain};
 
-/// The largest first: S, K, N, P, B, and coded.
+/// The largest first: S, K, N, P, B, and coded. Every other one has marks.
 const LARGEST: [([u32; 5], bool); 6] = [
     ([2048, 64, 257, 128, 8], false),
     ([2048, 64, 260, 128, 8], true),

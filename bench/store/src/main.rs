@@ -60,6 +60,7 @@ fn table(random: &mut Random, sizes: [u32; 6]) {
     (1..=7).for_each(|way| line(bench.write(way)));
     line(bench.step());
     line(bench.flush());
+    line(bench.report());
 }
 
 /// The calls that read or program flash, of a store with codes, all of which match.

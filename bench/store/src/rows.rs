@@ -161,6 +161,17 @@ const TAKE_BACK: Calls = Sides {
     },
 };
 
+const REPORT: Sides<Lent, Result<clash::Report, Refusal>, Result<plain::Report, plain::Refusal>> = Sides {
+    idle: lend,
+    proved: |c, _, l| c.report(&l.parts().0),
+    plain: |c, _, l| c.report(&l.plain_parts().0),
+    by_value: |c, _, l| {
+        let (next, answer) = c.report_by_value(&l.plain_parts().0);
+        *c = next;
+        answer
+    },
+};
+
 const STEP: Calls = Sides {
     idle: lend,
     proved: |c, _, l| c.step(&mut l.parts().0),
@@ -217,6 +228,18 @@ impl Bench {
         let cases = &self.cases.writes[way as usize - 1];
         same(cases, &mut self.lent, &TAKE_BACK, |answer| matches!(answer, Answer::Write { way: gone, .. } if gone == way));
         Row { name: format!("take back {way}"), times: measure(cases, &mut self.lent, TIME, Lent::place, &TAKE_BACK) }
+    }
+
+    /// The wear is some number below 1,000,000 for each block.
+    pub fn report(&mut self) -> Row {
+        let cases = &self.cases.writes[6];
+        self.lent.wear.iter_mut().for_each(|worn| *worn = self.lent.random.below(1_000_000));
+        let mut record = cases[0].record;
+        let said = (REPORT.proved)(&mut record, 0, &mut self.lent).expect("no block is worn");
+        assert_eq!(Ok(both::report(said)), (REPORT.plain)(&mut both::plain(record), 0, &mut self.lent));
+        let row = Row { name: "report".into(), times: measure(cases, &mut self.lent, TIME, Lent::place, &REPORT) };
+        self.lent.wear.fill(0);
+        row
     }
 
     pub fn step(&mut self) -> Row {

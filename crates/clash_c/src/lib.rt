@@ -1,4 +1,6 @@
 // The store for C and Rust programs: the record and the answers cross by value, a slice as its pointer and its length.
+mod figures; // figures.rt: the report of the wear
+
 use address::PageNo;
 use cache::Sizes;
 use replies::Answer;

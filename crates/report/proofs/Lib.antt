@@ -1,0 +1,3 @@
+pub mod Judging
+pub mod Changes
+pub mod Demand3

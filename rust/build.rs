@@ -7,8 +7,8 @@ use std::process::{Command, Stdio};
 use std::time::SystemTime;
 use std::{env, fs};
 
-/// The crates whose archives are linked: the store, and the catalogue above it.
-const CRATES: [&str; 2] = ["clash_c", "catalogue_c"];
+/// The crates whose archives are linked: the store, the catalogue above it, their calls that are cut off, for tests, and rehearsals.
+const CRATES: [&str; 4] = ["clash_c", "catalogue_c", "cut_c", "rehearsal_c"];
 
 const BUILT: &str = "target/staticlib";
 const RELEASED: &str = "lib";

@@ -3,6 +3,7 @@
 //!
 //! [`Store`] is an open store: it keeps the record and is lent the buffers call by call ([`Buffers`]). Each call answers an
 //! [`Answer`], or the [`Refusal`] that the documents name; a refused call changes nothing. [`Catalogue`] keeps runs in an open store.
+//! [`rehearse`] tries sizes against an imagined class.
 //!
 //! In debug builds `Store` asserts that what is lent has the lengths that the sizes ask for, since a wrong length is a mistake of
 //! the program. In release builds, and always in the calls of the record itself ([`Cache`]), the store's own refusal 2 says so.
@@ -26,11 +27,13 @@ mod catalogue;
 mod cut;
 mod memory;
 mod record;
+mod rehearsal;
 mod runs;
 mod store;
 
 pub use answer::{Answer, Refusal, Report};
 pub use catalogue::{Added, Catalogue, Listed, Looked, NewRun, Role, Sheet};
 pub use memory::{Buffers, Memory};
-pub use record::{Cache, Directory, Options, Sizes, FIFO, LFU, LRU, VACANT};
+pub use record::{Cache, Directory, Opened, Options, Sizes, FIFO, LFU, LRU, VACANT};
+pub use rehearsal::{rehearse, Setting, Tallies};
 pub use store::Store;

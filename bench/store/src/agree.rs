@@ -47,8 +47,7 @@ pub fn agree(random: &mut Random) {
     let met = reads.iter().chain(&writes).chain(&backs).chain(&cuts).chain(of_the_store).chain([&mended, &torn, &reports]);
     assert!(met.copied().all(|count| count > 40), "{reads:?} {writes:?} {backs:?} {cuts:?} {refused:?} {mended} {torn} {reports}");
     println!("{calls} calls in {HISTORIES} random histories: answers, records and buffers of both stores are equal after each.");
-    println!("reads by way {reads:?}, writes by way from 0 {writes:?}, taken back by way from 1 {backs:?},");
-    println!("{rewrites} rewrites by steps and flushes, {mended} chunks mended, refusals 1 to 8 {refused:?}\n");
+    tally.say();
 }
 
 fn history(random: &mut Random, tally: &mut Tally) {
@@ -63,6 +62,13 @@ fn history(random: &mut Random, tally: &mut Tally) {
             spoil(random, &mut proved);
         }
         proved.page.iter_mut().enumerate().for_each(|(i, byte)| *byte = byte.wrapping_add((i * 3 + 1) as u8));
+        let call = call(random, &proved.cache.sizes);
+        if random.one_in(4) {
+            cuts::agree(random, &proved, call, tally);
+        }
+        if random.one_in(8) {
+            report(random, &mut proved, tally);
+        }
         let mut plain = proved.clone();
         let call = call(random, &proved.cache.sizes);
         let answer = proved.proved(call);

@@ -95,3 +95,19 @@ pub fn looked(l: clash::Looked) -> plain::Looked {
     let sheet = plain::Sheet { run, trainee, sample, first, count, mark, replaces };
     plain::Looked { sheet, current: l.current, mended: l.mended }
 }
+
+/// A class to rehearse.
+pub fn rehearsal(c: clash::Setting) -> plain::Rehearsal {
+    let clash::Setting { sizes: z, benches, turns, write_rate, run_rate, state } = c;
+    plain::Rehearsal { sizes: sizes(z), benches, turns, write_rate, run_rate, state }
+}
+
+/// Way 0 is no way of a class.
+pub fn tallies(t: clash::Tallies) -> plain::Tallies {
+    let ([0, reads @ ..], [0, writes @ ..]) = (t.reads, t.writes) else { panic!("a call by way 0: {t:?}") };
+    plain::Tallies { reads, writes, erased: t.erased, merged: t.merged, refused: t.refused }
+}
+
+pub fn report(r: clash::Report) -> plain::Report {
+    plain::Report { total: r.total, largest: r.largest, spread: r.spread }
+}

@@ -28,14 +28,13 @@ pub fn agree(random: &mut Random) {
         let (sizes, options) = sizes(random, i);
         history(random, &mut tally, sizes, options);
     }
-    let Tally { calls, reads, writes, backs, rewrites, mended, refused } = tally;
-    let [_, buffer, _, _, page, worn, unreadable, empty] = refused;
-    let met = [buffer, page, worn, unreadable, empty, mended];
+    let Tally { calls, reads, writes, backs, mended, cuts, refused, .. } = tally;
+    let [_, buffer, _, _, page, worn, unreadable, empty, .., torn] = refused;
+    let met = [buffer, page, worn, unreadable, empty, torn, mended];
     assert!(reads.iter().chain(&writes).chain(&met).all(|&count| count > 40), "{reads:?} {writes:?} {met:?}");
     assert!(backs.iter().chain(&cuts).all(|&count| count > 0), "{backs:?} {cuts:?}");
     println!("{calls} calls in {HISTORIES} random histories at real sizes (N over 256, to S=2048, K=64, P=128, B=8): equal after each.");
-    println!("reads by way {reads:?}, writes by way from 0 {writes:?}, taken back by way from 1 {backs:?},");
-    println!("{rewrites} rewrites by steps and flushes, {mended} chunks mended, refusals 1 to 8 {refused:?}\n");
+    tally.say();
 }
 
 /// Sizes with more than 256 blocks, and options.
@@ -81,6 +80,8 @@ fn history(random: &mut Random, tally: &mut Tally, sizes: Sizes, options: Option
         }
         tally.count(call, answer);
     }
+    cuts::agree(random, &proved, Call::Flush, tally);
+    cuts::agree(random, &proved, Call::Step, tally);
 }
 
 /// A store on random flash, of which all codes match; the plain one opens alike.

@@ -8,6 +8,7 @@ mod cuts;
 mod large;
 mod numbers;
 mod random;
+mod rehearsals;
 mod rows;
 mod runs;
 mod timing;
@@ -27,6 +28,7 @@ fn main() {
     agree::agree(&mut random);
     large::agree(&mut random);
     runs::agree(&mut random);
+    rehearsals::agree(&mut random);
     println!("Median ns for one call. The sides use the same buffers, which are filled before and not cleared between calls.");
     println!("Plain Rust changes the record in place; \"by value\" takes it and hands it back, as the proved calls do.");
     for sizes in SIZES {

@@ -47,7 +47,7 @@ pub fn agree(random: &mut Random) {
     for _ in 0..HISTORIES {
         history(random, &mut tally);
     }
-    let Tally { calls, accepted, replaced, masked, refused } = tally;
+    let Tally { calls, accepted, replaced, masked, cuts, refused } = tally;
     let missing = |i: usize| matches!(i + 1, 3 | 5 | 8);
     let met = refused.iter().enumerate().filter(|(i, _)| !missing(*i)).map(|(_, count)| count);
     let met = met.chain(&accepted).chain(&cuts).chain([&replaced, &masked]);
@@ -67,6 +67,9 @@ fn history(random: &mut Random, tally: &mut Tally) {
             spoil(random, &mut proved);
         }
         let (who, ask) = (caller(random, sheets), ask(random, &proved.cache.sizes, sheets));
+        if random.one_in(4) {
+            cut(random, &proved, &who, ask, tally);
+        }
         let mut plain = proved.clone();
         let told = asked(&mut proved, &who, ask);
         assert_eq!(told, asked_plain(&mut plain, &who, ask), "{ask:?} by {who:?}");

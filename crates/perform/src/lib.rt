@@ -1,5 +1,5 @@
 // Each form of a line carried out on the store's own buffers, and the line that it prints.
-mod memory; // memory.rt: what fills the memory lent before a call, and a first byte
+pub mod memory; // memory.rt: what fills the memory lent before a call, and a first byte
 
 use address::PageNo;
 use cache::Sizes;

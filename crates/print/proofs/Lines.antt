@@ -15,7 +15,7 @@ abbrev pub end : List ℕ
 end = 41 ∷ (10 ∷ [])
 
 -- what follows the word of a line
-tails : List (List ℕ) → List ℕ
+unfoldable pub tails : List (List ℕ) → List ℕ
 tails [] = end
 tails (i ∷ l) = 32 ∷ (i ++ tails l)
 
@@ -25,7 +25,7 @@ tails-is [] = refl
 tails-is (i ∷ l) = ap (λ (x : List ℕ). 32 ∷ x) (append-assoc i (items l) (10 ∷ []) ∙ ap (λ (x : List ℕ). i ++ x) (tails-is l))
 
 -- a line from its word and what follows
-whole : (w : String) (l : List (List ℕ)) → (40 ∷ bytes w) ++ tails l ≡ line w l
+pub whole : (w : String) (l : List (List ℕ)) → (40 ∷ bytes w) ++ tails l ≡ line w l
 unfolding line form
 whole w l = ap (λ (x : List ℕ). 40 ∷ x) (ap (λ (x : List ℕ). bytes w ++ x) (sym (tails-is l))
     ∙ sym (append-assoc (bytes w) (items l) (10 ∷ [])))

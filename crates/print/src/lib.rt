@@ -147,7 +147,7 @@ fn put_number(out: &mut [u8], at: usize, lead: &[u8], n: u32) -> usize
 }
 
 // Each number in decimal, after a space.
-fn put_numbers(out: &mut [u8], at: usize, numbers: &[u32]) -> usize
+pub fn put_numbers(out: &mut [u8], at: usize, numbers: &[u32]) -> usize
     requires { ⌜ at + 11 * length (now numbers) ≤ length (now out) ⌝ }
     ensures { λ r. ⌜ (
         let d = numbers .entry in
@@ -165,7 +165,7 @@ fn put_numbers(out: &mut [u8], at: usize, numbers: &[u32]) -> usize
 }
 
 // The same and a closing bracket.
-fn put_field(out: &mut [u8], at: usize, lead: &[u8], n: u32) -> usize
+pub fn put_field(out: &mut [u8], at: usize, lead: &[u8], n: u32) -> usize
     requires { ⌜ at + (length (now lead) + 11) ≤ length (now out) ⌝ }
     ensures { λ r. ⌜ (
         Printed (length (now (lead .entry)) + 11) (now (lead .entry) ++ (decimal n ++ (41 ∷ []))) (now (out .entry)) at
@@ -188,7 +188,7 @@ fn put_erased(out: &mut [u8], at: usize, block: u32) -> usize
 }
 
 // The number of a refusal, after a space, and the end of the line.
-fn put_refused(out: &mut [u8], at: usize, number: u32) -> usize
+pub fn put_refused(out: &mut [u8], at: usize, number: u32) -> usize
     requires { ⌜ at + 23 ≤ length (now out) ⌝ }
     ensures { λ r. ⌜ Printed 23 (32 ∷ (refusal number ++ (41 ∷ (10 ∷ [])))) (now (out .entry)) at (now (out .exit)) r ⌝ }
 {
@@ -204,7 +204,7 @@ fn digit(n: u32) -> u8
 }
 
 // The bytes of src.
-fn put_bytes(out: &mut [u8], at: usize, src: &[u8]) -> usize
+pub fn put_bytes(out: &mut [u8], at: usize, src: &[u8]) -> usize
     requires { ⌜ at + length (now src) ≤ length (now out) ⌝ }
     ensures { λ r. ⌜ Printed (length (now (src .entry))) (now (src .entry)) (now (out .entry)) at (now (out .exit)) r ⌝ }
 {

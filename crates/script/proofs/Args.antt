@@ -52,32 +52,32 @@ read-more {ws} {rest} {w} {count} {values} r h k = record {
       ∙ ap (λ (n : ℕ). take n (set values count (valueOf w))) (sym (add-one count));
 }
 
-pub read-all : {ws : List (List ℕ)} (r : Numbers) → length (r .values) ≡ 6 → ReadTo ws [] (r .count) (r .values) → r .count ≤ 6
+pub read-all : {ws : List (List ℕ)} (r : Numbers) → length (r .values) ≡ 11 → ReadTo ws [] (r .count) (r .values) → r .count ≤ 11
     → NumbersOf ws r
 read-all {ws} r l d h =
     let e : ws ≡ d .front = d .split ∙ append-nil (d .front) in
     record {
       long = l;
-      six = λ _. ap (λ (l : List (List ℕ)). every (map isNumber l)) e ∙ d .numbers;
+      eleven = λ _. ap (λ (l : List (List ℕ)). every (map isNumber l)) e ∙ d .numbers;
       values = λ _. ap (map valueOf) e
           ∙ d .taken;
       more = λ k. absurd (omega arith);
     }
 
-pub read-past : {ws : List (List ℕ)} (r : Numbers) → length (r .values) ≡ 6 → r .count ≡ 7
-    → (every (map isNumber ws) && leb (length ws) 6) ≡ false → NumbersOf ws r
-read-past {ws} r l e h = record { long = l; six = λ k. absurd (omega arith); values = λ k. absurd (omega arith); more = λ _. h }
+pub read-past : {ws : List (List ℕ)} (r : Numbers) → length (r .values) ≡ 11 → r .count ≡ 12
+    → (every (map isNumber ws) && leb (length ws) 11) ≡ false → NumbersOf ws r
+read-past {ws} r l e h = record { long = l; eleven = λ k. absurd (omega arith); values = λ k. absurd (omega arith); more = λ _. h }
 
 pub read-stop : {ws rest : List (List ℕ)} {w : List ℕ} {count : ℕ} {values : List ℕ} → ReadTo ws (w ∷ rest) count values
-    → (isNumber w ≡ false) ⊎ (count ≡ 6)
-    → (every (map isNumber ws) && leb (length ws) 6) ≡ false
+    → (isNumber w ≡ false) ⊎ (count ≡ 11)
+    → (every (map isNumber ws) && leb (length ws) 11) ≡ false
 unfolding every
-read-stop {ws} {rest} {w} {count} {values} r h = by-test (every (map isNumber ws) && leb (length ws) 6) (λ t.
+read-stop {ws} {rest} {w} {count} {values} r h = by-test (every (map isNumber ws) && leb (length ws) 11) (λ t.
     let n : (every (map isNumber (r .front)) && every (map isNumber (w ∷ rest))) ≡ true =
     sym (every-front (r .front) (w ∷ rest)) ∙ ap (λ (l : List (List ℕ)). every (map isNumber l)) (sym (r .split))
-    ∙ and-l (every (map isNumber ws)) (leb (length ws) 6) t in
+    ∙ and-l (every (map isNumber ws)) (leb (length ws) 11) t in
     let i = and-l (isNumber w) (every (map isNumber rest)) (and-r (every (map isNumber (r .front))) (every (map isNumber (w ∷ rest))) n) in
-    let k = leb-true (length ws) 6 (and-r (every (map isNumber ws)) (leb (length ws) 6) t) in
+    let k = leb-true (length ws) 11 (and-r (every (map isNumber ws)) (leb (length ws) 11) t) in
     let l = ap length (r .split) ∙ length-append (r .front) (w ∷ rest) in
     let f = r .long in
     elim h [ inl q ↦ clash i q | inr q ↦ absurd (omega arith) ]) (λ t. t)

@@ -1,4 +1,5 @@
 pub mod Shown
+pub mod Limits
 pub mod Words
 pub mod Value
 pub mod Args

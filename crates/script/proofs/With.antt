@@ -1,4 +1,4 @@
--- The form of a word and its numbers, from the numbers as the code has them: a count, and six values of which so many count.
+-- The form of a word and its numbers, from the numbers as the code has them: a count, and eleven values of which so many count.
 use mathlib.Core.Path.{_≡_, refl, sym, ap}
 use mathlib.Core.Bool.{Bool, true, false, cond, not, _&&_, _||_, and-false}
 use mathlib.Core.List.{List, _∷_, map}
@@ -7,12 +7,12 @@ use native.Mathlib.Omega.{arith}
 use lib.Dec.{leb, eqb}
 use lib.ListN.{length, take, drop, getD, length-map}
 use lib.Seq.{length-take-le, getD-take}
-use borrow.Author.Tests.{eqb-true, ne-eqb, leb-false, le-leb, lt-leb}
+use borrow.Author.Tests.{eqb-true, ne-eqb, leb-true, leb-false, le-leb, lt-leb}
 use Rattle.prelude.proofs.Tests.{by-test, and-l, and-r, and-not-l}
 use Rattle.prelude.specs.Tests.{every}
 use Rattle.print.specs.Text.{bytes}
 use Rattle.script.specs.Forms.{Form, writes, reads, steps, flushes, wears, bad, wordsOf, valueOf, isNumber, opening, same, sizesFrom}
-use Rattle.script.specs.Forms.{formWith, formOfWords, bracketed, formOf}
+use Rattle.script.specs.Forms.{formWith, formOfWords, bracketed, inside, formOf}
 use Rattle.script.specs.Parts.{NumbersOf}
 use Rattle.script.specs.declared.Numbers.{Numbers}
 
@@ -132,39 +132,50 @@ form-more w ns h =
 module _ (w : List ℕ) (ws : List (List ℕ)) (r : Numbers) (n : NumbersOf ws r) where
   pub words-form : r .count ≤ 6 → formOfWords (w ∷ ws) ≡ formWith w (take (r .count) (r .values))
   unfolding formOfWords
-  words-form h = rw (n .six h, n .values h)
+  words-form h = rw (n .eleven (omega arith), n .values (omega arith))
 
   pub words-bad : 6 < r .count → formOfWords (w ∷ ws) ≡ bad
   unfolding formOfWords
   words-bad h = by-test (every (map isNumber ws))
-      (λ t. rw t (form-more w (map valueOf ws) (let l = leb-false (length ws) 6 (and-not-l t (n .more h)) in
-      let m = length-map ws valueOf in omega arith)))
+      (λ t. rw t (form-more w (map valueOf ws) (let m = length-map ws valueOf in by-test (leb (r .count) 11)
+      (λ e. let k = leb-true (r .count) 11 e in let q = ap length (n .values k) in
+      let z = n .long in let v = length-take-le (r .count) (r .values) (omega arith) in omega arith)
+      (λ e. let l = leb-false (length ws) 11 (and-not-l t (n .more (leb-false (r .count) 11 e))) in omega arith))))
       (λ t. rw t)
 
 -- ---- brackets
 
+neither : (a b : Bool) → (not a || not b) ≡ true → (a && (b && true)) ≡ false
+neither true true h = sym h
+neither true false h = refl
+neither false b h = refl
+
+both : (a b : Bool) → (not a || not b) ≡ false → (a && (b && true)) ≡ true
+both true true h = refl
+both true false h = sym h
+both false b h = sym h
+
+-- whether a line stands in brackets, as the code tests it
 module _ (l : List ℕ) where
-  pub short-bad : length l < 2 → formOf l ≡ bad
-  unfolding formOf bracketed every
-  short-bad h = rw (lt-leb 2 (length l) h)
+  pub short-bare : length l < 2 → bracketed l ≡ false
+  unfolding bracketed every
+  short-bare h = rw (lt-leb 2 (length l) h)
 
-  neither : (a b : Bool) → (not a || not b) ≡ true → (a && (b && true)) ≡ false
-  neither true true h = sym h
-  neither true false h = refl
-  neither false b h = refl
+  pub not-bracketed : 2 ≤ length l → (not (eqb (getD l 0 0) 40) || not (eqb (getD l (length l - 1) 0) 41)) ≡ true → bracketed l ≡ false
+  unfolding bracketed every
+  not-bracketed h t = rw (le-leb 2 (length l) h, neither (eqb (getD l 0 0) 40) (eqb (getD l (length l - 1) 0) 41) t)
 
-  both : (a b : Bool) → (not a || not b) ≡ false → (a && (b && true)) ≡ true
-  both true true h = refl
-  both true false h = sym h
-  both false b h = sym h
+  pub is-bracketed : 2 ≤ length l → (not (eqb (getD l 0 0) 40) || not (eqb (getD l (length l - 1) 0) 41)) ≡ false → bracketed l ≡ true
+  unfolding bracketed every
+  is-bracketed h t = rw (le-leb 2 (length l) h, both (eqb (getD l 0 0) 40) (eqb (getD l (length l - 1) 0) 41) t)
 
-  pub bare-bad : 2 ≤ length l → (not (eqb (getD l 0 0) 40) || not (eqb (getD l (length l - 1) 0) 41)) ≡ true → formOf l ≡ bad
-  unfolding formOf bracketed every
-  bare-bad h t = rw (le-leb 2 (length l) h, neither (eqb (getD l 0 0) 40) (eqb (getD l (length l - 1) 0) 41) t)
+  pub inside-is : 2 ≤ length l → inside l ≡ take (length l - 1 - 1) (drop 1 l)
+  inside-is h = let e : length l - 2 ≡ length l - 1 - 1 = omega arith in ap (λ (k : ℕ). take k (drop 1 l)) e
 
-  pub inside-form : 2 ≤ length l → (not (eqb (getD l 0 0) 40) || not (eqb (getD l (length l - 1) 0) 41)) ≡ false
-      → formOf l ≡ formOfWords (wordsOf (take (length l - 1 - 1) (drop 1 l)))
-  unfolding formOf bracketed every
-  inside-form h t =
-      let e : length l - 1 - 1 ≡ length l - 2 = omega arith in
-      rw (le-leb 2 (length l) h, both (eqb (getD l 0 0) 40) (eqb (getD l (length l - 1) 0) 41) t, e)
+  pub bad-form : bracketed l ≡ false → formOf l ≡ bad
+  unfolding formOf
+  bad-form e = rw e
+
+  pub inside-form : bracketed l ≡ true → 2 ≤ length l → formOf l ≡ formOfWords (wordsOf (take (length l - 1 - 1) (drop 1 l)))
+  unfolding formOf
+  inside-form e h = rw (e, inside-is h)

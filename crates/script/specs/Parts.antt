@@ -26,9 +26,9 @@ numberOf w = cond (isNumber w) (valueOf w) 4294967296
 abbrev pub wordsAfter : List ℕ → ℕ → List (List ℕ)
 wordsAfter l e = cond (ltb e (length l)) (wordsOf (drop (e + 1) l)) []
 
--- the words ws are at most six numbers, and r has them; or r counts 7
+-- the words ws are at most eleven numbers, and r has them; or r counts 12
 pub record NumbersOf (ws : List (List ℕ)) (r : Numbers) : Type 0 where
-  pub long : length (r .values) ≡ 6
-  pub six : r .count ≤ 6 → every (map isNumber ws) ≡ true
-  pub values : r .count ≤ 6 → map valueOf ws ≡ take (r .count) (r .values)
-  pub more : 6 < r .count → (every (map isNumber ws) && leb (length ws) 6) ≡ false
+  pub long : length (r .values) ≡ 11
+  pub eleven : r .count ≤ 11 → every (map isNumber ws) ≡ true
+  pub values : r .count ≤ 11 → map valueOf ws ≡ take (r .count) (r .values)
+  pub more : 11 < r .count → (every (map isNumber ws) && leb (length ws) 11) ≡ false

@@ -27,10 +27,10 @@ pub enum Form {
     Bad,
 }
 
-// The numbers after a form's word: at most six, and a count of 7 for anything else.
-struct Numbers {
-    count: usize,
-    values: [u32; 6],
+// The numbers after a line's word: at most eleven, and a count of 12 for anything else.
+pub struct Numbers {
+    pub count: usize,
+    pub values: [u32; 11],
 }
 
 // The form of a line, which is lent without its byte 10.
@@ -62,7 +62,7 @@ fn form_of(s: &[u8]) -> Form
 
 // The form of a word and its numbers.
 fn form_with(w: &[u8], a: Numbers) -> Form
-    requires { ⌜ (a .count ≤ 6) × (length (a .values) ≡ 6) ⌝ }
+    requires { ⌜ (a .count ≤ 6) × (length (a .values) ≡ 11) ⌝ }
     ensures { λ r. ⌜ meant r ≡ formWith (now (w .entry)) (take (a .count) (a .values)) ⌝ }
 {
     let n = a.values;
@@ -91,7 +91,7 @@ fn form_with(w: &[u8], a: Numbers) -> Form
 }
 
 // The sizes of an opening, in the order of its numbers.
-fn sizes_of(n: [u32; 6]) -> Sizes
+fn sizes_of(n: [u32; 11]) -> Sizes
     ensures { λ r. ⌜ sizesOf r ≡ sizesFrom n ⌝ }
 {
     Sizes {
@@ -133,7 +133,7 @@ fn opening(sizes: Sizes) -> Form
 }
 
 // Whether no buffer needs over 32,768 bytes.
-fn buffers_fit(sizes: Sizes) -> bool
+pub fn buffers_fit(sizes: Sizes) -> bool
     requires { ⌜ InLimits (five (sizesOf sizes)) ⌝ }
     ensures { λ r. ⌜ r ≡ buffersFit (sizesOf sizes) ⌝ }
 {
@@ -144,22 +144,22 @@ fn buffers_fit(sizes: Sizes) -> bool
 }
 
 // The numbers after the word that ends at `from`, each after one space.
-fn read_numbers(s: &[u8], from: usize) -> Numbers
+pub fn read_numbers(s: &[u8], from: usize) -> Numbers
     requires { ⌜ from ≤ length (now s) ⌝ }
     ensures { λ r. ⌜ NumbersOf (wordsAfter (now (s .entry)) from) r ⌝ }
 {
-    let mut values = [0u32; 6];
+    let mut values = [0u32; 11];
     let mut count = 0;
     let mut at = from;
     while at < s.len() {
-        if count == 6 {
-            return Numbers { count: 7, values };
+        if count == 11 {
+            return Numbers { count: 12, values };
         }
         let a = at + 1;
         let e = end_of(s, a, b' ');
         let value = number(&s[a..e]);
         if value >= NONE {
-            return Numbers { count: 7, values };
+            return Numbers { count: 12, values };
         }
         values[count] = value as u32;
         count += 1;
@@ -219,7 +219,7 @@ pub fn end_of(s: &[u8], at: usize, b: u8) -> usize
 }
 
 // Whether w and word are the same bytes.
-fn is_word(w: &[u8], word: &[u8]) -> bool
+pub fn is_word(w: &[u8], word: &[u8]) -> bool
     ensures { λ r. ⌜ r ≡ same (now (w .entry)) (now (word .entry)) ⌝ }
 {
     let n = w.len();

@@ -8,11 +8,11 @@ use lib.Dec.{leb, ltb, eqb}
 use lib.ListN.{length, getD, drop}
 use borrow.Author.Tests.{ltb-true, ltb-false, lt-ltb, le-ltb}
 use Rattle.prelude.specs.Tests.{every}
-use Rattle.prelude.proofs.Tests.{by-test, clash, and-not-l, not-f}
+use Rattle.prelude.proofs.Tests.{by-test, and-not-l, not-f}
 use Rattle.model.specs.Sizes.{Sizes, sizesOk, isCoded, isMarked}
 use Rattle.model.specs.Directory.{blankCache}
 use Rattle.model.specs.Shelf.{noEntries, ShelfStore}
-use Rattle.model.proofs.Soundness.{coded-off, limits-of, limits-test}
+use Rattle.model.proofs.Soundness.{limits-of, limits-test}
 use Rattle.model.proofs.Plain.{uncoded, unmarked}
 use Rattle.print.specs.Text.{bytes}
 use Rattle.print.specs.Print.{badLine}
@@ -20,6 +20,7 @@ use Rattle.script.specs.Forms.{Form, writes, reads, steps, flushes, wears, bad,
 use Rattle.script.specs.Forms.{formWith, formOfWords, valueOf, wordsOf, bracketed, inside, formOf}
 use Rattle.script.specs.Parts.{upTo}
 use Rattle.script.specs.Walk.{Item, line, end, itemAt}
+use Rattle.script.proofs.Limits.{five-in}
 use Rattle.script.proofs.Words.{lines-from, lines-none, end-le}
 use Rattle.script.proofs.Walk.{item-line, item-end}
 use Rattle.cache.specs.View.{sizesOf}
@@ -58,27 +59,7 @@ blank-front c e flash wear pspace bspace = λ i. record {
 -- ---- the form of every line is one whose buffers fit
 
 five-ok : (sz : Sizes) → sizesOk sz ≡ true → sizesOk (five sz) ≡ true
-five-ok sz ok =
-    let h = limits-of sz ok in
-    limits-test (five sz) (record {
-      S-low = h .S-low;
-      S-high = h .S-high;
-      K-low = h .K-low;
-      K-high = h .K-high;
-      N-low = h .N-low;
-      N-high = h .N-high;
-      P-low = h .P-low;
-      P-high = h .P-high;
-      B-low = h .B-low;
-      B-high = h .B-high;
-      W-low = omega arith;
-      W-high = omega arith;
-      policy-high = omega arith;
-      coded-high = omega arith;
-      shelf-high = omega arith;
-      marked-is = refl;
-      whole = λ e. clash e (coded-off (five sz) (λ (q : _≡_ {A = ℕ} 0 1). omega arith));
-    })
+five-ok sz ok = limits-test (five sz) (five-in sz (limits-of sz ok))
 
 sized-cond : (b : Bool) (x y : Form) → Sized x → Sized y → Sized (cond b x y)
 sized-cond true x y h k = h

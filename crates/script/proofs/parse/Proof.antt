@@ -1,11 +1,11 @@
 use mathlib.Core.Path.{sym, _∙_}
-use Rattle.script.proofs.With.{short-bad, bare-bad, inside-form}
+use Rattle.script.proofs.With.{short-bare, not-bracketed, is-bracketed, bad-form, inside-form}
 use borrow.Author.Needs.{needs}
 use Rattle.script.proofs.parse.Statement.{statement}
 use Rattle.script.proofs.parse.Tie as tie
 
 returns : tie.Need-returns
-returns c = sym (short-bad _ (c .if1 .taken))
+returns c = sym (bad-form _ (short-bare _ (c .if1 .taken)))
 
 sub-last : tie.Need-sub-last
 sub-last c = search needs
@@ -19,7 +19,7 @@ shared-slice-read-if2-2 c = search needs
 returns-2 : tie.Need-returns-2
 returns-2 c =
     let else1 : tie.Else1 = search in
-    sym (bare-bad _ (else1 .if1 .left) (c .if2 .taken))
+    sym (bad-form _ (not-bracketed _ (else1 .if1 .left) (c .if2 .taken)))
 
 sub-form-of : tie.Need-sub-form-of
 sub-form-of c = search needs
@@ -37,7 +37,7 @@ returns-3 : tie.Need-returns-3
 returns-3 c =
     let else2 : tie.Else2 = search in
     let else1 : tie.Else1 = search in
-    c .form-of .ensures ∙ sym (inside-form _ (else1 .if1 .left) (else2 .if2 .left))
+    c .form-of .ensures ∙ sym (inside-form _ (is-bracketed _ (else1 .if1 .left) (else2 .if2 .left)) (else1 .if1 .left))
 
 pub parse-spec : {M : Type 1} → statement M
 parse-spec =

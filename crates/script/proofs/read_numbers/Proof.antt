@@ -15,7 +15,7 @@ use Rattle.script.proofs.read_numbers.Tie as tie
 -- the words before at are count numbers, which stand in values, and the words after at are still to be read
 abbrev Inv-loop : tie.InvT-loop
 Inv-loop s from values₀ count₀ at₀ values count at = (at ≤ length s)
-    × ((count ≤ 6) × ((length values ≡ 6) × ReadTo (wordsAfter s from) (wordsAfter s at) count values))
+    × ((count ≤ 11) × ((length values ≡ 11) × ReadTo (wordsAfter s from) (wordsAfter s at) count values))
 
 abbrev μ-loop : tie.MeasureT-loop
 μ-loop s from values₀ count₀ at₀ values count at = length s - at

@@ -122,7 +122,7 @@ static void used_by_runs(size_t none, uint32_t state) {
 int main(int words, char **word) {
     size_t none, open, read[4] = { 0 }, write[8] = { 0 }, part[8] = { 0 }, back[8] = { 0 }, step = 0, flush = 0;
     uint32_t i, state = 1;
-    set_options(words > 1 && !strcmp(word[1], "coded"), words > 1 ? (uint32_t)atoi(word[1]) : 0);
+    set_options(words > 1 ? word[1] : "");
     none = used(NOTHING);
     open = used(OPEN) - none;
     for (i = 0; i < CALLS; i++) {

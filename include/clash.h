@@ -35,7 +35,7 @@ extern "C" {
 /* No page, no block. */
 #define CLASH_VACANT 4294967295u
 
-/* Why a call is turned down; 0 is an accepted call. */
+/* Why a call is turned down; 0 is an accepted call. 9 to 13 are the catalogue's (clash_runs.h). */
 enum {
     CLASH_ACCEPTED = 0,
     CLASH_SIZE = 1,       /* open: a size, the wear limit or an option is beyond its limits */
@@ -125,7 +125,7 @@ typedef struct {
 #endif
 CLASH_ASSERT(sizeof(size_t) == 8 && sizeof(void *) == 8, "the archive is for x86-64");
 CLASH_ASSERT(sizeof(clash_sizes) == 24 && sizeof(clash_options) == 16 && sizeof(clash_directory) == 648, "the parts of the record");
-CLASH_ASSERT(sizeof(clash_cache) == 720 && sizeof(clash_answer) == 24 && sizeof(clash_reply) == 744, "record, answer and reply");
+CLASH_ASSERT(sizeof(clash_cache) == 720 && sizeof(clash_answer) == 28 && sizeof(clash_reply) == 752, "record, answer and reply");
 CLASH_ASSERT(offsetof(clash_cache, options) == 24 && offsetof(clash_cache, entries) == 40, "options and entries in the record");
 CLASH_ASSERT(offsetof(clash_cache, directory) == 72 && offsetof(clash_reply, answer) == 720, "directory and answer");
 CLASH_ASSERT(offsetof(clash_directory, valid) == 8 && offsetof(clash_directory, uses) == 72, "valid sets and uses in the directory");

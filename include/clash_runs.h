@@ -10,8 +10,8 @@
  * add, replace or mark leaves its sheet in the page buffer, an accepted read its page, and nothing else changes it. A refused call
  * changes nothing. clash_store_runs.h has calls with fewer arguments.
  *
- * Refused in this order: 12, 4, 2, 1, then what the store refuses of the lowest sheet that it refuses (7), then 9, 10, 13, 11, then what
- * the store refuses of the last step (6, 7). */
+ * Refused in this order: 12, 4, 2, 1, then what the store refuses of the lowest sheet that it refuses (7, 14), then 9, 10, 13, 11, then
+ * what the store refuses of the last step (6, 7, 14). */
 #ifndef CLASH_RUNS_H
 #define CLASH_RUNS_H
 
@@ -70,12 +70,12 @@ typedef struct {
     clash_run_answer answer;
 } clash_run_reply;
 
-CLASH_ASSERT(sizeof(clash_run_sheet) == 28 && sizeof(clash_run_answer) == 60 && sizeof(clash_run_reply) == 784, "sheet, answer and reply");
+CLASH_ASSERT(sizeof(clash_run_sheet) == 28 && sizeof(clash_run_answer) == 64 && sizeof(clash_run_reply) == 784, "sheet, answer and reply");
 CLASH_ASSERT(offsetof(clash_run_sheet, trainee) == 4 && offsetof(clash_run_sheet, sample) == 8, "trainee and sample in the sheet");
 CLASH_ASSERT(offsetof(clash_run_sheet, first) == 12 && offsetof(clash_run_sheet, count) == 16, "the pages in the sheet");
 CLASH_ASSERT(offsetof(clash_run_sheet, mark) == 20 && offsetof(clash_run_sheet, replaces) == 24, "mark and replaced run in the sheet");
-CLASH_ASSERT(offsetof(clash_run_answer, run) == 24 && offsetof(clash_run_answer, current) == 28, "run and current run in the answer");
-CLASH_ASSERT(offsetof(clash_run_answer, sheet) == 32 && offsetof(clash_run_reply, answer) == 720, "sheet and answer");
+CLASH_ASSERT(offsetof(clash_run_answer, run) == 28 && offsetof(clash_run_answer, current) == 32, "run and current run in the answer");
+CLASH_ASSERT(offsetof(clash_run_answer, sheet) == 36 && offsetof(clash_run_reply, answer) == 720, "sheet and answer");
 
 /* The sheet of a run as the caller sees it, and the current run. */
 clash_run_reply clash_run_look(clash_cache cache,

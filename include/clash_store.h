@@ -19,6 +19,7 @@
 /* How long buffers are, for arrays: S bytes a page, K pages a block, N blocks, P slots, B frames. Wear has N numbers. */
 #define CLASH_FLASH_BYTES(S, K, N) ((size_t)(N) * (size_t)(K) * (size_t)(S))
 #define CLASH_CODES_BYTES(S, K, N) ((size_t)(N) * (size_t)(K) * ((size_t)(S) / 256 * 3))
+#define CLASH_MARKS_BYTES(K, N) ((size_t)(N) * (size_t)(K))
 #define CLASH_PSPACE_BYTES(S, P) ((size_t)(P) * (size_t)(S))
 #define CLASH_BSPACE_BYTES(S, K, B) ((size_t)(B) * (size_t)(K) * (size_t)(S))
 

@@ -88,7 +88,7 @@ fn build(root: &Path, name: &str) {
     if found != pinned {
         say(&mut words, &format!("clash: another Rattle kit: found '{found}', and KIT names '{pinned}'. The kit found goes on."));
     }
-    say(&mut words, &format!("clash: proving and building {archive}; about ten minutes on two cores if nothing is proved yet"));
+    say(&mut words, &format!("clash: proving and building {archive}; about twenty minutes on two cores if nothing is proved yet"));
     let said = prove(root, name, &mut words).unwrap_or_else(|e| panic!("`rt staticlib {name}` could not be run: {e}"));
     if let Err(said) = said {
         panic!("`rt staticlib {name}` failed:\n{said}");

@@ -36,7 +36,7 @@ static const uint8_t *bytes_of(int byte) {
 
 int main(void) {
     clash_sizes sizes = { PAGE, PER_BLOCK, BLOCKS, SLOTS, FRAMES, 9 };
-    clash_options options = { CLASH_LRU, 1, SHELF, 0 };
+    clash_options options = { CLASH_LRU, 1, SHELF, 1 };
     clash_store store;
     clash_report_reply report;
     uint8_t page[PAGE], bytes[3] = { 1, 2, 3 };
@@ -46,7 +46,7 @@ int main(void) {
     memset(flash, 255, sizeof flash);
     memset(codes, 255, sizeof codes);
     memset(page, 7, sizeof page);
-    say("open, nothing lent", clash_store_open(&store, sizes, options), CLASH_BUFFER, 0, 0, 0);
+    say_open("open, nothing lent", clash_store_open(&store, sizes, options), CLASH_BUFFER, 0);
     say("read, not open", clash_store_read(&store, 0, page), CLASH_RECORD, 0, 0, 0);
 
     store.flash = flash;
@@ -64,9 +64,9 @@ int main(void) {
     store.shelf = shelf;
     store.shelf_bytes = clash_shelf_bytes(sizes, options);
     sizes.frames = 9;
-    say("open, 9 frames", clash_store_open(&store, sizes, options), CLASH_SIZE, 0, 0, 0);
+    say_open("open, 9 frames", clash_store_open(&store, sizes, options), CLASH_SIZE, 0);
     sizes.frames = FRAMES;
-    say("open", clash_store_open(&store, sizes, options), 0, 0, 0, 0);
+    say_open("open", clash_store_open(&store, sizes, options), 0, 0);
     say("take back, nothing written", clash_store_take_back(&store), CLASH_EMPTY, 0, 0, 0);
 
     for (n = 0; n < 4; n += 2) say("write 0 and 2", clash_store_write(&store, n, page), 0, 3, 0, 0);

@@ -150,7 +150,7 @@ impl Cache {
         Ok(Answer::Step { block: a.block, merged: a.merged, mended: a.mended })
     }
 
-    /// Rewrites every block that has pages cached, or none where one of them is worn.
+    /// Rewrites every block that has pages cached, or none where one of them is worn or has a page to merge that cannot be read.
     pub fn flush(&mut self, lent: &mut Buffers) -> Result<Answer, Refusal> {
         let reply = call!(clash_flush(*self; lent.as_mut_ptr;));
         let a = self.next(&reply)?;

@@ -16,7 +16,7 @@ struct RunReply {
     answer: RunAnswer,
 }
 
-const _: () = assert!(std::mem::size_of::<RunAnswer>() == 60 && std::mem::size_of::<RunReply>() == 784);
+const _: () = assert!(std::mem::size_of::<RunAnswer>() == 64 && std::mem::size_of::<RunReply>() == 784);
 
 #[rustfmt::skip]
 extern "C" {

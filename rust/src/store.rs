@@ -99,7 +99,7 @@ impl Store {
         self.cache.step(lent)
     }
 
-    /// Rewrites every block that has pages cached, or none where one of them is worn.
+    /// Rewrites every block that has pages cached, or none where one of them is worn or has a page to merge that cannot be read.
     pub fn flush(&mut self, lent: &mut Buffers) -> Result<Answer, Refusal> {
         self.expect(lent);
         self.cache.flush(lent)

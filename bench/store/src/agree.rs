@@ -6,7 +6,7 @@ use crate::both;
 use crate::cuts;
 use crate::random::Random;
 use clash::{Cache, Memory, Options, Sizes, VACANT};
-use plain::{codes, Answer, Plain, Said};
+use plain::{codes, Answer, Said};
 
 const HISTORIES: u32 = 1000;
 const CALLS: u32 = 400;
@@ -70,7 +70,6 @@ fn history(random: &mut Random, tally: &mut Tally) {
             report(random, &mut proved, tally);
         }
         let mut plain = proved.clone();
-        let call = call(random, &proved.cache.sizes);
         let answer = proved.proved(call);
         assert_eq!(answer, plain.plain(call), "{call:?}");
         assert!(proved == plain, "{call:?} leaves another record or other bytes");
@@ -100,16 +99,18 @@ fn opened(random: &mut Random, tally: &mut Tally) -> Option<Side> {
     let s = if coded { 256 * (1 + random.below(2)) } else { 1 + random.below(20) };
     let mut sizes = [s, 2 + random.below(8), 1 + random.below(10), 1 + random.below(12), 1 + random.below(4), limit];
     let shelf_pages = if random.one_in(2) { 0 } else { 1 + random.below(8) };
-    let mut options = [random.below(3), coded as u32, shelf_pages, 0];
+    let mut options = [random.below(3), coded as u32, shelf_pages, random.below(2)];
     let mut memory = Memory::with_options(&Sizes::from(sizes), &Options::from(options));
     memory.flash = random.bytes(memory.flash.len());
     memory.shelf = random.bytes(memory.shelf.len());
     codes::encode(&mut memory.codes, &memory.flash);
+    if random.one_in(2) {
+        tear(random, &mut memory);
+    }
     spoil_opening(random, &mut sizes, &mut options, &mut memory);
     let (sizes, options) = (Sizes::from(sizes), Options::from(options));
-    let cache = Cache::open(sizes, options, &memory.lend());
-    let plain = Plain::open(both::sizes(sizes), both::options(options), &both::lent(memory.lend()));
-    assert_eq!(cache.map_err(both::refused), plain.map(both::proved));
+    let [proved, plain] = both::opened(sizes, options, &mut memory);
+    assert_eq!(proved, plain);
     tally.calls += 1;
     match proved {
         Ok(opened) => {
@@ -168,6 +169,7 @@ fn tear(random: &mut Random, m: &mut Memory) {
 
 /// Flips a bit of flash or of the codes, of a store that has some, or lets all codes match again; the same of marks.
 pub fn disturb(random: &mut Random, m: &mut Memory) {
+    tear(random, m);
     if m.codes.is_empty() {
         return;
     }
@@ -245,7 +247,7 @@ pub fn call(random: &mut Random, sizes: &Sizes) -> Call {
 }
 
 /// What a part write lays in.
-fn bytes(first: u32, many: usize) -> Vec<u8> {
+pub fn bytes(first: u32, many: usize) -> Vec<u8> {
     (0..many).map(|i| (first as usize + i * 5) as u8).collect()
 }
 

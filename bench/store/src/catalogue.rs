@@ -90,7 +90,7 @@ fn row(random: &mut Random, sizes: Sizes, options: Options, name: &str, cached: 
 /// The first run of a chain, else some run. The cache has no page or, in every slot and frame, pages above the sheets.
 fn case(random: &mut Random, sizes: Sizes, options: Options, cached: bool, chained: bool) -> Case {
     let mut memory = Memory::with_options(&sizes, &options);
-    let mut record = Cache::open(sizes, options, &memory.lend()).expect("sizes within limits");
+    let mut record = Cache::open(sizes, options, &memory.lend()).expect("sizes within limits").cache;
     let page = vec![0; sizes.page_size as usize];
     while cached && !is_full(&record) {
         let n = SHEETS + random.below(sizes.pages() - SHEETS);

@@ -5,8 +5,8 @@ use crate::agree::{reshelve, Call, Side, Tally};
 use crate::both;
 use crate::cuts;
 use crate::random::Random;
-use clash::{Cache, Memory, Options, Sizes};
-use plain::{codes, Plain};
+use clash::{Memory, Options, Sizes};
+use plain::codes;
 
 /// The largest first: S, K, N, P, B, and coded. Every other one has marks.
 const LARGEST: [([u32; 5], bool); 6] = [
@@ -48,7 +48,7 @@ fn sizes(random: &mut Random, i: usize) -> (Sizes, Options) {
     });
     let limit = if random.one_in(2) { 1_000_000 } else { 4 + random.below(12) };
     let shelf_pages = if random.one_in(2) { 0 } else { 1 + random.below(8) };
-    (Sizes::from([s, k, n, p, b, limit]), Options::from([random.below(3), coded as u32, shelf_pages, 0]))
+    (Sizes::from([s, k, n, p, b, limit]), Options::from([random.below(3), coded as u32, shelf_pages, i as u32 % 2]))
 }
 
 fn history(random: &mut Random, tally: &mut Tally, sizes: Sizes, options: Options) {
@@ -90,10 +90,9 @@ fn opened(random: &mut Random, sizes: Sizes, options: Options) -> Side {
     memory.flash = random.bytes(memory.flash.len());
     memory.shelf = random.bytes(memory.shelf.len());
     codes::encode(&mut memory.codes, &memory.flash);
-    let cache = Cache::open(sizes, options, &memory.lend());
-    let plain = Plain::open(both::sizes(sizes), both::options(options), &both::lent(memory.lend()));
-    assert_eq!(cache.map_err(both::refused), plain.map(both::proved));
-    Side { cache: cache.expect("sizes within limits"), memory, page: random.bytes(sizes.page_size as usize) }
+    let [proved, plain] = both::opened(sizes, options, &mut memory);
+    assert_eq!(proved, plain);
+    Side { cache: proved.expect("sizes within limits").cache, memory, page: random.bytes(sizes.page_size as usize) }
 }
 
 /// All that a call can change, but of flash, codes and marks the blocks alone that it rewrote.

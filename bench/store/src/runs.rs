@@ -2,7 +2,6 @@
 //! of the catalogue are mixed with those of the store, which also write foreign sheets; bits flip, pages become torn, records and buffers
 //! are spoilt. Some calls are cut off first, on copies.
 use crate::agree::{call, disturb, spoil, Call, Side};
-use crate::both;
 use crate::random::Random;
 use crate::{both, cuts};
 use clash::{Cache, Catalogue, Memory, NewRun, Options, Role, Sizes};
@@ -85,13 +84,13 @@ fn opened(random: &mut Random) -> Side {
     let limit = 1 + random.below(100);
     let sizes = Sizes::from([s, 2 + random.below(8), 2 + random.below(10), 1 + random.below(12), 1 + random.below(4), limit]);
     let shelf_pages = if random.one_in(2) { 0 } else { 1 + random.below(8) };
-    let options = Options::from([random.below(3), coded as u32, shelf_pages, 0]);
+    let options = Options::from([random.below(3), coded as u32, shelf_pages, random.below(2)]);
     let mut memory = Memory::with_options(&sizes, &options);
     if random.one_in(3) {
         memory.flash = random.bytes(memory.flash.len());
     }
     codes::encode(&mut memory.codes, &memory.flash);
-    let cache = Cache::open(sizes, options, &memory.lend()).expect("sizes within limits");
+    let cache = Cache::open(sizes, options, &memory.lend()).expect("sizes within limits").cache;
     Side { cache, memory, page: random.bytes(s as usize) }
 }
 

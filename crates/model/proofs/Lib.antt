@@ -32,7 +32,6 @@ pub mod Parts
 pub mod Merges
 pub mod Plain
 pub mod Copies
-pub mod AuditLayers
 pub mod AuditShelf
 pub mod AuditCut
 pub mod RulesWords

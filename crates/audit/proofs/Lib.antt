@@ -1,0 +1,2 @@
+pub mod AuditLarge
+pub mod AuditLayers

@@ -21,10 +21,8 @@ use Rattle.model.specs.Moves.{readPage, flashPage, readDirectory, touched}
 use Rattle.model.specs.Calls.{zeroPage, somePage, faultMet, sum, mendsMet, readsPage}
 use Rattle.model.proofs.Lookup.{offset-lt}
 use Rattle.cache.specs.View.{numbers}
-use Rattle.reads.specs.declared.Found.{Found}
-use Rattle.reads.specs.declared.Found.the-variants.{Slot, Frame, Flash}
 use Rattle.reads.specs.declared.Given.{Given}
-use Rattle.reads.specs.Reads.{Readable, Peeked, ReadOut, foundAt, faultRead, mendsRead}
+use Rattle.reads.specs.Reads.{Readable, Peeked, ReadOut, faultRead, mendsRead}
 use Rattle.chip.specs.declared.Seen.{Seen}
 use Rattle.chip.specs.Chip as chips
 use Rattle.chip.specs.Chip.{faultOn, mendsOn}
@@ -80,13 +78,14 @@ module _ (sz : Sizes) (flash codes marks pspace bspace : List ℕ) (n : ℕ) (pa
   -- by what the searches found and what was copied
   pub from-slot : (d : Directory) (i : ℕ) (page′ : List ℕ) → i ≡ slotOf sz d n → i < sz .P
       → page′ ≡ putPage (sz .S) page 0 (pageAt (sz .S) pspace i)
-      → Peeked sz d flash codes marks pspace bspace n page (record { found = Slot; fault = 0; mends = 0 }) page′
-  unfolding foundAt readPage inSlots readWay
+      → Peeked sz d flash codes marks pspace bspace n page (record { way = 1; frame = 0; fault = 0; mends = 0 }) page′
+  unfolding readPage inSlots readWay
   from-slot d i page′ ei l ep =
       let e : ltb (slotOf sz d n) (sz .P) ≡ true = lt-ltb (slotOf sz d n) (sz .P) (rw (sym ei) l) in
       let w : eqb (readWay sz d n) 3 ≡ false = rw (e, readWay) in
       record {
-        found-is = rw (e, foundAt);
+        way-is = rw (e, readWay);
+        frame-is = λ t. absurd (let k : readWay sz d n ≡ 1 = rw (e, readWay) in omega arith);
         fault-is = sym (no-fault-read sz d flash codes marks n w);
         mends-are = sym (no-mends-read sz d flash codes marks n w);
         page-is = rw (e, readPage) (ep ∙ put-whole (sz .S) page _ (q .page-length) ∙ sym (page-at (sz .S) (sz .P) pspace (zeroPage sz) i l)
@@ -96,14 +95,15 @@ module _ (sz : Sizes) (flash codes marks pspace bspace : List ℕ) (n : ℕ) (pa
   pub from-frame : (d : Directory) (i f o : ℕ) (page′ : List ℕ) → i ≡ slotOf sz d n → sz .P ≤ i → f ≡ frameWith sz d n → f < sz .B
       → o ≡ n % sz .K
       → page′ ≡ putPage (sz .S) page 0 (pageAt (sz .S) bspace (f * sz .K + o))
-      → Peeked sz d flash codes marks pspace bspace n page (record { found = Frame f; fault = 0; mends = 0 }) page′
-  unfolding foundAt readPage inSlots readWay
+      → Peeked sz d flash codes marks pspace bspace n page (record { way = 2; frame = f; fault = 0; mends = 0 }) page′
+  unfolding readPage inSlots readWay
   from-frame d i f o page′ ei m ef l eo ep =
       let e : ltb (slotOf sz d n) (sz .P) ≡ false = le-ltb (slotOf sz d n) (sz .P) (rw (sym ei) m) in
       let g : ltb (frameWith sz d n) (sz .B) ≡ true = lt-ltb (frameWith sz d n) (sz .B) (rw (sym ef) l) in
       let w : eqb (readWay sz d n) 3 ≡ false = rw (e, readWay) (rw g) in
       record {
-        found-is = rw (e, foundAt) (rw g (ap Frame ef));
+        way-is = rw (e, readWay) (rw g);
+        frame-is = λ t. ef;
         fault-is = sym (no-fault-read sz d flash codes marks n w);
         mends-are = sym (no-mends-read sz d flash codes marks n w);
         page-is = rw (e, readPage) (rw g (ep ∙ put-whole (sz .S) page _ (q .page-length)
@@ -115,66 +115,47 @@ module _ (sz : Sizes) (flash codes marks pspace bspace : List ℕ) (n : ℕ) (pa
   pub from-flash : (d : Directory) (i f : ℕ) (seen : Seen) (page′ : List ℕ) → i ≡ slotOf sz d n → sz .P ≤ i → f ≡ frameWith sz d n
       → sz .B ≤ f
       → chips.ReadOut sz flash codes marks n page 0 seen page′ → Peeked sz d flash codes marks pspace bspace n page
-      (record { found = Flash; fault = seen .fault; mends = seen .mends }) page′
-  unfolding foundAt readPage inSlots flashPage readWay
+      (record { way = 3; frame = 0; fault = seen .fault; mends = seen .mends }) page′
+  unfolding readPage inSlots flashPage readWay
   from-flash d i f seen page′ ei m ef k h =
       let e : ltb (slotOf sz d n) (sz .P) ≡ false = le-ltb (slotOf sz d n) (sz .P) (rw (sym ei) m) in
       let g : ltb (frameWith sz d n) (sz .B) ≡ false = le-ltb (frameWith sz d n) (sz .B) (rw (sym ef) k) in
       let w : eqb (readWay sz d n) 3 ≡ true = rw (e, readWay) (rw g) in
       record {
-        found-is = rw (e, foundAt) (rw g);
+        way-is = rw (e, readWay) (rw g);
+        frame-is = λ t. absurd (let k : readWay sz d n ≡ 3 = rw (e, readWay) (rw g) in omega arith);
         fault-is = h .looked .fault-is ∙ sym (one-fault sz d flash codes marks n w (q .page-lt));
         mends-are = h .looked .mends-are ∙ sym (one-mends sz d flash codes marks n w (q .page-lt));
         page-is = rw (e, readPage) (rw g (h .data-is ∙ ap (λ (x : List ℕ). cond (eqb (seen .fault) 0) x page)
             (put-whole (sz .S) page _ (q .page-length))));
       }
 
--- ---- way and directory by where the page was found
-
-abbrev pub wayOf : Found → ℕ
-wayOf Slot = 1
-wayOf (Frame f) = 2
-wayOf Flash = 3
-
-abbrev pub after : Sizes → Directory → Found → Directory
-after sz d Slot = d
-after sz d (Frame f) = touched sz false d f
-after sz d Flash = d
-
-abbrev Below : Sizes → Found → Type 0
-Below sz Slot = Unit {0}
-Below sz (Frame f) = f < sz .B
-Below sz Flash = Unit {0}
+-- ---- the directory by the way
 
 module _ (sz : Sizes) (d : Directory) (n : ℕ) where
-  way-found : wayOf (foundAt sz d n) ≡ readWay sz d n
-  unfolding foundAt readWay
-  way-found = by-test (inSlots sz d n)
-      (λ e. rw (e, foundAt, readWay))
-      (λ e. rw (e, foundAt, readWay) (by-test (ltb (frameWith sz d n) (sz .B)) (λ g. rw g) (λ g. rw g)))
+  pub frame-below : readWay sz d n ≡ 2 → frameWith sz d n < sz .B
+  unfolding readWay
+  frame-below t = by-test (inSlots sz d n)
+      (λ e. absurd (let k : readWay sz d n ≡ 1 = rw (e, readWay) in omega arith))
+      (λ e. by-test (ltb (frameWith sz d n) (sz .B)) (λ g. ltb-true _ (sz .B) g)
+      (λ g. absurd (let k : readWay sz d n ≡ 3 = rw (e, readWay) (rw g) in omega arith)))
 
-  after-found : after sz d (foundAt sz d n) ≡ readDirectory sz d n
-  unfolding foundAt readDirectory readWay
-  after-found = by-test (inSlots sz d n)
-      (λ e. rw (e, foundAt, readDirectory, readWay))
-      (λ e. rw (e, foundAt, readDirectory, readWay) (by-test (ltb (frameWith sz d n) (sz .B)) (λ g. rw g) (λ g. rw g)))
+  -- by way 2 the frame is used, by the others nothing is
+  pub used-by-2 : readWay sz d n ≡ 2 → touched sz false d (frameWith sz d n) ≡ readDirectory sz d n
+  unfolding readDirectory
+  used-by-2 t = rw (eq-eqb (readWay sz d n) 2 t, readDirectory)
 
-  below-found : Below sz (foundAt sz d n)
-  unfolding foundAt
-  below-found = by-test (inSlots sz d n)
-      (λ e. rw (e, foundAt) tt)
-      (λ e. rw (e, foundAt) (by-test (ltb (frameWith sz d n) (sz .B)) (λ g. rw g (ltb-true _ (sz .B) g)) (λ g. rw g tt)))
+  pub unused-else : (readWay sz d n ≡ 2 → ⊥) → d ≡ readDirectory sz d n
+  unfolding readDirectory
+  unused-else t = rw (ne-eqb (readWay sz d n) 2 t, readDirectory)
 
-  pub frame-below : (f : ℕ) → Frame f ≡ foundAt sz d n → f < sz .B
-  frame-below f e = rw (sym e) at below-found
-
-  pub read-out : {flash codes marks pspace bspace page page′ : List ℕ} (r : Given) (way : ℕ) (d′ : Directory)
+  pub read-out : {flash codes marks pspace bspace page page′ : List ℕ} (r : Given) (d′ : Directory)
       → Peeked sz d flash codes marks pspace bspace n page r page′
-      → d′ ≡ after sz d (r .found) → way ≡ wayOf (r .found) → ReadOut sz d flash codes marks pspace bspace n page
-      (record { way = way; fault = r .fault; mends = r .mends }) d′ page′
-  read-out r way d′ k a b = record {
-    directory-is = a ∙ ap (after sz d) (k .found-is) ∙ after-found;
-    way-is = b ∙ ap wayOf (k .found-is) ∙ way-found;
+      → d′ ≡ readDirectory sz d n → ReadOut sz d flash codes marks pspace bspace n page
+      (record { way = r .way; fault = r .fault; mends = r .mends }) d′ page′
+  read-out r d′ k a = record {
+    directory-is = a;
+    way-is = k .way-is;
     fault-is = k .fault-is;
     mends-are = k .mends-are;
     page-is = k .page-is;
@@ -184,5 +165,5 @@ module _ (sz : Sizes) (d : Directory) (n : ℕ) where
 pub peeked-any : {sz : Sizes} {s f v flash codes marks pspace bspace page page′ : List ℕ} {n : ℕ} {found : Given} (r u : List ℕ)
     → Peeked sz (numbers s f v [] []) flash codes marks pspace bspace n page found page′
     → Peeked sz (numbers s f v r u) flash codes marks pspace bspace n page found page′
-unfolding foundAt inSlots slotOf frameWith inFrame readPage readsPage readWay
-peeked-any r u k = record { found-is = k .found-is; fault-is = k .fault-is; mends-are = k .mends-are; page-is = k .page-is }
+unfolding inSlots slotOf frameWith inFrame readPage readsPage readWay
+peeked-any r u k = record { way-is = k .way-is; frame-is = k .frame-is; fault-is = k .fault-is; mends-are = k .mends-are; page-is = k .page-is }

@@ -1,20 +1,18 @@
 -- What a read asks, and what it leaves.
 use mathlib.Core.Path.{_≡_}
-use mathlib.Core.Bool.{true, false, cond}
+use mathlib.Core.Bool.{cond}
 use mathlib.Core.List.{List}
 use Prim.Native.Nat.{ℕ, _*_, _<_}
-use lib.Dec.{ltb, eqb}
+use lib.Dec.{eqb}
 use lib.ListN.{length}
 use Rattle.model.specs.Sizes.{Sizes, InLimits}
 use Rattle.model.specs.Directory.{Directory}
-use Rattle.model.specs.Policy.{inSlots, frameWith, readWay}
+use Rattle.model.specs.Policy.{frameWith, readWay}
 use Rattle.model.specs.Moves.{Memory, readDirectory, readPage}
 use Rattle.model.specs.Calls.{Page, Cell, zeroPage, slotPages, framePages, readsPage, faultMet, mendsMet}
 use Rattle.model.specs.Formats.{chipFor}
 use Rattle.chip.specs.Formats.{cells}
 use Rattle.chip.specs.Chip.{Lent, faultOn, mendsOn}
-use Rattle.reads.specs.declared.Found.{Found}
-use Rattle.reads.specs.declared.Found.the-variants.{Slot, Frame, Flash}
 use Rattle.reads.specs.declared.Given.{Given}
 use Rattle.reads.specs.declared.Answered.{Answered}
 
@@ -34,13 +32,6 @@ pages sz flash codes marks pspace bspace = record {
   bspace = framePages sz bspace;
 }
 
--- where page n is
-unfoldable pub foundAt : Sizes → Directory → ℕ → Found
-foundAt sz d n = elim (inSlots sz d n) [
-  | true ↦ Slot
-  | false ↦ elim (ltb (frameWith sz d n) (sz .B)) [ true ↦ Frame (frameWith sz d n) | false ↦ Flash ]
-]
-
 -- what a read meets in flash, by way 3
 abbrev pub faultRead : Sizes → Directory → List ℕ → List ℕ → List ℕ → ℕ → ℕ
 faultRead sz d flash codes marks n = faultMet sz (faultOn sz flash codes marks) (readsPage sz d n)
@@ -48,10 +39,11 @@ faultRead sz d flash codes marks n = faultMet sz (faultOn sz flash codes marks) 
 abbrev pub mendsRead : Sizes → Directory → List ℕ → List ℕ → List ℕ → ℕ → ℕ
 mendsRead sz d flash codes marks n = mendsMet sz (mendsOn sz flash codes marks) (readsPage sz d n)
 
--- a read that counts as no use; where flash refuses, the page buffer is as it was
+-- a read that counts as no use: its way, in way 2 the frame, and what it meets; where flash refuses, the page buffer is as it was
 pub record Peeked (sz : Sizes) (d : Directory) (flash codes marks pspace bspace : List ℕ) (n : ℕ) (page : List ℕ) (r : Given)
     (page′ : List ℕ) : Type 0 where
-  pub found-is : r .found ≡ foundAt sz d n
+  pub way-is : r .way ≡ readWay sz d n
+  pub frame-is : readWay sz d n ≡ 2 → r .frame ≡ frameWith sz d n
   pub fault-is : r .fault ≡ faultRead sz d flash codes marks n
   pub mends-are : r .mends ≡ mendsRead sz d flash codes marks n
   pub page-is : page′ ≡ cond (eqb (r .fault) 0) (readPage (chipFor sz) (zeroPage sz) sz d (pages sz flash codes marks pspace bspace) n) page

@@ -8,16 +8,10 @@ ghost use Rattle.model.specs.Soundness.{Sound};
 ghost use Rattle.cache.specs.View.{sizesOf, numbers};
 ghost use Rattle.reads.specs.Reads.{Readable, Peeked, ReadOut};
 
-// Where a page was found.
-pub enum Found {
-    Slot,
-    Frame(usize),
-    Flash,
-}
-
-// Where it was found, the refusal that the read meets in flash (0: none), and its mends.
+// The way of a read, its frame in way 2, the refusal that it meets in flash (0: none), and its mends.
 pub struct Given {
-    pub found: Found,
+    pub way: u32,
+    pub frame: usize,
     pub fault: u32,
     pub mends: u32,
 }
@@ -68,26 +62,13 @@ pub fn read(
         n,
         page,
     );
-    let found = given.found;
-    match found {
-        Found::Slot => Answered {
-            way: 1,
-            fault: given.fault,
-            mends: given.mends,
-        },
-        Found::Frame(f) => {
-            numbers::used(z, recency, uses, f, false);
-            Answered {
-                way: 2,
-                fault: given.fault,
-                mends: given.mends,
-            }
-        }
-        Found::Flash => Answered {
-            way: 3,
-            fault: given.fault,
-            mends: given.mends,
-        },
+    if given.way == 2 {
+        numbers::used(z, recency, uses, given.frame, false);
+    }
+    Answered {
+        way: given.way,
+        fault: given.fault,
+        mends: given.mends,
     }
 }
 
@@ -117,7 +98,8 @@ pub fn peek(
     if i < z.slots as usize {
         page::copy_page(page, 0, pspace, i, s);
         return Given {
-            found: Found::Slot,
+            way: 1,
+            frame: 0,
             fault: 0,
             mends: 0,
         };
@@ -128,14 +110,16 @@ pub fn peek(
         let at = f * k + o;
         page::copy_page(page, 0, bspace, at, s);
         return Given {
-            found: Found::Frame(f),
+            way: 2,
+            frame: f,
             fault: 0,
             mends: 0,
         };
     }
     let seen = chip::read_page(z, flash, codes, marks, n, page, 0);
     Given {
-        found: Found::Flash,
+        way: 3,
+        frame: 0,
         fault: seen.fault,
         mends: seen.mends,
     }

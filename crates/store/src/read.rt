@@ -2,6 +2,7 @@
 use crate::Cache;
 use crate::ReadOut;
 use address::PageNo;
+use cache::Directory;
 ghost use Rattle.store.specs.View.{lent};
 ghost use Rattle.store.specs.Histories.{Contract};
 ghost use Rattle.store.specs.Histories as made;
@@ -52,12 +53,13 @@ impl Cache {
             n,
             page,
         );
-        // the record taken is the one handed back, so that its slots are copied once
-        let mut directory = self.directory;
-        directory.recency = recency;
-        directory.uses = uses;
-        let mut cache = self;
-        cache.directory = directory;
-        ReadOut { cache, answer }
+        ReadOut {
+            cache: Cache {
+                sizes: z,
+                entries,
+                directory: Directory::of(slots, frames, valid, recency, uses),
+            },
+            answer,
+        }
     }
 }

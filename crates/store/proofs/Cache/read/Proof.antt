@@ -1,6 +1,5 @@
 use borrow.Author.Needs.{needs}
-use mathlib.Core.Path.{_≡_, sym}
-use Rattle.cache.specs.declared.Directory.{Directory}
+use mathlib.Core.Path.{_≡_}
 use lib.ListN.{length, length-map}
 use Rattle.cache.specs.View.{directoryOf, numbers}
 use Rattle.cache.proofs.View.{shape-of, lists-of}
@@ -18,10 +17,14 @@ from-after-block-numbers c = search
 abbrev from-after-read : tie.After-read → tie.After-block-numbers
 from-after-read c = search
 
+abbrev from-after-of : tie.After-of → tie.After-read
+from-after-of c = search
+
 ruleset back = (
   from-after-page-numbers,
   from-after-block-numbers,
   from-after-read,
+  from-after-of,
 )
 
 -- there are eight entries
@@ -51,27 +54,17 @@ read-requires c κs =
     let s : tie.Start = search back in
     (rw (lists after-block-numbers) (shape-of (s .args .self .directory) _ (s .good .0 .1 .1 .1 .1 .0 .1 .1)), long s)
 
+of-requires : tie.Need-of-requires
+of-requires c κs = search needs
+
 same-length : tie.Need-same-length
 same-length c = search needs
 
 returns : tie.Need-returns
-unfolding directoryOf
 returns c =
     let after-read : tie.After-read = search back in
-    let b : tie.After-block-numbers = search back in
-    let after-page-numbers : tie.After-page-numbers = search back in
-    let start : tie.Start = search back in
-    let d = start .args .self .directory in
-    let next : Directory = record {
-      recency = after-read .read .last .1 .1 .1 .1 .1 .0;
-      valid = d .valid;
-      uses = after-read .read .last .1 .1 .1 .1 .1 .1 .0;
-      frames = d .frames;
-      slots = d .slots;
-    } in
-    on-lists _ d next _ _ _ _ _ _ _ _ _ _ (lists b) (sym (lists-of next _ _
-    (after-page-numbers .page-numbers .ensures)
-    (b .block-numbers .ensures))) (after-read .read .ensures)
+    let after-block-numbers : tie.After-block-numbers = search back in
+    on-lists _ _ _ _ _ _ _ _ _ _ _ _ _ (lists after-block-numbers) (c .of .ensures) (after-read .read .ensures)
 
 pub read-spec : {M : Type 1} → statement M
 read-spec =
@@ -80,5 +73,6 @@ read-spec =
     page-numbers-requires
     block-numbers-requires
     read-requires
+    of-requires
     same-length
     returns)

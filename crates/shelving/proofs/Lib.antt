@@ -1,1 +1,2 @@
 pub mod OnLists
+pub mod Early

@@ -12,7 +12,7 @@ use borrow.Author.Tests.{eqb-true, eqb-false, eq-eqb, ne-eqb, lt-ltb, ltb-true, 
 use Rattle.prelude.specs.Tests.{every}
 use Rattle.prelude.specs.Pages.{pageAt, pagesOf, flat}
 use Rattle.prelude.proofs.Tests.{by-test, clash, and-l, and-r, each}
-use Rattle.prelude.proofs.Scan.{first-le}
+use Rattle.prelude.proofs.Scan.{first-le, all-at}
 use Rattle.prelude.proofs.Pages.{in-run, flat-pages, page-at}
 use Rattle.model.specs.Directory.{Directory}
 use Rattle.model.specs.Sizes.{Sizes, vacant}
@@ -273,6 +273,16 @@ module _ (z : sizes.Sizes) (d : Directory) (es : List ℕ) (u : Buffers) (sb : L
 
       pub latest-small : k - 1 < 8
       latest-small = let f = used-few es in omega arith
+
+      -- and is a page of the chip
+      pub latest-there : getD es (k - 1) 0 < z .blocks * z .«pages_per_block»
+      unfolding shelfOk
+      latest-there =
+          let l = latest-small in
+          let q = entries-long in
+          let i : k - 1 < shelved es = (by-test (eqb k 0) (λ t. absurd (some (eqb-true k 0 t))) (λ t. let n = eqb-false k 0 t in omega arith)) in
+          let each-entry = all-at 8 _ (each _ (and-l (shelfOk (sizesOf z) (z .«shelf_pages») es) _ ok) .1 .1 .0) (k - 1) l in
+          rw (getD-any es (k - 1) 0 vacant (omega arith)) (ltb-true _ _ (rw (lt-ltb (k - 1) (shelved es) i) at each-entry))
 
       -- the latest entry and its page
       latest : write (getD es (k - 1) 0) (pageAt (z .«page_size») sb (k - 1)) ≡ meantBy s back

@@ -1,11 +1,15 @@
 -- A store of sizes, the directory's lists, entries and shelf, and what a call on them leaves.
 use mathlib.Core.Path.{_≡_}
+use mathlib.Core.Bool.{cond}
 use mathlib.Core.List.{List}
 use Prim.Native.Nat.{ℕ, _≤_}
+use Rattle.model.specs.Sizes as sizes
 use Rattle.model.specs.Sizes.{InLimits}
 use Rattle.model.specs.Directory.{Directory}
+use Rattle.model.specs.Soundness.{sound}
 use Rattle.model.specs.Policy.{policyChoice}
-use Rattle.model.specs.Calls.{Answer, Buffers, Page}
+use Rattle.model.specs.Formats.{storeFormat}
+use Rattle.model.specs.Calls.{Answer, Buffers, Page, lentOk}
 use Rattle.model.specs.Shelf.{ShelfCall, ShelfStore, ShelfResult, storeCall}
 use Rattle.model.specs.Cut.{operations}
 use Rattle.model.specs.CutCalls.{meantBy, CutTo}
@@ -26,3 +30,7 @@ pub record ShelvedTo (ops : ℕ) (s : ShelfStore) (c : ShelfCall) (r : ShelfResu
   pub whole : (InLimits (s .store .cache .sizes) → operations (s .store .cache .sizes) (meantBy s c) ≤ ops) → r ≡ storeCall policyChoice s c
   -- and in any case flash and wear are as after so many operations
   pub cut : CutTo policyChoice ops s c (r .store .store .lent)
+
+-- the number of a call's refusal by checks 4 and 2, 0 where neither applies
+abbrev pub EarlyOf : sizes.Sizes → Directory → Buffers → ℕ → Type 0
+EarlyOf sz d u early = early ≡ cond (sound sz d) (cond (lentOk storeFormat sz u) 0 2) 4

@@ -3,10 +3,11 @@ use crate::unfit;
 use address::PageNo;
 use answer::Write;
 use cache::Sizes;
+use chip::Seen;
 ghost use mathlib.Core.Path.{_≡_};
 ghost use mathlib.Core.Bool.{false};
 ghost use mathlib.Core.List.{[]};
-ghost use Prim.Native.Nat.{_<_};
+ghost use Prim.Native.Nat.{_*_, _<_};
 ghost use lib.ListN.{length};
 ghost use Rattle.model.specs.Policy.{policyChoice};
 ghost use Rattle.model.specs.Soundness.{Shape};
@@ -14,11 +15,11 @@ ghost use Rattle.model.specs.Shelf as model;
 ghost use Rattle.model.specs.Calls as calls;
 ghost use Rattle.prelude.specs.Pages.{pageAt};
 ghost use Rattle.page.specs.Page.{HasPage};
-ghost use Rattle.cache.specs.View.{numbers};
+ghost use Rattle.cache.specs.View.{sizesOf, numbers};
 ghost use Rattle.checked.specs.Lists.{storeWith, resultWith, CalledTo};
 ghost use Rattle.answer.specs.Numbers.{writeOf, mendsOfWrite};
 ghost use Rattle.answer.specs.Carried.{buffers};
-ghost use Rattle.shelving.specs.Shelving.{storeOn, resultOn, ShelvedTo};
+ghost use Rattle.shelving.specs.Shelving.{storeOn, resultOn, ShelvedTo, EarlyOf};
 
 // Taking back, on the directory's lists.
 pub fn back(
@@ -57,26 +58,28 @@ pub fn back(
         return Write::Refused(why);
     }
     let k = shelf::used(entries);
+    let early = unfit::early(
+        z,
+        slots,
+        frames,
+        valid,
+        recency,
+        uses,
+        flash.len(),
+        codes.len(),
+        marks.len(),
+        wear.len(),
+        pspace.len(),
+        bspace.len(),
+    );
     if k == 0 {
-        let why = unfit::empty(
-            z,
-            slots,
-            frames,
-            valid,
-            recency,
-            uses,
-            flash.len(),
-            codes.len(),
-            marks.len(),
-            wear.len(),
-            pspace.len(),
-            bspace.len(),
-        );
+        let why = unfit::empty(early);
         return Write::Refused(why);
     }
     let latest = k - 1;
     let answer = write_shelved(
         z,
+        early,
         entries[latest],
         slots,
         frames,
@@ -97,9 +100,10 @@ pub fn back(
     answer
 }
 
-// Writes page i of the shelf as page n.
+// Writes page i of the shelf as page n, which the chip has, after checks 4 and 2.
 fn write_shelved(
     z: Sizes,
+    early: u32,
     n: u32,
     slots: &mut [u32; 128],
     frames: &mut [u32; 8],
@@ -116,8 +120,10 @@ fn write_shelved(
     i: usize,
     ops: u32,
 ) -> Write
-    requires { ⌜ Shape (numbers (now slots) (now frames) (now valid) (now recency) (now uses)) × HasPage (z .«page_size») (now shelf) i
-        × (i < 8) ⌝ }
+    requires { ⌜ (
+        let d = numbers (now slots) (now frames) (now valid) (now recency) (now uses) in
+        let u = buffers (now flash) (now codes) (now marks) (now wear) (now pspace) (now bspace) in
+        EarlyOf (sizesOf z) d u early × HasPage (z .«page_size») (now shelf) i × (i < 8) × (n < z .blocks * z .«pages_per_block»)) ⌝ }
     ensures { λ r. ⌜ (
         let d = numbers (now (slots .entry)) (now (frames .entry)) (now (valid .entry)) (now (recency .entry)) (now (uses .entry)) in
         let d′ = numbers (now (slots .exit)) (now (frames .exit)) (now (valid .exit)) (now (recency .exit)) (now (uses .exit)) in
@@ -129,10 +135,14 @@ fn write_shelved(
         CalledTo policyChoice ops (λ _. false) (storeWith z d u) (calls.write n page)
         (resultWith (writeOf r) (mendsOfWrite r) z d′ u′ page)) ⌝ }
 {
+    if early != 0 {
+        let why = unfit::empty(early);
+        return Write::Refused(why);
+    }
     let s = z.page_size as usize;
     let a = i * s;
     let e = a + s;
-    checked::write::write(
+    writes::write(
         z,
         slots,
         frames,
@@ -147,6 +157,7 @@ fn write_shelved(
         bspace,
         PageNo(n),
         &shelf[a..e],
+        Seen { fault: 0, mends: 0 },
         ops,
     )
 }

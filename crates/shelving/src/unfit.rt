@@ -4,6 +4,7 @@ use cache::Sizes;
 use sound::lists_sound;
 ghost use mathlib.Core.Path.{_≡_};
 ghost use mathlib.Core.Bool.{cond, _&&_};
+ghost use lib.Dec.{eqb};
 ghost use lib.ListN.{length};
 ghost use Rattle.model.specs.Sizes.{vacant};
 ghost use Rattle.model.specs.Soundness.{sound, Shape};
@@ -36,8 +37,8 @@ pub(crate) fn refusal(
     Refusal::Record
 }
 
-// Why taking back is refused where no entry is in use: the record, a buffer, or the empty shelf.
-pub(crate) fn empty(
+// Checks 4 and 2 of a call, in their order: the number of the refusal, 0 where neither applies.
+pub(crate) fn early(
     z: Sizes,
     slots: &[u32; 128],
     frames: &[u32; 8],
@@ -50,17 +51,29 @@ pub(crate) fn empty(
     wear: usize,
     pspace: usize,
     bspace: usize,
-) -> Refusal
+) -> u32
     requires { ⌜ Shape (numbers (now slots) (now frames) (now valid) (now recency) (now uses)) ⌝ }
     ensures { λ r. ⌜ (
         let d = numbers (now (slots .entry)) (now (frames .entry)) (now (valid .entry)) (now (recency .entry)) (now (uses .entry)) in
-        refusalOf r ≡ refused (cond (sound (sizesOf z) d) (cond (lengthsOk (sizesOf z) flash codes marks wear pspace bspace) 8
-        2) 4) vacant) ⌝ }
+        r ≡ cond (sound (sizesOf z) d) (cond (lengthsOk (sizesOf z) flash codes marks wear pspace bspace) 0 2) 4) ⌝ }
 {
     if !lists_sound(z, slots, frames, valid, recency, uses) {
-        return Refusal::Record;
+        return 4;
     }
     if !lent::lengths_ok(z, flash, codes, marks, wear, pspace, bspace) {
+        return 2;
+    }
+    0
+}
+
+// Why taking back is refused where no entry is in use, by its checks 4 and 2: the record, a buffer, or the empty shelf.
+pub(crate) fn empty(early: u32) -> Refusal
+    ensures { λ r. ⌜ refusalOf r ≡ refused (cond (eqb early 4) 4 (cond (eqb early 2) 2 8)) vacant ⌝ }
+{
+    if early == 4 {
+        return Refusal::Record;
+    }
+    if early == 2 {
         return Refusal::Buffer;
     }
     Refusal::Empty

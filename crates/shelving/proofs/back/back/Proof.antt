@@ -1,15 +1,20 @@
 use borrow.Author.Needs.{needs}
 use native.Mathlib.Omega.{arith}
-use mathlib.Core.Path.{_≡_, refl, sym, _∙_}
+use mathlib.Core.Path.{_≡_, sym, ap, _∙_}
 use mathlib.Core.Bool.{true}
+use Prim.Native.Nat.{ℕ}
 use lib.ListN.{length}
 use borrow.Author.Tests.{not-true, not-false}
+use Rattle.model.specs.Sizes.{vacant}
+use Rattle.model.specs.Calls.{refused}
 use Rattle.model.specs.Shelf as model
 use Rattle.model.specs.Shelf.{shelfFits}
 use Rattle.cache.specs.View.{sizesOf, numbers}
 use Rattle.lent.proofs.Lengths.{lengths-lent}
 use Rattle.answer.specs.Carried.{buffers}
-use Rattle.shelving.proofs.OnLists.{turned-down, nothing-back, latest-page, latest-small, back-on}
+use Rattle.shelving.proofs.OnLists.{turned-down, nothing-back, latest-page, latest-small, latest-there, back-on}
+use Rattle.shelving.specs.Shelving.{EarlyOf}
+use Rattle.shelving.proofs.Early.{early-empty}
 use Rattle.shelving.proofs.back.back.Statement.{statement}
 use Rattle.shelving.proofs.back.back.Tie as tie
 
@@ -26,13 +31,16 @@ from-else1 c = search
 abbrev from-after-used : tie.After-used → tie.Else1
 from-after-used c = search
 
-abbrev from-then2 : tie.Then2 → tie.After-used
+abbrev from-after-early : tie.After-early → tie.After-used
+from-after-early c = search
+
+abbrev from-then2 : tie.Then2 → tie.After-early
 from-then2 c = search
 
 abbrev from-after-empty : tie.After-empty → tie.Then2
 from-after-empty c = search
 
-abbrev from-else2 : tie.Else2 → tie.After-used
+abbrev from-else2 : tie.Else2 → tie.After-early
 from-else2 c = search
 
 abbrev from-after-write-shelved : tie.After-write-shelved → tie.Else2
@@ -46,6 +54,7 @@ ruleset back = (
   from-then1,
   from-else1,
   from-after-used,
+  from-after-early,
   from-then2,
   from-after-empty,
   from-else2,
@@ -84,21 +93,38 @@ used-requires c κs =
     let start : tie.Start = search back in
     start .pre .1
 
-empty-requires : tie.Need-empty-requires
-empty-requires c κs =
+early-requires : tie.Need-early-requires
+early-requires c κs =
     let start : tie.Start = search back in
     start .pre .0
+
+-- checks 4 and 2, of the buffers lent
+checks : (c : tie.After-early) →
+    let start : tie.Start = search back in
+    let a = start .args in
+    EarlyOf (sizesOf (a .z)) (numbers (a .slots .now) (a .frames .now) (a .valid .now) (a .recency .now) (a .uses .now))
+    (buffers (a .flash .now) (a .codes .now) (a .marks .now) (a .wear .now) (a .pspace .now) (a .bspace .now)) (c .early .result)
+checks c =
+    let start : tie.Start = search back in
+    let a = start .args in
+    c .early .ensures ∙ rw (lengths-lent (sizesOf (a .z)) (a .flash .now) (a .codes .now) (a .marks .now) (a .wear .now) (a .pspace .now)
+    (a .bspace .now))
+
+empty-requires : tie.Need-empty-requires
+empty-requires c κs = search needs
 
 returns-2 : tie.Need-returns-2
 returns-2 c =
     let then2 : tie.Then2 = search back in
+    let after-early : tie.After-early = search back in
     let after-used : tie.After-used = search back in
     let else1 : tie.Else1 = search back in
     let start : tie.Start = search back in
     let a = start .args in
+    let d = numbers (a .slots .now) (a .frames .now) (a .valid .now) (a .recency .now) (a .uses .now) in
+    let u = buffers (a .flash .now) (a .codes .now) (a .marks .now) (a .wear .now) (a .pspace .now) (a .bspace .now) in
     nothing-back _ _ _ _ _ (fitted else1) _ _ (after-used .used .ensures) (then2 .if2 .taken) (c .empty .result)
-    (c .empty .ensures ∙ rw (lengths-lent (sizesOf (a .z)) (a .flash .now) (a .codes .now) (a .marks .now) (a .wear .now) (a .pspace .now)
-    (a .bspace .now)))
+    (c .empty .ensures ∙ ap (λ (n : ℕ). refused n vacant) (early-empty (sizesOf (a .z)) d u _ (checks after-early)))
 
 sub-latest : tie.Need-sub-latest
 sub-latest c = search needs
@@ -129,17 +155,17 @@ element-copy-out-write-shelved c =
 write-shelved-requires : tie.Need-write-shelved-requires
 write-shelved-requires c κs =
     let else2 : tie.Else2 = search back in
+    let after-early : tie.After-early = search back in
     let after-used : tie.After-used = search back in
     let else1 : tie.Else1 = search back in
     let start : tie.Start = search back in
-    let a = start .args in (
-      start .pre .0,
-      latest-page (a .z) (numbers (a .slots .now) (a .frames .now) (a .valid .now) (a .recency .now) (a .uses .now)) (a
-          .entries .now) (buffers (a .flash .now) (a .codes .now) (a .marks .now) (a .wear .now) (a .pspace .now) (a .bspace .now))
-          (a .shelf .now) (fitted else1) _ (after-used .used .ensures) (else2 .if2 .left),
-      latest-small (a .z) (numbers (a .slots .now) (a .frames .now) (a .valid .now) (a .recency .now) (a .uses .now)) (a
-          .entries .now) (buffers (a .flash .now) (a .codes .now) (a .marks .now) (a .wear .now) (a .pspace .now) (a .bspace .now))
-          (a .shelf .now) (fitted else1) _ (after-used .used .ensures) (else2 .if2 .left),
+    let a = start .args in
+    let d = numbers (a .slots .now) (a .frames .now) (a .valid .now) (a .recency .now) (a .uses .now) in
+    let u = buffers (a .flash .now) (a .codes .now) (a .marks .now) (a .wear .now) (a .pspace .now) (a .bspace .now) in (
+      checks after-early,
+      latest-page (a .z) d (a .entries .now) u (a .shelf .now) (fitted else1) _ (after-used .used .ensures) (else2 .if2 .left),
+      latest-small (a .z) d (a .entries .now) u (a .shelf .now) (fitted else1) _ (after-used .used .ensures) (else2 .if2 .left),
+      latest-there (a .z) d (a .entries .now) u (a .shelf .now) (fitted else1) _ (after-used .used .ensures) (else2 .if2 .left),
     )
 
 drop-latest-requires : tie.Need-drop-latest-requires
@@ -195,6 +221,7 @@ back-spec =
     refusal-requires
     returns
     used-requires
+    early-requires
     empty-requires
     returns-2
     sub-latest

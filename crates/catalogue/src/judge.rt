@@ -23,7 +23,7 @@ pub enum Judged {
 }
 
 // The role; the checks; then all sheets are read, and decide. The mends of each sheet go into a table of 256.
-pub fn judge(
+pub(crate) fn judge(
     cache: Cache,
     flash: &[u8],
     codes: &[u8],

@@ -27,7 +27,7 @@ fn one(m: &[u32], i: u32, k: u32, b: BlockNo, at: u32) -> u32
 }
 
 // The mends of the first c sheets, but for those of block b and that of page `at`; either may be VACANT.
-pub fn left(m: &[u32], c: u32, k: u32, b: BlockNo, at: u32) -> u32
+pub(crate) fn left(m: &[u32], c: u32, k: u32, b: BlockNo, at: u32) -> u32
     requires { ⌜ Few c (now m) × (0 < k) ⌝ }
     ensures { λ r. ⌜ (r ≡ leftMends c k (b .0) at (now (m .entry))) × (r ≤ 536870912) ⌝ }
 {
@@ -42,7 +42,7 @@ pub fn left(m: &[u32], c: u32, k: u32, b: BlockNo, at: u32) -> u32
 }
 
 // A read's answer with more mends.
-pub fn with_read(answer: Read, more: u32) -> Read
+pub(crate) fn with_read(answer: Read, more: u32) -> Read
     requires { ⌜ (mendsOfRead answer ≤ mostMends) × (more ≤ 536870912) ⌝ }
     ensures { λ r. ⌜ (readOf r ≡ readOf answer) × (mendsOfRead r ≡ cond (isRefused (readOf answer)) 0 (mendsOfRead answer + more)) ⌝ }
 {
@@ -56,7 +56,7 @@ pub fn with_read(answer: Read, more: u32) -> Read
 }
 
 // A write's answer with the mends of the sheets that the write did not read.
-pub fn with_write(answer: Write, m: &[u32], c: u32, k: u32, at: u32) -> Write
+pub(crate) fn with_write(answer: Write, m: &[u32], c: u32, k: u32, at: u32) -> Write
     requires { ⌜ (mendsOfWrite answer ≤ mostMends) × (Few c (now m) × (0 < k)) ⌝ }
     ensures { λ r. ⌜ (writeOf r ≡ writeOf answer) × (mendsOfWrite r ≡ cond (isRefused (writeOf answer)) 0
         (mendsOfWrite answer + leftMends c k (erasedIn (writeOf answer)) at (now (m .entry)))) ⌝ }

@@ -1,9 +1,9 @@
 -- Histories with a shelf, what a store without one refuses, and calls that are cut off.
 use mathlib.Core.Path.{◌≡◌, refl}
-use mathlib.Core.Bool.{Bool, true, false}
+use mathlib.Core.Bool.{true}
 use mathlib.Core.List.{List, [], ◌∷◌, map, reverse}
-use Prim.Native.Nat.{ℕ, ◌*◌}
-use lib.ListN.{get_or, replicate, take, length, set}
+use Prim.Native.Nat.{ℕ}
+use lib.ListN.{get_or, replicate, take, set}
 use Rattle.prelude.specs.Tests.{every}
 use Rattle.prelude.specs.Scan.{first_from, first, count, all, all_pairs, nth, argmax, least, tab_from, tab}
 use Rattle.prelude.specs.Bits.{bit, mask}
@@ -21,15 +21,15 @@ use Rattle.model.specs.Moves.{put_slot_page, put_frame_page, joined, filled, joi
 use Rattle.model.specs.Moves.{exchanged_pages, vacated, merged, rewritten_pages, read_directory, written, stepped, read_page}
 use Rattle.model.specs.Moves.{written_pages, stepped_pages}
 use Rattle.model.specs.Moves.{oneMore}
-use Rattle.model.specs.Calls.{Answer, open_done, read_done, write_done, step_done, step_clean, flush_done, refused, Call, read, write, part}
+use Rattle.model.specs.Calls.{Answer, open_done, read_done, write_done, refused, Call, read, write, part}
 use Rattle.model.specs.Calls.{step, flush, checked, read_outcome, write_outcome, part_outcome, step_outcome, steps, flush_outcome, decide}
-use Rattle.model.specs.Calls.{steps_pages, combined, call_pages, Page, Cell, Format, Buffers, lent_ok, torn_blocks, open_store, Store}
+use Rattle.model.specs.Calls.{steps_pages, combined, call_pages, Page, Format, Buffers, lent_ok, torn_blocks, open_store, Store}
 use Rattle.model.specs.Calls.{state_of}
 use Rattle.model.specs.Calls.{zero_page, memory_of, buffers_of, raw_of, marks_of, carried_out, reads_all, call_reading, call, heeding}
 use Rattle.model.specs.Calls.{fault_of, fault_met, some_page, mends_of, mends_met, sum, reads_flash, reads_page, steps_merge, merges_page}
 use Rattle.model.specs.Calls.{flash_cells, page_seen, lent_buffer}
 use Rattle.model.specs.Formats.{no_code, format_of, torn, plain}
-use Rattle.model.specs.Cut.{Left, cut_rewrite, cut_step, cut_write, cut_steps, cut_call}
+use Rattle.model.specs.Cut.{cut_rewrite, cut_step, cut_write, cut_steps, cut_call}
 use Rattle.model.specs.Shelf.{shelved, shelve, shelf_ok, ShelfCall, plainly, back, entries_after, shelf_after, ShelfStore, shelving_reads}
 use Rattle.model.specs.Shelf.{ordinary, shelf_call, no_entries, ShelfResult, ShelfOpened, open_shelf, store_open, store_call}
 
@@ -91,15 +91,15 @@ shelf-rows : two-pages ∷ parts ∷ no-pages ∷ [] ≡
     }
     ∷ record { answers = way 3 ∷ refused 8 vacant ∷ []; bytes = 10 ∷ 0 ∷ []; entries = vacant ∷ vacant ∷ vacant ∷ []; shelf = [] } ∷ []
 unfolding two-pages parts no-pages runs start shelf_call shelf_ok shelved shelve entries_after shelf_after shelving_reads ordinary page_seen
-    open_store call carried_out memory_of buffers_of zero_page lent_ok call_pages steps_pages decide flush_outcome steps step_outcome part_outcome
-    write_outcome read_outcome checked combined laid stepped_pages written_pages read_page stepped written read_directory rewritten_pages merged
-    vacated exchanged_pages exchanged given_slot taken spare unmet joined_pages filled joined put_frame_page put_slot_page entered put_slot
-    touched recency_after oneMore worn_by worn programmed flash_page lowest_worn format_of torn flash_cells call_reading reads_all heeding fault_of
-    fault_met some_page mends_of mends_met sum reads_flash reads_page steps_merge merges_page cell_at is_worn cached due_of lowest_in_slots occupied
-    plan eviction_plan evict_frame any_evictable evictable fewest_valid victim policy_choice fewest_uses least_recent read_way slot_count
-    valid_count frame_of frame_with in_slots slot_of in_block inFrame sound framePast uses_ok slot_past listed_once cached_once frames_differ
-    slots_differ frame_ok slot_ok shape_ok sizes_ok vacant_directory blank_cache every first first_from count all all_pairs tab tab_from bit mask
-    nth argmax least page_at pages_of flat
+    open_store call carried_out memory_of buffers_of zero_page lent_ok call_pages steps_pages decide flush_outcome steps step_outcome
+    part_outcome write_outcome read_outcome checked combined laid stepped_pages written_pages read_page stepped written read_directory
+    rewritten_pages merged vacated exchanged_pages exchanged given_slot taken spare unmet joined_pages filled joined put_frame_page
+    put_slot_page entered put_slot touched recency_after oneMore worn_by worn programmed flash_page lowest_worn format_of torn flash_cells
+    call_reading reads_all heeding fault_of fault_met some_page mends_of mends_met sum reads_flash reads_page steps_merge merges_page
+    cell_at is_worn cached due_of lowest_in_slots occupied plan eviction_plan evict_frame any_evictable evictable fewest_valid victim
+    policy_choice fewest_uses least_recent read_way slot_count valid_count frame_of frame_with in_slots slot_of in_block inFrame sound
+    framePast uses_ok slot_past listed_once cached_once frames_differ slots_differ frame_ok slot_ok shape_ok sizes_ok vacant_directory
+    blank_cache every first first_from count all all_pairs tab tab_from bit mask nth argmax least page_at pages_of flat
 shelf-rows = refl
 
 -- ---- no shelf page: entries and a shelf are refused
@@ -147,7 +147,8 @@ all-refused n s = map (λ c. record { answer = refused n vacant; mends = 0; stor
 -- an entry at index 0, or at 7; a shelf of one byte; both; and each of them on the spoilt record
 unshelved-rows :
     all_left (holding (set no_entries 0 0) []) ∷ all_left (holding (set no_entries 7 3) []) ∷ all_left (holding no_entries (0 ∷ []))
-    ∷ all_left (holding (set no_entries 0 0) (0 ∷ [])) ∷ all_left (spoilt (set no_entries 0 0) []) ∷ all_left (spoilt no_entries (0 ∷ [])) ∷ []
+    ∷ all_left (holding (set no_entries 0 0) (0 ∷ [])) ∷ all_left (spoilt (set no_entries 0 0) []) ∷ all_left (spoilt no_entries (0 ∷ []))
+    ∷ []
     ≡ all-refused 4 (holding (set no_entries 0 0) []) ∷ all-refused 4 (holding (set no_entries 7 3) [])
     ∷ all-refused 2 (holding no_entries (0 ∷ [])) ∷ all-refused 4 (holding (set no_entries 0 0) (0 ∷ []))
     ∷ all-refused 4 (spoilt (set no_entries 0 0) []) ∷ all-refused 4 (spoilt no_entries (0 ∷ [])) ∷ []
@@ -155,12 +156,12 @@ unfolding start holding spoilt each-call all_left all-refused shelf_call shelf_o
     ordinary page_seen open_store call carried_out memory_of buffers_of zero_page lent_ok call_pages steps_pages decide flush_outcome steps
     step_outcome part_outcome write_outcome read_outcome checked combined laid stepped_pages written_pages read_page stepped written
     read_directory rewritten_pages merged vacated exchanged_pages exchanged given_slot taken spare unmet joined_pages filled joined
-    put_frame_page put_slot_page entered put_slot touched recency_after oneMore worn_by worn programmed flash_page lowest_worn format_of torn
-    flash_cells call_reading reads_all heeding fault_of fault_met some_page mends_of mends_met sum reads_flash reads_page steps_merge merges_page
-    cell_at is_worn cached due_of lowest_in_slots occupied plan eviction_plan evict_frame any_evictable evictable fewest_valid victim policy_choice
-    fewest_uses least_recent read_way slot_count valid_count frame_of frame_with in_slots slot_of in_block inFrame sound framePast uses_ok slot_past
-    listed_once cached_once frames_differ slots_differ frame_ok slot_ok shape_ok sizes_ok vacant_directory blank_cache every first first_from count
-    all all_pairs tab tab_from bit mask nth argmax least page_at pages_of flat is_coded is_marked
+    put_frame_page put_slot_page entered put_slot touched recency_after oneMore worn_by worn programmed flash_page lowest_worn format_of
+    torn flash_cells call_reading reads_all heeding fault_of fault_met some_page mends_of mends_met sum reads_flash reads_page steps_merge
+    merges_page cell_at is_worn cached due_of lowest_in_slots occupied plan eviction_plan evict_frame any_evictable evictable fewest_valid
+    victim policy_choice fewest_uses least_recent read_way slot_count valid_count frame_of frame_with in_slots slot_of in_block inFrame
+    sound framePast uses_ok slot_past listed_once cached_once frames_differ slots_differ frame_ok slot_ok shape_ok sizes_ok vacant_directory
+    blank_cache every first first_from count all all_pairs tab tab_from bit mask nth argmax least page_at pages_of flat is_coded is_marked
 unshelved-rows = refl
 
 -- openings: with no shelf, with one of a byte, with one and a size beyond its limits; with a shelf page and its byte, none and two
@@ -187,7 +188,8 @@ unopened n = record { answer = refused n vacant; torn = 0; cache = blank_cache; 
 opening-rows :
     store_open sizes_a lent_a [] ∷ store_open sizes_a lent_a (0 ∷ []) ∷ store_open (plain_sizes 1 1 3 1 1 9) lent_a (0 ∷ [])
     ∷ store_open shelf_of1 lent_a (0 ∷ []) ∷ store_open shelf_of1 lent_a [] ∷ store_open shelf_of1 lent_a (0 ∷ 0 ∷ []) ∷ []
-    ≡ record { answer = open_done; torn = 0; cache = record { sizes = sizes_a; directory = vacant_directory }; entries = no_entries } ∷ unopened
+    ≡ record { answer = open_done; torn = 0; cache = record { sizes = sizes_a; directory = vacant_directory }; entries = no_entries }
+    ∷ unopened
     2
     ∷ unopened 1 ∷ record {
       answer = open_done;
@@ -197,17 +199,16 @@ opening-rows :
           no_entries;
     }
     ∷ unopened 2 ∷ unopened 2 ∷ []
-unfolding shelf_of1 start torn_blocks open_shelf shelf_call shelf_ok shelved shelve entries_after shelf_after shelving_reads ordinary page_seen
-    open_store call
-    carried_out memory_of buffers_of zero_page lent_ok call_pages steps_pages decide flush_outcome steps step_outcome part_outcome write_outcome
-    read_outcome checked combined laid stepped_pages written_pages read_page stepped written read_directory rewritten_pages merged vacated
-    exchanged_pages exchanged given_slot taken spare unmet joined_pages filled joined put_frame_page put_slot_page entered put_slot touched
-    recency_after oneMore worn_by worn programmed flash_page lowest_worn format_of torn flash_cells call_reading reads_all heeding fault_of
-    fault_met some_page mends_of mends_met sum reads_flash reads_page steps_merge merges_page cell_at is_worn cached due_of lowest_in_slots occupied
-    plan eviction_plan evict_frame any_evictable evictable fewest_valid victim policy_choice fewest_uses least_recent read_way slot_count
-    valid_count frame_of frame_with in_slots slot_of in_block inFrame sound framePast uses_ok slot_past listed_once cached_once frames_differ
-    slots_differ frame_ok slot_ok shape_ok sizes_ok vacant_directory blank_cache every first first_from count all all_pairs tab tab_from bit mask
-    nth argmax least page_at pages_of flat is_coded is_marked
+unfolding shelf_of1 start torn_blocks open_shelf shelf_call shelf_ok shelved shelve entries_after shelf_after shelving_reads ordinary
+    page_seen open_store call carried_out memory_of buffers_of zero_page lent_ok call_pages steps_pages decide flush_outcome steps
+    step_outcome part_outcome write_outcome read_outcome checked combined laid stepped_pages written_pages read_page stepped written
+    read_directory rewritten_pages merged vacated exchanged_pages exchanged given_slot taken spare unmet joined_pages filled joined
+    put_frame_page put_slot_page entered put_slot touched recency_after oneMore worn_by worn programmed flash_page lowest_worn format_of
+    torn flash_cells call_reading reads_all heeding fault_of fault_met some_page mends_of mends_met sum reads_flash reads_page steps_merge
+    merges_page cell_at is_worn cached due_of lowest_in_slots occupied plan eviction_plan evict_frame any_evictable evictable fewest_valid
+    victim policy_choice fewest_uses least_recent read_way slot_count valid_count frame_of frame_with in_slots slot_of in_block inFrame
+    sound framePast uses_ok slot_past listed_once cached_once frames_differ slots_differ frame_ok slot_ok shape_ok sizes_ok vacant_directory
+    blank_cache every first first_from count all all_pairs tab tab_from bit mask nth argmax least page_at pages_of flat is_coded is_marked
 opening-rows = refl
 
 -- ---- the cut of a flush, with marks: pages 2 and 3 in the frame, page 0 in the slot
@@ -247,13 +248,14 @@ cut-rows : cut 0 ∷ cut 1 ∷ cut 2 ∷ cut 3 ∷ cut 4 ∷ cut 5 ∷ cut 6 ∷
     ∷ record { flash = 52 ∷ 255 ∷ 50 ∷ 51 ∷ 5 ∷ 6 ∷ []; marks = 0 ∷ 255 ∷ 0 ∷ 0 ∷ 0 ∷ 0 ∷ []; wear = 1 ∷ 1 ∷ 0 ∷ [] }
     ∷ record { flash = 52 ∷ 2 ∷ 50 ∷ 51 ∷ 5 ∷ 6 ∷ []; marks = 0 ∷ 0 ∷ 0 ∷ 0 ∷ 0 ∷ 0 ∷ []; wear = 1 ∷ 1 ∷ 0 ∷ [] }
     ∷ record { flash = 52 ∷ 2 ∷ 50 ∷ 51 ∷ 5 ∷ 6 ∷ []; marks = 0 ∷ 0 ∷ 0 ∷ 0 ∷ 0 ∷ 0 ∷ []; wear = 1 ∷ 1 ∷ 0 ∷ [] } ∷ []
-unfolding cut marked filled_store cut_call cut_steps cut_step cut_write cut_rewrite programmed_to open_store call carried_out memory_of buffers_of
-    zero_page lent_ok call_pages steps_pages decide flush_outcome steps step_outcome part_outcome write_outcome read_outcome checked combined laid
-    stepped_pages written_pages read_page stepped written read_directory rewritten_pages merged vacated exchanged_pages exchanged given_slot
-    taken spare unmet joined_pages filled joined put_frame_page put_slot_page entered put_slot touched recency_after oneMore worn_by worn
-    programmed flash_page lowest_worn format_of torn flash_cells call_reading reads_all heeding fault_of fault_met some_page mends_of mends_met sum
-    reads_flash reads_page steps_merge merges_page cell_at is_worn cached due_of lowest_in_slots occupied plan eviction_plan evict_frame any_evictable
-    evictable fewest_valid victim policy_choice fewest_uses least_recent read_way slot_count valid_count frame_of frame_with in_slots slot_of in_block
-    inFrame sound framePast uses_ok slot_past listed_once cached_once frames_differ slots_differ frame_ok slot_ok shape_ok sizes_ok vacant_directory
-    blank_cache every first first_from count all all_pairs tab tab_from bit mask nth argmax least page_at pages_of flat
+unfolding cut marked filled_store cut_call cut_steps cut_step cut_write cut_rewrite programmed_to open_store call carried_out memory_of
+    buffers_of zero_page lent_ok call_pages steps_pages decide flush_outcome steps step_outcome part_outcome write_outcome read_outcome
+    checked combined laid stepped_pages written_pages read_page stepped written read_directory rewritten_pages merged vacated
+    exchanged_pages exchanged given_slot taken spare unmet joined_pages filled joined put_frame_page put_slot_page entered put_slot touched
+    recency_after oneMore worn_by worn programmed flash_page lowest_worn format_of torn flash_cells call_reading reads_all heeding fault_of
+    fault_met some_page mends_of mends_met sum reads_flash reads_page steps_merge merges_page cell_at is_worn cached due_of lowest_in_slots
+    occupied plan eviction_plan evict_frame any_evictable evictable fewest_valid victim policy_choice fewest_uses least_recent read_way
+    slot_count valid_count frame_of frame_with in_slots slot_of in_block inFrame sound framePast uses_ok slot_past listed_once cached_once
+    frames_differ slots_differ frame_ok slot_ok shape_ok sizes_ok vacant_directory blank_cache every first first_from count all all_pairs
+    tab tab_from bit mask nth argmax least page_at pages_of flat
 cut-rows = refl

@@ -39,13 +39,22 @@ module _ (d : List ℕ) (a : ℕ) (inside : a / 8 < length d) where
   unfolding flipped bit_at
   bit-flipped j = by-test (eqb (j / 8) (a / 8))
       (λ t. let e = eqb-true (j / 8) (a / 8) t in
-      rw (e, get_or-set_same d (a / 8) (bit_xor (get_or d (a / 8) 0) (2 ^ (a % 8))) 0 inside, bit-xor (get_or d (a / 8) 0) (2 ^ (a % 8)) (j % 8))
+      rw (
+        e,
+        get_or-set_same d (a / 8) (bit_xor (get_or d (a / 8) 0) (2 ^ (a % 8))) 0 inside,
+        bit-xor (get_or d (a / 8) 0) (2 ^ (a % 8))
+            (j % 8),
+      )
       (ap (xor (bit (get_or d (a / 8) 0) (j % 8))) (by-test (eqb (a % 8) (j % 8))
       (λ u. let q = eqb-true (a % 8) (j % 8) u in rw (← q, eq-eqb j a (omega arith)) (bit-one (a % 8)))
       (λ u. let q = eqb-false (a % 8) (j % 8) u in rw (ne_eqb j a (λ z. q (ap (λ (x : ℕ). x % 8) (sym z))))
       (bit-one_other (a % 8) (j % 8) q)))))
       (λ t. let q = eqb-false (j / 8) (a / 8) t in
-      rw (get_or-set_other d (a / 8) (j / 8) (bit_xor (get_or d (a / 8) 0) (2 ^ (a % 8))) 0 q, ne_eqb j a (λ z. q (ap (λ (x : ℕ). x / 8) z)))
+      rw (
+        get_or-set_other d (a / 8) (j / 8) (bit_xor (get_or d (a / 8) 0) (2 ^ (a % 8))) 0 q,
+        ne_eqb j a
+            (λ z. q (ap (λ (x : ℕ). x / 8) z)),
+      )
       (sym (xor-false _)))
 
   pub bytes-flipped : Bytes d → Bytes (flipped d a)

@@ -99,6 +99,6 @@ read_rows = record { chunks = 2; page = flipped (mixed ++ mixed) 1234; codes = o
     ∷ []
 
 readings_as_worked_out : map reading read_rows ≡ map (λ (r : ReadRow). r.gives) read_rows
-unfolding read_rows reading own mixed flipped tab tab_from flat codes_of page_at code_of mask code_bit odd count all bit_at bit difference leaves
-    pairs addressed legible mended differs code_at page_legible page_mended page_mends xor
+unfolding read_rows reading own mixed flipped tab tab_from flat codes_of page_at code_of mask code_bit odd count all bit_at bit difference
+    leaves pairs addressed legible mended differs code_at page_legible page_mended page_mends xor
 readings_as_worked_out = refl

@@ -85,5 +85,6 @@ pub record MendsRule (d : List ℕ) (c : ℕ) : Type 0 where
 pub record PageRule (m : ℕ) (page codes : List ℕ) : Type 0 where
   pub can : ((i : ℕ) → i < m → legible (page_at 256 page i) (code_at codes i) ≡ true) → page_legible m page codes ≡ true
   pub cannot : (i : ℕ) → i < m → legible (page_at 256 page i) (code_at codes i) ≡ false → page_legible m page codes ≡ false
-  pub each : length page ≡ m * 256 → (i : ℕ) → i < m → page_at 256 (page_mended m page codes) i ≡ mended (page_at 256 page i) (code_at codes i)
+  pub each : length page ≡ m * 256 → (i : ℕ) → i < m
+      → page_at 256 (page_mended m page codes) i ≡ mended (page_at 256 page i) (code_at codes i)
   pub none : page_legible m page codes ≡ false → page_mends m page codes ≡ 0

@@ -36,7 +36,8 @@ copies = record {
   long = λ sz. 2;
   code_of = λ sz x. x ++ x;
   page_read = λ sz x k. cond (eqb (length x) 1 && eqb (get_or k 0 0) (get_or k 1 0)) (get_or k 0 0 ∷ []) x;
-  unreadable = λ sz x k. not (eqb (get_or k 0 0) (get_or k 1 0)) && not (eqb (get_or x 0 0) (get_or k 0 0)) && not (eqb (get_or x 0 0) (get_or k 1 0));
+  unreadable = λ sz x k. not (eqb (get_or k 0 0) (get_or k 1 0)) && not (eqb (get_or x 0 0) (get_or k 0 0))
+      && not (eqb (get_or x 0 0) (get_or k 1 0));
   mends = λ sz x k. cond (eqb (get_or x 0 0) (get_or k 0 0) && eqb (get_or x 0 0) (get_or k 1 0)) 0 1;
 }
 
@@ -139,7 +140,8 @@ step-merges = record {
   wear = 0 ∷ 0 ∷ 0 ∷ [];
   calls = write 2 (50 ∷ []) ∷ step ∷ flush ∷ read 2 (7 ∷ []) ∷ write 3 (51 ∷ []) ∷ step ∷ read 3 (7 ∷ []) ∷ [];
   gives = record {
-    answers = write_done 3 vacant 0 ∷ refused 14 vacant ∷ refused 14 vacant ∷ read_done 1 ∷ write_done 5 vacant 0 ∷ step_done 1 0 ∷ read_done 3
+    answers = write_done 3 vacant 0 ∷ refused 14 vacant ∷ refused 14 vacant ∷ read_done 1 ∷ write_done 5 vacant 0 ∷ step_done 1 0
+        ∷ read_done 3
         ∷ [];
     mends = 0 ∷ 0 ∷ 0 ∷ 0 ∷ 0 ∷ 0 ∷ 0 ∷ [];
     bytes = 50 ∷ 0 ∷ 0 ∷ 50 ∷ 51 ∷ 0 ∷ 51 ∷ [];
@@ -208,14 +210,14 @@ table : List Row
 table = reads ∷ step-merges ∷ part-mends ∷ flush-first ∷ worn-first ∷ []
 
 rows : map gave table ≡ map gives table
-unfolding reads step-merges part-mends flush-first worn-first table gives gave runs opened flash_pages fed array_after log_after before_after
-    base_after open_store call carried_out memory_of buffers_of zero_page lent_ok call_pages steps_pages decide flush_outcome steps step_outcome
-    part_outcome write_outcome read_outcome checked combined laid stepped_pages written_pages read_page stepped written read_directory
-    rewritten_pages merged vacated exchanged_pages exchanged given_slot taken spare unmet joined_pages filled joined put_frame_page put_slot_page
-    entered put_slot touched recency_after oneMore worn_by worn programmed flash_page lowest_worn format_of torn flash_cells call_reading reads_all
-    heeding fault_of fault_met some_page mends_of mends_met sum reads_flash reads_page steps_merge merges_page cell_at is_worn cached due_of
-    lowest_in_slots occupied plan eviction_plan evict_frame any_evictable evictable fewest_valid victim policy_choice fewest_uses least_recent
-    read_way slot_count valid_count frame_of frame_with in_slots slot_of in_block inFrame sound framePast uses_ok slot_past listed_once cached_once
-    frames_differ slots_differ frame_ok slot_ok shape_ok sizes_ok vacant_directory blank_cache every first first_from count all all_pairs tab
-    tab_from bit mask nth argmax least page_at pages_of flat
+unfolding reads step-merges part-mends flush-first worn-first table gives gave runs opened flash_pages fed array_after log_after
+    before_after base_after open_store call carried_out memory_of buffers_of zero_page lent_ok call_pages steps_pages decide flush_outcome
+    steps step_outcome part_outcome write_outcome read_outcome checked combined laid stepped_pages written_pages read_page stepped written
+    read_directory rewritten_pages merged vacated exchanged_pages exchanged given_slot taken spare unmet joined_pages filled joined
+    put_frame_page put_slot_page entered put_slot touched recency_after oneMore worn_by worn programmed flash_page lowest_worn format_of
+    torn flash_cells call_reading reads_all heeding fault_of fault_met some_page mends_of mends_met sum reads_flash reads_page steps_merge
+    merges_page cell_at is_worn cached due_of lowest_in_slots occupied plan eviction_plan evict_frame any_evictable evictable fewest_valid
+    victim policy_choice fewest_uses least_recent read_way slot_count valid_count frame_of frame_with in_slots slot_of in_block inFrame
+    sound framePast uses_ok slot_past listed_once cached_once frames_differ slots_differ frame_ok slot_ok shape_ok sizes_ok vacant_directory
+    blank_cache every first first_from count all all_pairs tab tab_from bit mask nth argmax least page_at pages_of flat
 rows = refl

@@ -116,16 +116,16 @@ pub record Clauses : Type 0 where
 
 -- every clause holds, by computing with the definitions
 pub clauses : Clauses
-unfolding start wrote ran both writes_a rest_a block_pages times_cached opened fed array_after log_after before_after open_store call carried_out
-    memory_of buffers_of zero_page lent_ok call_pages steps_pages decide flush_outcome steps step_outcome write_outcome read_outcome checked
-    stepped_pages written_pages read_page stepped written read_directory rewritten_pages merged vacated exchanged_pages exchanged given_slot
-    taken spare unmet joined_pages filled joined put_frame_page put_slot_page entered put_slot touched recency_after oneMore worn_by worn
-    programmed flash_page format_of torn flash_cells call_reading reads_all heeding fault_of fault_met some_page mends_of mends_met sum reads_flash
-    reads_page steps_merge merges_page cell_at base_after flash_pages is_coded is_marked lowest_worn is_worn cached due_of lowest_in_slots occupied
-    plan eviction_plan evict_frame any_evictable evictable fewest_valid victim policy_choice fewest_uses least_recent read_way slot_count
-    valid_count frame_of frame_with in_slots slot_of in_block inFrame sound uses_ok framePast slot_past listed_once cached_once frames_differ
-    slots_differ frame_ok slot_ok shape_ok sizes_ok vacant_directory blank_cache every first first_from count all all_pairs tab tab_from bit mask
-    nth argmax least page_at pages_of flat
+unfolding start wrote ran both writes_a rest_a block_pages times_cached opened fed array_after log_after before_after open_store call
+    carried_out memory_of buffers_of zero_page lent_ok call_pages steps_pages decide flush_outcome steps step_outcome write_outcome
+    read_outcome checked stepped_pages written_pages read_page stepped written read_directory rewritten_pages merged vacated exchanged_pages
+    exchanged given_slot taken spare unmet joined_pages filled joined put_frame_page put_slot_page entered put_slot touched recency_after
+    oneMore worn_by worn programmed flash_page format_of torn flash_cells call_reading reads_all heeding fault_of fault_met some_page
+    mends_of mends_met sum reads_flash reads_page steps_merge merges_page cell_at base_after flash_pages is_coded is_marked lowest_worn
+    is_worn cached due_of lowest_in_slots occupied plan eviction_plan evict_frame any_evictable evictable fewest_valid victim policy_choice
+    fewest_uses least_recent read_way slot_count valid_count frame_of frame_with in_slots slot_of in_block inFrame sound uses_ok framePast
+    slot_past listed_once cached_once frames_differ slots_differ frame_ok slot_ok shape_ok sizes_ok vacant_directory blank_cache every first
+    first_from count all all_pairs tab tab_from bit mask nth argmax least page_at pages_of flat
 clauses = record {
   answers = refl;
   book-answers = refl;

@@ -625,15 +625,15 @@ cut_table = of_step ∷ of_flush ∷ of_write ∷ of_part ∷ of_hit ∷ of_noth
 
 -- every row holds, by the definitions
 pub cut-rows : (map given table ≡ map listed table) × (map cuts cut_table ≡ map cuts_listed cut_table)
-unfolding cut_call cut_steps cut_step cut_write cut_rewrite programmed_to torn_blocks shelf_call shelf_ok shelved shelve entries_after shelf_after
-    shelving_reads ordinary page_seen open_store call carried_out memory_of
-    buffers_of zero_page lent_ok call_pages steps_pages decide flush_outcome steps step_outcome part_outcome write_outcome read_outcome checked
-    combined laid stepped_pages written_pages read_page stepped written read_directory rewritten_pages merged vacated exchanged_pages exchanged
-    given_slot taken spare unmet joined_pages filled joined put_frame_page put_slot_page entered put_slot touched recency_after oneMore worn_by
-    worn programmed flash_page lowest_worn format_of torn flash_cells call_reading reads_all heeding fault_of fault_met some_page mends_of mends_met
-    sum reads_flash reads_page steps_merge merges_page cell_at is_worn cached due_of lowest_in_slots occupied plan eviction_plan evict_frame
-    any_evictable evictable fewest_valid victim policy_choice fewest_uses least_recent read_way slot_count valid_count frame_of frame_with in_slots
-    slot_of in_block inFrame sound framePast uses_ok slot_past listed_once cached_once frames_differ slots_differ frame_ok slot_ok shape_ok sizes_ok
-    vacant_directory blank_cache every first first_from count all all_pairs tab tab_from bit mask nth argmax least page_at pages_of flat is_coded
-    is_marked
+unfolding cut_call cut_steps cut_step cut_write cut_rewrite programmed_to torn_blocks shelf_call shelf_ok shelved shelve entries_after
+    shelf_after shelving_reads ordinary page_seen open_store call carried_out memory_of buffers_of zero_page lent_ok call_pages steps_pages
+    decide flush_outcome steps step_outcome part_outcome write_outcome read_outcome checked combined laid stepped_pages written_pages
+    read_page stepped written read_directory rewritten_pages merged vacated exchanged_pages exchanged given_slot taken spare unmet
+    joined_pages filled joined put_frame_page put_slot_page entered put_slot touched recency_after oneMore worn_by worn programmed
+    flash_page lowest_worn format_of torn flash_cells call_reading reads_all heeding fault_of fault_met some_page mends_of mends_met sum
+    reads_flash reads_page steps_merge merges_page cell_at is_worn cached due_of lowest_in_slots occupied plan eviction_plan evict_frame
+    any_evictable evictable fewest_valid victim policy_choice fewest_uses least_recent read_way slot_count valid_count frame_of frame_with
+    in_slots slot_of in_block inFrame sound framePast uses_ok slot_past listed_once cached_once frames_differ slots_differ frame_ok slot_ok
+    shape_ok sizes_ok vacant_directory blank_cache every first first_from count all all_pairs tab tab_from bit mask nth argmax least page_at
+    pages_of flat is_coded is_marked
 cut-rows = (refl, refl)

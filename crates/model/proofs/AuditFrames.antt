@@ -175,7 +175,8 @@ vacant-of_three = record {
       ∷ step ∷ step ∷ write 10 (6 ∷ []) ∷ step ∷ [];
   gives = record {
     opening = open_done;
-    answers = way 3 ∷ way 3 ∷ way 5 ∷ way 5 ∷ way 5 ∷ read_done 2 ∷ read_done 2 ∷ step_done 2 1 ∷ step_done 1 1 ∷ way 5 ∷ step_done 0 1 ∷ [];
+    answers = way 3 ∷ way 3 ∷ way 5 ∷ way 5 ∷ way 5 ∷ read_done 2 ∷ read_done 2 ∷ step_done 2 1 ∷ step_done 1 1 ∷ way 5 ∷ step_done 0 1
+        ∷ [];
     pages = (1 ∷ []) ∷ (2 ∷ []) ∷ (3 ∷ []) ∷ (4 ∷ []) ∷ (5 ∷ []) ∷ (2 ∷ []) ∷ (1 ∷ []) ∷ [] ∷ [] ∷ (6 ∷ []) ∷ [] ∷ [];
     sizes = plain_sizes 1 2 6 2 3 9;
     slots = 8 ∷ 10 ∷ [];

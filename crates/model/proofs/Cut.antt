@@ -16,7 +16,8 @@ use Rattle.model.specs.Directory.{Directory, frame_at}
 use Rattle.model.specs.Soundness.{Sound}
 use Rattle.model.specs.Policy.{Choice, victim, Plan, slot_hit, frame_hit, free_slot, join, fill, exchange, evict, plan, Due, clean, due}
 use Rattle.model.specs.Policy.{due_of, cached, is_worn, lowest_worn, erased_by, merge_reads}
-use Rattle.model.specs.Moves.{Chip, Memory, cell_at, programmed, programmed_to, worn_by, put_slot_page, put_frame_page, joined, joined_pages}
+use Rattle.model.specs.Moves.{Chip, Memory, cell_at, programmed, programmed_to, worn_by, put_slot_page, put_frame_page, joined}
+use Rattle.model.specs.Moves.{joined_pages}
 use Rattle.model.specs.Moves.{exchanged_pages, merged, rewritten_pages, stepped, stepped_pages, written_pages}
 use Rattle.model.specs.Calls.{is_refused, Outcome, checked, read_outcome, write_outcome, part_outcome, step_outcome, Tally, steps}
 use Rattle.model.specs.Calls.{flush_outcome, decide, told}

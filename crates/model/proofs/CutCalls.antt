@@ -112,7 +112,8 @@ module _ (pick : Choice) (besides : ℕ → Bool) (s : Store) (c : Call Page) wh
   unfolding carried_out
   carried_same o = by-test (is_refused o.answer) (λ e. rw (e, carried_out) (λ h. refl)) (λ e. rw (e, carried_out) (λ h. clash h e))
 
-  pub below-refused : is_refused (call_reading store_format pick besides s c).answer ≡ true → (call_reading store_format pick besides s c).store
+  pub below-refused : is_refused (call_reading store_format pick besides s c).answer ≡ true
+      → (call_reading store_format pick besides s c).store
       ≡ s
   unfolding call_reading
   below-refused = by-test (sound s.cache.sizes s.cache.directory)

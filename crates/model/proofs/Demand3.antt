@@ -1,5 +1,5 @@
 -- Demand 3: one theorem about a whole list of calls after an accepted opening.
-use mathlib.Core.Path.{◌≡◌, refl, sym, ap, ◌∙◌}
+use mathlib.Core.Path.{subst, ◌≡◌, refl, sym, ap, ◌∙◌}
 use mathlib.Core.Logic.{◌⊎◌, inl, inr}
 use mathlib.Core.Bool.{Bool, true, false, cond, ◌&&◌, ◌||◌}
 use mathlib.Core.List.{List, [], ◌∷◌, map}
@@ -325,6 +325,15 @@ module _ (fmt : Format) (Matched : Sizes → Cell → Type 0) (Near : Sizes → 
         state = record { directory = written sz r.book.directory n p; wear = worn_by r.book.wear (erased_by r.book.directory p) };
       }
 
+      -- what was accepted for another page stays accepted after a write of x to page n
+      later : (a n : ℕ) (x : Page) (l : List Put) (p : List Page) → (a ≡ n → ⊥)
+          → (get_or p a blank ≡ get_or o a blank) ⊎ Accepted a (get_or p a blank) l
+          → (get_or (set p n x) a blank ≡ get_or o a blank) ⊎ Accepted a (get_or (set p n x) a blank) (record { page = n; bytes = x } ∷ l)
+      later a n x l p h q = subst
+          (λ (y : Page). (y ≡ get_or o a blank) ⊎ Accepted a y (record { page = n; bytes = x } ∷ l))
+          (sym (get_or-set_other p n a x blank h))
+          (elim q [ inl e ↦ inl e | inr e ↦ inr (inr e) ])
+
       write-ok : (n : ℕ) (x : Page) → length x ≡ sz.S → n < sz.N * sz.K
           → Next (write n x) (wrote n (plan pick sz r.book.directory r.book.wear n))
       unfolding fed array_after log_after call_pages
@@ -343,8 +352,7 @@ module _ (fmt : Format) (Matched : Sizes → Cell → Type 0) (Near : Sizes → 
             sym (ap (λ (j : ℕ). get_or (set r.array n x) j blank) e2
                 ∙ get_or-set_same r.array n x blank (let h = i.good.array-length in omega arith)),
           )))
-          (λ e. rw (get_or-set_other r.array n a x blank (eqb-false a n e))
-          (elim (i.array-from a al) [ inl q ↦ inl q | inr q ↦ inr (inr q) ])))
+          (λ e. later a n x r.log r.array (eqb-false a n e) (i.array-from a al)))
           (λ h. clash h refl)
 
       write-next : (n : ℕ) (x : Page) → Next (write n x) (decide pick sz r.book (write n (length x)))
@@ -780,7 +788,8 @@ module _ (fmt : Format) (Matched : Sizes → Cell → Type 0) (Near : Sizes → 
 pub cells_fit : (fmt : Format) (Matched : Sizes → Cell → Type 0) (Near : Sizes → Cell → Cell → Type 0) (sz : Sizes)
     → Bears fmt Matched Near sz → (u : Buffers) → Fits fmt sz u
     → (n : ℕ) → n < sz.N * sz.K → CellFits fmt sz (get_or (flash_cells fmt sz u) n no_cell)
-cells_fit fmt Matched Near sz laws u f n l = rw (get_d_any (flash_cells fmt sz u) n no_cell (zero_cell fmt sz) (rw (cells-length fmt sz u) l))
+cells_fit fmt Matched Near sz laws u f n l =
+    rw (get_d_any (flash_cells fmt sz u) n no_cell (zero_cell fmt sz) (rw (cells-length fmt sz u) l))
     (cells-long fmt sz u f (laws.cell-fits _ (zero-long fmt sz)) n)
 
 -- ---- the invariant, for layers above: what holds of store and reference at every point of a list that began with the buffers u

@@ -190,7 +190,8 @@ module _ (sz : Sizes) (limits : InLimits sz) (u : Buffers) (s : Store) (r : Shel
   unfolding cell_at
   cell-is n l = get_d_any (flash_cells store_format sz now) n _ no_cell (rw (cells-length store_format sz now) l)
 
-  pub cell-readable : (n : ℕ) → n < sz.N * sz.K → (chip_for sz).fault (cell_at (chip_for sz) (zero_page sz) (flash_cells store_format sz now) n)
+  pub cell-readable : (n : ℕ) → n < sz.N * sz.K
+      → (chip_for sz).fault (cell_at (chip_for sz) (zero_page sz) (flash_cells store_format sz now) n)
       ≡ 7 → ⊥
   unfolding format_of
   cell-readable n l = rw (cell-is n l) (

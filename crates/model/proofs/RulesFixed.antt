@@ -24,7 +24,8 @@ module _ (sz : Sizes) (d : Directory) (ok : sound sz d ≡ true) (b f : ℕ) (b_
 
   -- a slot that takes a page in e takes it in e', where the slots before it hold the same in both
   takes-too : (e e' : Directory) → ExchangedSlots sz d e b f → ExchangedSlots sz d e' b f → (i : ℕ) → Freed sz d b f i
-      → ((j : ℕ) → j < i → Freed sz d b f j → slot_at e j ≡ slot_at e' j) → (o : ℕ) → Other sz d b f o → slot_at e i ≡ frame_at d f * sz.K + o
+      → ((j : ℕ) → j < i → Freed sz d b f j → slot_at e j ≡ slot_at e' j) → (o : ℕ) → Other sz d b f o
+      → slot_at e i ≡ frame_at d f * sz.K + o
       → ((p : ℕ) → p < o → Other sz d b f p → slot_at e' i ≡ frame_at d f * sz.K + p → ⊥) → slot_at e' i ≡ frame_at d f * sz.K + o
   takes-too e e' x y i fi before o ot q lower = let ol = ot.0 in let g = y.all_go o ot in let j = g.0 in
       let fj = g.1 in by-test (ltb j i)

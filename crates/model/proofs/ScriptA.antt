@@ -38,11 +38,11 @@ unfolding open_store call carried_out memory_of buffers_of zero_page lent_ok cal
     write_outcome read_outcome checked stepped_pages written_pages read_page stepped written read_directory rewritten_pages merged vacated
     exchanged_pages exchanged given_slot taken spare unmet joined_pages filled joined put_frame_page put_slot_page entered put_slot touched
     recency_after oneMore worn_by worn programmed flash_page lowest_worn format_of torn flash_cells call_reading reads_all heeding fault_of
-    fault_met some_page mends_of mends_met sum reads_flash reads_page steps_merge merges_page cell_at is_worn cached due_of lowest_in_slots occupied
-    plan eviction_plan evict_frame any_evictable evictable fewest_valid victim policy_choice fewest_uses least_recent read_way slot_count
-    valid_count frame_of frame_with in_slots slot_of in_block inFrame sound framePast uses_ok slot_past listed_once cached_once frames_differ
-    slots_differ frame_ok slot_ok shape_ok sizes_ok vacant_directory blank_cache every first first_from count all all_pairs tab tab_from bit mask
-    nth argmax least page_at pages_of flat
+    fault_met some_page mends_of mends_met sum reads_flash reads_page steps_merge merges_page cell_at is_worn cached due_of lowest_in_slots
+    occupied plan eviction_plan evict_frame any_evictable evictable fewest_valid victim policy_choice fewest_uses least_recent read_way
+    slot_count valid_count frame_of frame_with in_slots slot_of in_block inFrame sound framePast uses_ok slot_past listed_once cached_once
+    frames_differ slots_differ frame_ok slot_ok shape_ok sizes_ok vacant_directory blank_cache every first first_from count all all_pairs
+    tab tab_from bit mask nth argmax least page_at pages_of flat
 claim-a = demand_3_plain sizes_a lent_a refl (by_policy calls_a) (policy-picks calls_a)
 
 -- the flash that the flush leaves is the page array: the newest contents of every page
@@ -52,27 +52,27 @@ ran s (c ∷ cs) = ran (call plain policy_choice s c).store cs
 
 pub flash-a : flash_pages plain sizes_a (ran store_a calls_a).lent ≡ (10 ∷ []) ∷ (255 ∷ []) ∷ (20 ∷ []) ∷ (40 ∷ []) ∷ (30 ∷ []) ∷ (255 ∷ [])
     ∷ []
-unfolding opened fed array_after base_after flash_pages open_store call carried_out memory_of buffers_of zero_page lent_ok call_pages steps_pages
-    decide flush_outcome steps step_outcome write_outcome read_outcome checked stepped_pages written_pages read_page stepped written
-    read_directory rewritten_pages merged vacated exchanged_pages exchanged given_slot taken spare unmet joined_pages filled joined
-    put_frame_page put_slot_page entered put_slot touched recency_after oneMore worn_by worn programmed flash_page lowest_worn format_of torn
-    flash_cells call_reading reads_all heeding fault_of fault_met some_page mends_of mends_met sum reads_flash reads_page steps_merge merges_page
-    cell_at is_worn cached due_of lowest_in_slots occupied plan eviction_plan evict_frame any_evictable evictable fewest_valid victim policy_choice
-    fewest_uses least_recent read_way slot_count valid_count frame_of frame_with in_slots slot_of in_block inFrame sound framePast uses_ok slot_past
-    listed_once cached_once frames_differ slots_differ frame_ok slot_ok shape_ok sizes_ok vacant_directory blank_cache every first first_from count
-    all all_pairs tab tab_from bit mask nth argmax least page_at pages_of flat
+unfolding opened fed array_after base_after flash_pages open_store call carried_out memory_of buffers_of zero_page lent_ok call_pages
+    steps_pages decide flush_outcome steps step_outcome write_outcome read_outcome checked stepped_pages written_pages read_page stepped
+    written read_directory rewritten_pages merged vacated exchanged_pages exchanged given_slot taken spare unmet joined_pages filled joined
+    put_frame_page put_slot_page entered put_slot touched recency_after oneMore worn_by worn programmed flash_page lowest_worn format_of
+    torn flash_cells call_reading reads_all heeding fault_of fault_met some_page mends_of mends_met sum reads_flash reads_page steps_merge
+    merges_page cell_at is_worn cached due_of lowest_in_slots occupied plan eviction_plan evict_frame any_evictable evictable fewest_valid
+    victim policy_choice fewest_uses least_recent read_way slot_count valid_count frame_of frame_with in_slots slot_of in_block inFrame
+    sound framePast uses_ok slot_past listed_once cached_once frames_differ slots_differ frame_ok slot_ok shape_ok sizes_ok vacant_directory
+    blank_cache every first first_from count all all_pairs tab tab_from bit mask nth argmax least page_at pages_of flat
 flash-a = claim-a.then.then.then.then.then.then.then.flushed-is refl
 
 -- the page that the fifth call read is the one last accepted for its number
 pub read_a : (call plain policy_choice (ran store_a (write 0 (10 ∷ []) ∷ write 2 (20 ∷ []) ∷ write 4 (30 ∷ []) ∷ write 3 (40 ∷ []) ∷ []))
     (read 2 (0 ∷ []))).page ≡ 20 ∷ []
-unfolding opened fed array_after base_after flash_pages open_store call carried_out memory_of buffers_of zero_page lent_ok call_pages steps_pages
-    decide flush_outcome steps step_outcome write_outcome read_outcome checked stepped_pages written_pages read_page stepped written
-    read_directory rewritten_pages merged vacated exchanged_pages exchanged given_slot taken spare unmet joined_pages filled joined
-    put_frame_page put_slot_page entered put_slot touched recency_after oneMore worn_by worn programmed flash_page lowest_worn format_of torn
-    flash_cells call_reading reads_all heeding fault_of fault_met some_page mends_of mends_met sum reads_flash reads_page steps_merge merges_page
-    cell_at is_worn cached due_of lowest_in_slots occupied plan eviction_plan evict_frame any_evictable evictable fewest_valid victim policy_choice
-    fewest_uses least_recent read_way slot_count valid_count frame_of frame_with in_slots slot_of in_block inFrame sound framePast uses_ok slot_past
-    listed_once cached_once frames_differ slots_differ frame_ok slot_ok shape_ok sizes_ok vacant_directory blank_cache every first first_from count
-    all all_pairs tab tab_from bit mask nth argmax least page_at pages_of flat
+unfolding opened fed array_after base_after flash_pages open_store call carried_out memory_of buffers_of zero_page lent_ok call_pages
+    steps_pages decide flush_outcome steps step_outcome write_outcome read_outcome checked stepped_pages written_pages read_page stepped
+    written read_directory rewritten_pages merged vacated exchanged_pages exchanged given_slot taken spare unmet joined_pages filled joined
+    put_frame_page put_slot_page entered put_slot touched recency_after oneMore worn_by worn programmed flash_page lowest_worn format_of
+    torn flash_cells call_reading reads_all heeding fault_of fault_met some_page mends_of mends_met sum reads_flash reads_page steps_merge
+    merges_page cell_at is_worn cached due_of lowest_in_slots occupied plan eviction_plan evict_frame any_evictable evictable fewest_valid
+    victim policy_choice fewest_uses least_recent read_way slot_count valid_count frame_of frame_with in_slots slot_of in_block inFrame
+    sound framePast uses_ok slot_past listed_once cached_once frames_differ slots_differ frame_ok slot_ok shape_ok sizes_ok vacant_directory
+    blank_cache every first first_from count all all_pairs tab tab_from bit mask nth argmax least page_at pages_of flat
 read_a = claim-a.then.then.then.then.reads refl

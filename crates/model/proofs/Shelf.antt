@@ -47,7 +47,8 @@ module _ (sz : Sizes) (limits : InLimits sz) (h : ℕ) (h_le : h ≤ 8) where
   pub run-shelved : (k : ℕ) (es : List ℕ) → Run k es → shelved es ≡ k
   unfolding shelved
   run-shelved k es r = let q = r.k_le in sym (first-is 8 (λ i. eqb (get_or es i vacant) vacant) k (omega arith)
-      (λ j l. ne_eqb (get_or es j vacant) vacant (λ (e : get_or es j vacant ≡ vacant). let a = r.used j l in let b = pages-small sz limits in
+      (λ j l. ne_eqb (get_or es j vacant) vacant
+      (λ (e : get_or es j vacant ≡ vacant). let a = r.used j l in let b = pages-small sz limits in
       omega arith))
       (λ l. eq-eqb _ vacant (r.free k (omega arith) l)))
 

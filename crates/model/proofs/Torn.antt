@@ -398,7 +398,8 @@ module _ (sz : Sizes) (limits : InLimits sz) (marked : is_marked sz ≡ true) (u
   unfolding format_of
   near-zero y c k = rw (k.1, marked)
 
-  cell-mark : (v : Buffers) (n : ℕ) → n < sz.N * sz.K → get_or (get_or (flash_cells store_format sz v) n no_cell).mark 0 0 ≡ get_or v.marks n 0
+  cell-mark : (v : Buffers) (n : ℕ) → n < sz.N * sz.K
+      → get_or (get_or (flash_cells store_format sz v) n no_cell).mark 0 0 ≡ get_or v.marks n 0
   unfolding flash_cells
   cell-mark v n l = ap (λ (c : Cell). get_or c.mark 0 0) (get_d_tab (sz.N * sz.K) _ no_cell n l) ∙ rw marked (mark_of v.marks n)
 

@@ -1,5 +1,6 @@
 -- Lists of calls on one store: the page array, the rewrite book, and the one claim of demand 3.
-use Rattle.std.specs.Prelude.{◌≡◌, ◌⊎◌, Bool, true, false, not, cond, ◌&&◌, ◌||◌, List, [], ◌∷◌, map, ℕ, ◌+◌, ◌*◌, ◌/◌, ◌≤◌, ◌<◌, ltb, eqb, length, get_or, set, replicate}
+use Rattle.std.specs.Prelude.{◌≡◌, ◌⊎◌, Bool, true, false, not, cond, ◌&&◌, ◌||◌, List, [], ◌∷◌, map, ℕ, ◌+◌, ◌*◌, ◌/◌, ◌≤◌, ◌<◌, ltb, eqb}
+use Rattle.std.specs.Prelude.{length, get_or, set, replicate}
 use Rattle.prelude.specs.Scan.{count, tab}
 use Rattle.prelude.specs.Pages.{laid}
 use Rattle.model.specs.Sizes.{Sizes}

@@ -4,7 +4,8 @@ use Rattle.prelude.specs.Scan.{first, count, nth, tab}
 use Rattle.prelude.specs.Bits.{bit, mask}
 use Rattle.model.specs.Sizes.{Sizes, vacant}
 use Rattle.model.specs.Directory.{Directory, slot_at, frame_at, valid_at, recency_at, uses_at}
-use Rattle.model.specs.Policy.{in_block, slot_of, in_slots, frame_with, read_way, Plan, slot_hit, frame_hit, free_slot, join, fill, exchange}
+use Rattle.model.specs.Policy.{in_block, slot_of, in_slots, frame_with, read_way, Plan, slot_hit, frame_hit, free_slot, join, fill}
+use Rattle.model.specs.Policy.{exchange}
 use Rattle.model.specs.Policy.{evict, merge_reads, Due, clean, due}
 
 -- Flash holds raw pages, cells, of any type C. Of a cell: the page that reading it gives, the refusal that a read or merge from it meets

@@ -28,7 +28,8 @@ read_of fmt sz u n = (fmt.chip sz).page (cell_of fmt sz u n)
 
 -- Flash as its rule reads it: page n is what reading cell n gives.
 abbrev pub FlashReadRule : Type 0
-FlashReadRule = (fmt : Format) (sz : Sizes) (u : Buffers) (n : ℕ) → n < sz.N * sz.K → get_or (flash_pages fmt sz u) n [] ≡ read_of fmt sz u n
+FlashReadRule = (fmt : Format) (sz : Sizes) (u : Buffers) (n : ℕ) → n < sz.N * sz.K
+    → get_or (flash_pages fmt sz u) n [] ≡ read_of fmt sz u n
 
 -- The page array is N×K pages of S bytes, at first those in flash at opening, as they are read.
 abbrev pub StartsArrayRule : Type 0
@@ -52,7 +53,8 @@ StartsLogRule = (fmt : Format) (sz : Sizes) (u : Buffers) (n : ℕ) (x : Page) �
 -- Before a block's first rewrite, what stood "before its last rewrite" is what stood at opening.
 abbrev pub StartsBeforeRule : Type 0
 StartsBeforeRule = (fmt : Format) (sz : Sizes) (u : Buffers) (b : ℕ) → b < sz.N
-    → (get_or (opened fmt sz u).array_before b [] ≡ (opened fmt sz u).array) × (get_or (opened fmt sz u).log_before b [] ≡ (opened fmt sz u).log)
+    → (get_or (opened fmt sz u).array_before b [] ≡ (opened fmt sz u).array)
+    × (get_or (opened fmt sz u).log_before b [] ≡ (opened fmt sz u).log)
 
 -- The empty list has no last call.
 abbrev pub StartsFlushedRule : Type 0

@@ -156,7 +156,8 @@ OpeningOverwornRule = (fmt : Format) (sz : Sizes) (u : Buffers) → WithinLimits
 abbrev pub OpeningDoneRule : Type 0
 OpeningDoneRule = (fmt : Format) (sz : Sizes) (u : Buffers) → WithinLimits sz → RightLengths fmt sz u
     → ((b : ℕ) → b < sz.N → get_or u.wear b 0 ≤ sz.W)
-    → ((open_store fmt sz u).answer ≡ open_done) × ((open_store fmt sz u).cache.sizes ≡ sz) × AllVacant (open_store fmt sz u).cache.directory
+    → ((open_store fmt sz u).answer ≡ open_done) × ((open_store fmt sz u).cache.sizes ≡ sz)
+    × AllVacant (open_store fmt sz u).cache.directory
     × ((open_store fmt sz u).torn ≡ torn_blocks sz u.marks)
 
 -- The torn blocks are those below N with a mark that is not 0, however many marks that are; where there are no marks none is torn.

@@ -134,4 +134,5 @@ Writes7PagesRule = (sz : Sizes) (d : Directory) (n : ℕ) → sound sz d ≡ tru
     → (C A : Type 0) (chip : Chip C A) (filler : A) (m : Memory C A) (x : A) → length m.pspace ≡ sz.P
     → (p : Memory C A) × SteppedPages chip filler sz d m p (frame_at d f) f
     × ((c e : Directory) × Stepped sz d c (frame_at d f) f × Joined sz c e v f
-    × ((q : Memory C A) × JoinedPages filler sz c p q v f × EnteredPages filler sz e q (written_pages chip filler sz d m n x (evict v f)) x))
+    × ((q : Memory C A) × JoinedPages filler sz c p q v f
+    × EnteredPages filler sz e q (written_pages chip filler sz d m n x (evict v f)) x))

@@ -1,5 +1,6 @@
 -- Request A8: a layer on the store that shelves what a write replaces, and takes the latest write back. h is the number of shelf pages.
-use Rattle.std.specs.Prelude.{◌≡◌, Bool, true, false, not, cond, ◌&&◌, List, [], ◌∷◌, ℕ, suc, ◌+◌, ◌-◌, ◌*◌, ◌<◌, leb, ltb, eqb, length, get_or, set, replicate}
+use Rattle.std.specs.Prelude.{◌≡◌, Bool, true, false, not, cond, ◌&&◌, List, [], ◌∷◌, ℕ, suc, ◌+◌, ◌-◌, ◌*◌, ◌<◌, leb, ltb, eqb, length}
+use Rattle.std.specs.Prelude.{get_or, set, replicate}
 use Rattle.prelude.specs.Tests.{every}
 use Rattle.prelude.specs.Scan.{first, all, tab}
 use Rattle.prelude.specs.Pages.{pages_of, flat}

@@ -23,7 +23,8 @@ use Rattle.model.specs.Calls.{some_page, fault_met, mends_met, page_seen}
 use Rattle.model.specs.Formats.{store_format, StoreMatches, StoreNear}
 use Rattle.model.specs.Lists.{Picks, Reference, Bears, Borne, added_cause, array_after, fed, flipped}
 use Rattle.model.specs.Legible.{AsProgrammed}
-use Rattle.model.specs.Shelf.{shelf_ok, plainly, ShelfStore, ShelfReference, ShelfChosen, pages_of_shelf, ordinary, shelf_call, shelf_book_says}
+use Rattle.model.specs.Shelf.{shelf_ok, plainly, ShelfStore, ShelfReference, ShelfChosen, pages_of_shelf, ordinary, shelf_call}
+use Rattle.model.specs.Shelf.{shelf_book_says}
 use Rattle.model.specs.Shelf.{shelf_fed, shelf_flipped, ShelfStep}
 use Rattle.model.proofs.Plan.{policy_choice-picks}
 use Rattle.model.proofs.Plain.{nothing}
@@ -109,7 +110,8 @@ sane-ends c pages (mark r m) v h = sane-puts c pages (10 ∷ 13 ∷ 11 ∷ []) (
 
 pub sheets-same : (c : ℕ) (a a' : List Page) → ((i : ℕ) → i < c → get_or a' i [] ≡ get_or a i []) → sheets_in c a ≡ sheets_in c a'
 unfolding sheets_in
-sheets-same c a a' h = tab-ext no_sheet c (λ i. sheet_of (get_or a i [])) (λ i. sheet_of (get_or a' i [])) (λ i l. ap sheet_of (sym (h i l)))
+sheets-same c a a' h =
+    tab-ext no_sheet c (λ i. sheet_of (get_or a i [])) (λ i. sheet_of (get_or a' i [])) (λ i l. ap sheet_of (sym (h i l)))
 
 sheets-set : (c S : ℕ) → 28 ≤ S → (a : List Page) (i : ℕ) (s : Sheet) → i < c → i < length a → Words s
     → set (sheets_in c a) i s ≡ sheets_in c (set a i (page_of S s))
@@ -194,7 +196,8 @@ module _ (sz : Sizes) (limits : InLimits sz) (u : Buffers) (h_le : sz.shelf_page
       g.here t p fl cd b
 
   module _ (dir : Directory) (lent : Buffers) (ref : Reference) (es sb : List ℕ)
-      (x : Holds store_format StoreMatches StoreNear sz bears u (record { cache = record { sizes = sz; directory = dir }; lent = lent }) ref)
+      (x : Holds store_format StoreMatches StoreNear sz bears u
+      (record { cache = record { sizes = sz; directory = dir }; lent = lent }) ref)
       (k : ℕ) (run : Run sz limits sz.shelf_pages h_le k es) (long : length sb ≡ sz.shelf_pages * sz.S) (bytes : AllBytes ref.array)
       (shelf : AllBytes (pages_of_shelf sz sz.shelf_pages sb)) (fl cd : List ℕ)
       (b : Borne store_format StoreNear sz ref (flipped (record { cache = record { sizes = sz; directory = dir }; lent = lent }) fl cd

@@ -4,7 +4,8 @@ use Rattle.std.specs.Prelude.{◌≡◌, cond, List, [], ◌∷◌, ℕ, ◌*◌
 use Rattle.prelude.specs.Scan.{tab}
 use Rattle.model.specs.Sizes.{Sizes, vacant}
 use Rattle.model.specs.Policy.{Choice}
-use Rattle.model.specs.Calls.{Answer, open_done, refused, is_refused, Call, read, write, part, step, flush, Page, Cell, Buffers, flash_cells}
+use Rattle.model.specs.Calls.{Answer, open_done, refused, is_refused, Call, read, write, part, step, flush, Page, Cell, Buffers}
+use Rattle.model.specs.Calls.{flash_cells}
 use Rattle.model.specs.Formats.{store_format, StoreNear}
 use Rattle.model.specs.Lists.{Picks, added_cause, flipped, Borne, After}
 use Rattle.model.specs.Legible.{AsProgrammed}

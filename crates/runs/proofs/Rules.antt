@@ -171,7 +171,8 @@ full-rule c ss = record {
       let l = ltb-true (first_empty c ss) c (and_l (ltb (first_empty c ss) c) _ t) in
       let m = ltb-true (largest c ss) 4294967294 (and_r (ltb (first_empty c ss) c) _ t) in
       elim h [
-        | inl a ↦ clash (first-hit c (λ j. is_empty (sheet_at ss j)) l) (not_t ((used ss (first_empty c ss)).passes (a (first_empty c ss) l)))
+        | inl a ↦ clash (first-hit c (λ j. is_empty (sheet_at ss j)) l)
+            (not_t ((used ss (first_empty c ss)).passes (a (first_empty c ss) l)))
         | inr a ↦ let k = (largest-is_rule c ss).greatest a.0 a.1 a.2 in let e = a.3 in absurd (omega arith)
       ]));
 }

@@ -24,15 +24,15 @@ use Rattle.runs.specs.RulesRoles.{GridRule, MaskRule, Alike, Looks, looks, lists
 pub grid-rule : GridRule
 unfolding allowed grid
 grid-rule = record {
-  adds = λ w s f n. elim w [ trainee ↦ refl | tutor ↦ refl | examiner ↦ refl ];
-  looks = λ w r. elim w [ trainee ↦ refl | tutor ↦ refl | examiner ↦ refl ];
-  lists = λ w p. elim w [ trainee ↦ refl | tutor ↦ refl | examiner ↦ refl ];
-  reads = λ w r x. elim w [ trainee ↦ refl | tutor ↦ refl | examiner ↦ refl ];
+  adds = λ w s f n. elim w as (λ w'. allowed w' (add s f n) ≡ true) [ trainee ↦ refl | tutor ↦ refl | examiner ↦ refl ];
+  looks = λ w r. elim w as (λ w'. allowed w' (look r) ≡ true) [ trainee ↦ refl | tutor ↦ refl | examiner ↦ refl ];
+  lists = λ w p. elim w as (λ w'. allowed w' (list p) ≡ true) [ trainee ↦ refl | tutor ↦ refl | examiner ↦ refl ];
+  reads = λ w r x. elim w as (λ w'. allowed w' (read r x) ≡ true) [ trainee ↦ refl | tutor ↦ refl | examiner ↦ refl ];
   trainee-replaces = λ r s f n. refl;
   tutor-replaces = λ r s f n. refl;
   trainee-marks = λ r m. refl;
   tutor-marks = λ r m. refl;
-  examiner-does = λ o. elim o [
+  examiner-does = λ o. elim o as (λ o'. allowed examiner o' ≡ true) [
     | add s f n ↦ refl
     | look r ↦ refl
     | list p ↦ refl

@@ -1,4 +1,6 @@
 // Page and block numbers, and the only way from one to the other: page n lies in block n div k at offset n mod k.
+#![tactic(auto)]
+
 pub mod range; // range.rt: the block of a page without a division
 
 ghost use Rattle.std.specs.Prelude.{◌≡◌, ◌<◌, ◌+◌, ◌*◌, ◌^◌};
@@ -6,12 +8,12 @@ ghost use Rattle.address.specs.Address.{block_of, offset_of, page_of};
 
 // The number of a page.
 #[repr(C)]
-#[derive(Drop)]
+#[derive(Clone, Copy)]
 pub struct PageNo(pub u32);
 
 // The number of a block.
 #[repr(C)]
-#[derive(Drop)]
+#[derive(Clone, Copy)]
 pub struct BlockNo(pub u32);
 
 // The block of page n.

@@ -1,6 +1,6 @@
 -- A call whose outcome is refused already, is refused for what its reads of flash meet, or stands.
 use mathlib.Core.Path.{◌≡◌, refl, sym, ap, ◌∙◌}
-use mathlib.Core.Bool.{true, false, cond}
+use mathlib.Core.Bool.{true, false}
 use Prim.Native.Nat.{ℕ}
 use lib.Dec.{eqb}
 use borrow.Author.Tests.{eqb-true, eqb-false}
@@ -11,7 +11,7 @@ use Rattle.model.specs.Moves.{Memory}
 use Rattle.model.specs.Calls.{Answer, refused, is_refused, State, Outcome, turned_down, heeding, Page, Cell}
 use Rattle.model.specs.Cut.{Left}
 use Rattle.model.proofs.RulesCalls.{heeds-rule}
-use Rattle.answer.specs.Carried.{Carried, CarriedTo}
+use Rattle.answer.specs.Carried.{CarriedTo}
 
 module _ {enough : Type 0} {k : State} {mends : ℕ} {l l₁ : Left Cell} {m m₁ : Memory Cell Page} (same : l.wear ≡ k.wear) where
   -- nothing is changed

@@ -1,4 +1,6 @@
 // What the calls answer. The definitions in specs/ give document 01's number and values for each case.
+#![tactic(auto)]
+
 ghost use Rattle.std.specs.Prelude.{◌≡◌, cond, eqb};
 ghost use Rattle.model.specs.Sizes.{vacant};
 ghost use Rattle.model.specs.Calls.{refused};
@@ -7,7 +9,7 @@ ghost use Rattle.answer.specs.Numbers.{refusal_of};
 use address::BlockNo;
 
 // Why a call is turned down: document 01's refusals 1 to 6, and those that requests add.
-#[derive(Drop)]
+#[derive(Clone, Copy)]
 pub enum Refusal {
     // 1: at opening, a size, the wear limit or an option is beyond its limits
     Size,
@@ -40,14 +42,14 @@ pub fn late(fault: u32) -> Refusal
 }
 
 // What an opening answers: the number of torn blocks, those with a mark that is not 0 (request A12).
-#[derive(Drop)]
+#[derive(Clone, Copy)]
 pub enum Opening {
     Done { torn: u32 },
     Refused(Refusal),
 }
 
 // What a read answers: its way, 1 from a slot, 2 from a frame, 3 from flash, and how many chunks were mended (request A7).
-#[derive(Drop)]
+#[derive(Clone, Copy)]
 pub enum Read {
     Done { way: u32, mends: u32 },
     Refused(Refusal),
@@ -55,7 +57,7 @@ pub enum Read {
 
 // What a write answers: its way, the block erased, the merge reads and the chunks mended. Only way 7 erases a block and merges; the read of
 // a part write may mend as well.
-#[derive(Drop)]
+#[derive(Clone, Copy)]
 pub enum Write {
     // ways 0 to 6
     Done {
@@ -72,7 +74,7 @@ pub enum Write {
 }
 
 // What a flush step answers: the block rewritten, its merge reads and the chunks mended, or that nothing was cached.
-#[derive(Drop)]
+#[derive(Clone, Copy)]
 pub enum Step {
     Done {
         block: BlockNo,
@@ -84,7 +86,7 @@ pub enum Step {
 }
 
 // What a flush answers: the rewrites, the sum of their merge reads and of the chunks mended.
-#[derive(Drop)]
+#[derive(Clone, Copy)]
 pub enum Flush {
     Done {
         rewrites: u32,

@@ -1,4 +1,6 @@
 // The leaves for a Rust or C program that measures them.
+#![tactic(auto)]
+
 ghost use Rattle.std.specs.Prelude.{◌≡◌, ◌+◌, ◌*◌, ◌≤◌, ◌<◌, replicate};
 ghost use Rattle.prelude.specs.Pages.{page_at, put_page};
 ghost use Rattle.page.specs.Page.{HasPage, Exchanged};

@@ -1,4 +1,6 @@
 // The page codes for a Rust or C program that measures them. A page has m chunks of 256 bytes.
+#![tactic(auto)]
+
 ghost use Rattle.std.specs.Prelude.{◌≡◌, ◌*◌};
 ghost use Rattle.prelude.specs.Pages.{page_at, put_page};
 ghost use Rattle.page.specs.Page.{HasPage};

@@ -1,4 +1,6 @@
 // The figures of a list of wear for a C or Rust program to call and measure.
+#![tactic(auto)]
+
 ghost use Rattle.std.specs.Prelude.{◌≡◌, ◌≤◌, length};
 ghost use Rattle.wear.specs.Figures.{measured};
 ghost use Rattle.bench_wear.specs.Plainly.{plainly};
@@ -7,7 +9,7 @@ use wear::Measured;
 
 // The figures, with 1 for an accepted report and 0 for one that is refused.
 #[repr(C)]
-#[derive(Drop)]
+#[derive(Clone, Copy)]
 pub struct Figures {
     pub accepted: u32,
     pub largest: u32,

@@ -1,4 +1,6 @@
 // The valid pages of a frame: a set of offsets below 64 as one 64-bit number, bit i for offset i.
+#![tactic(auto)]
+
 ghost use Rattle.std.specs.Prelude.{◌≡◌, ◌<◌, ◌≤◌, ◌-◌, ◌^◌, ltb};
 ghost use Rattle.prelude.specs.Scan.{first_from, count};
 ghost use Rattle.prelude.specs.Bits.{bit, bit_without, with_bit, first_bits};

@@ -1,4 +1,6 @@
 // The cache record's numbers by value: its sizes and its directory, which says what stands where.
+#![tactic(auto)]
+
 pub mod entry; // entry.rt: an entry of a list, and how it becomes a page or a block number
 mod lists; // lists.rt: the directory as lists of plain numbers, and back
 pub mod search; // search.rt: what a search of the slots may pass over
@@ -15,7 +17,7 @@ pub const VACANT: u32 = 4294967295;
 
 // What an opening sets: the five sizes, the wear limit, and the options. A store without an option has 0 there.
 #[repr(C)]
-#[derive(Drop)]
+#[derive(Clone, Copy)]
 pub struct Sizes {
     pub page_size: u32,
     pub pages_per_block: u32,
@@ -81,7 +83,7 @@ impl Sizes {
 // a block number or VACANT for each frame, and a page number or VACANT for each slot (document 01's place). The short lists stand
 // first: the compiler then builds a record where it is handed back, without a copy of its own.
 #[repr(C)]
-#[derive(Drop)]
+#[derive(Clone, Copy)]
 pub struct Directory {
     pub recency: [u8; 8],
     pub valid: [u64; 8],

@@ -47,7 +47,8 @@ pub bit_word : (d : List ℕ) → Bytes d → (i n p : ℕ) → p < n * 8 → bi
 unfolding word_from
 bit_word d b i zero p l = absurd (omega arith)
 bit_word d b i (suc n) p l = by-test (ltb p (n * 8))
-    (λ t. let h = ltb-true p (n * 8) t in bit-low (get_or d (i + n) 0) (n * 8) (word_from d i n) p (word_lt d b i n) h ∙ bit_word d b i n p h)
+    (λ t. let h = ltb-true p (n * 8) t in bit-low (get_or d (i + n) 0) (n * 8) (word_from d i n) p (word_lt d b i n) h
+    ∙ bit_word d b i n p h)
     (λ t. let h = ltb-false p (n * 8) t in let e : p ≡ n * 8 + (p - n * 8) = omega arith in
     ap (bit (get_or d (i + n) 0 * 2 ^ (n * 8) + word_from d i n)) e ∙ bit_high (get_or d (i + n) 0) (n * 8) (word_from d i n) (p - n * 8)
     (word_lt d b i n)

@@ -127,7 +127,8 @@ module _ (d : List ℕ) where
       → Sum d 16 8 r c → Sum d 24 8 r e → Total d q (bit_xor (bit_xor a b) (bit_xor c e))
   joined q r h a b c e ha hb hc he p l =
       let g : ℕ → Bool = λ k. odd 8 (λ w. bit_at d ((k * 8 + w) * 64 + p) && r w) in
-      bit-xor (bit_xor a b) (bit_xor c e) p ∙ ap₂ xor (bit-xor a b p ∙ ap₂ xor (ha p l) (hb p l)) (bit-xor c e p ∙ ap₂ xor (hc p l) (he p l))
+      bit-xor (bit_xor a b) (bit_xor c e) p
+      ∙ ap₂ xor (bit-xor a b p ∙ ap₂ xor (ha p l) (hb p l)) (bit-xor c e p ∙ ap₂ xor (hc p l) (he p l))
       ∙ sym (
       odd-rows 4 8 (λ w. bit_at d (w * 64 + p) && q w)
       ∙ odd-same 4 (λ k. odd 8 (λ w. bit_at d ((k * 8 + w) * 64 + p) && q (k * 8 + w))) g
@@ -179,7 +180,8 @@ module _ (d : List ℕ) (x : ℕ) where
       (λ w wl. ap (λ (b : Bool). bit_at d (w * 64 + p) && b) (bit_high w 6 p t l)) ∙ sym (h p l)))
 
   plain : Total d (λ w. true) x → (p : ℕ) → p < 64 → odd 32 (λ w. bit_at d (w * 64 + p)) ≡ bit x p
-  plain h p l = odd-same 32 (λ w. bit_at d (w * 64 + p)) (λ w. bit_at d (w * 64 + p) && true) (λ w wl. sym (and-true (bit_at d (w * 64 + p))))
+  plain h p l = odd-same 32 (λ w. bit_at d (w * 64 + p)) (λ w. bit_at d (w * 64 + p) && true)
+      (λ w wl. sym (and-true (bit_at d (w * 64 + p))))
       ∙ sym (h p l)
 
   pub whole_is : Total d (λ w. true) x → odd 64 (bit x) ≡ whole d
@@ -258,7 +260,8 @@ module _ (d : List ℕ) where
   code_is s e = by-test (whole d)
       (λ t. let h : mask 22 (code_bit d) * 3 + spread 11 * 3 + 2 ≡ 4194304 * 2 = spread-odd t 11 (omega arith) in let c = top in
       rw t (omega arith))
-      (λ t. let h : mask 22 (code_bit d) + spread 11 * 3 + 1 ≡ 4194304 = spread-even t 11 (omega arith) in let c = top in rw t (omega arith))
+      (λ t. let h : mask 22 (code_bit d) + spread 11 * 3 + 1 ≡ 4194304 = spread-even t 11 (omega arith) in let c = top in
+      rw t (omega arith))
 
 num-true : (b : Bool) → num b ≡ 1 → b ≡ true
 num-true true h = refl

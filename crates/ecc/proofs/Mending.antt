@@ -91,6 +91,7 @@ unfolding put_page page_at
 put_same s l i = rw (← drop-drop s (i * s) l, take-append-drop s (drop (i * s) l), take-append-drop (i * s) l)
 
 -- a page that is put, or the page itself
-pub put-cond : (s : ℕ) (l : List ℕ) (i : ℕ) (b : Bool) (x : List ℕ) → put_page s l i (cond b x (page_at s l i)) ≡ cond b (put_page s l i x) l
+pub put-cond : (s : ℕ) (l : List ℕ) (i : ℕ) (b : Bool) (x : List ℕ)
+    → put_page s l i (cond b x (page_at s l i)) ≡ cond b (put_page s l i x) l
 put-cond s l i true x = refl
 put-cond s l i false x = put_same s l i

@@ -1,4 +1,6 @@
 // Page codes against a flipped bit (request A6): 3 bytes for each chunk of 256 bytes. A page has m chunks.
+#![tactic(auto)]
+
 pub mod bytes; // bytes.rt: a byte as a longer number
 pub mod table; // table.rt: the table of 256 entries
 pub mod parity; // parity.rt: parities of a word's bits
@@ -32,7 +34,7 @@ pub fn encode(codes: &mut [u8], page: &[u8], m: usize)
 }
 
 // What a page was found to be: readable, with a number of chunks mended, or not.
-#[derive(Drop)]
+#[derive(Clone, Copy)]
 pub enum Checked {
     Readable(usize),
     Unreadable,

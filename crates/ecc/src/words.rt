@@ -27,7 +27,7 @@ fn word(s: &[u8], i: usize) -> u64
 }
 
 // Sums, by exclusive-or, of 8 words: of all, and of those whose index has bit 0, 1, 2.
-#[derive(Drop)]
+#[derive(Clone, Copy)]
 pub struct Eight {
     pub all: u64,
     pub one: u64,
@@ -61,7 +61,7 @@ fn eights(s: &[u8], i: usize) -> Eight
 }
 
 // Sums of a chunk's 32 words: of all, and of those whose index has bit 0 to 4.
-#[derive(Drop)]
+#[derive(Clone, Copy)]
 pub struct Sums {
     pub all: u64,
     pub one: u64,

@@ -31,7 +31,8 @@ module _ (seen : List ℕ) (w m : ℕ) (long : length seen ≡ 64) where
 
   or_marks : (x : ℕ) → x % 4096 / 64 ≡ w → bit m (x % 64) ≡ true → in_filter (or_at seen w m) x ≡ true
   or_marks x e h = let l : w < length seen = omega arith in
-      rw (e, get_or-set_same seen w (bit_or (get_or seen w 0) m) 0 l) (bit-or (get_or seen w 0) m (x % 64) ∙ or_r (bit (get_or seen w 0) (x % 64)) h)
+      rw (e, get_or-set_same seen w (bit_or (get_or seen w 0) m) 0 l)
+      (bit-or (get_or seen w 0) m (x % 64) ∙ or_r (bit (get_or seen w 0) (x % 64)) h)
 
 -- ---- one number goes in
 

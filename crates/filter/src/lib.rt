@@ -1,5 +1,7 @@
 // A filter of page numbers: 4,096 bits in 64 words, one for each remainder of a number by 4,096. A number whose bit is clear
 // was not put in; one whose bit is set may have been.
+#![tactic(auto)]
+
 ghost use Rattle.std.specs.Prelude.{◌≡◌, ◌*◌, ◌<◌, ◌≤◌, length};
 ghost use Rattle.model.specs.Sizes.{InLimits};
 ghost use Rattle.cache.specs.View.{sizes_of};

@@ -1,4 +1,6 @@
 // Pages of s bytes in byte slices: page i is the s bytes from i * s on. Blocks are stretches of k pages.
+#![tactic(auto)]
+
 ghost use Rattle.std.specs.Prelude.{◌≡◌, ◌+◌, ◌*◌, ◌≤◌, ◌<◌, length, replicate};
 ghost use Rattle.prelude.specs.Pages.{page_at, put_page, run_at, laid};
 ghost use Rattle.page.specs.Page.{HasPage, Exchanged};

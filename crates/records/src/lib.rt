@@ -1,4 +1,6 @@
 // Records for the programs that run: sizes, filled directories, and directories with one entry replaced.
+#![tactic(auto)]
+
 use cache::{Directory, Sizes, entry};
 
 // The sizes S, K, N, P, B, W, with LRU and no other option.
@@ -78,7 +80,7 @@ fn all_pages(k: u32) -> u64 {
 }
 
 // What is spoilt: a slot, a frame, a set of valid pages, an entry of the order or a use count, and what stands there then.
-#[derive(Drop)]
+#[derive(Clone, Copy)]
 pub enum Entry {
     Slot(u32),
     Frame(u32),

@@ -1,4 +1,6 @@
 // The catalogue's sheets in code (requests A9 to A11): on a page, in a table, and what a table of them decides of an operation. No store.
+#![tactic(auto)]
+
 pub mod bytes; // bytes.rt: a sheet on a page
 pub mod table; // table.rt: a table of sheets, searched
 pub mod ranges; // ranges.rt: which pages runs have
@@ -7,7 +9,7 @@ pub mod roles; // roles.rt: the grid of roles and operations, and what a trainee
 pub mod verdict; // verdict.rt: what the table decides of an operation
 
 // A sheet: seven numbers.
-#[derive(Drop)]
+#[derive(Clone, Copy)]
 pub struct Sheet {
     pub run: u32,
     pub trainee: u32,

@@ -5,7 +5,7 @@ ghost use Rattle.sheets.specs.View.{fields_of, role_of, caller_of, operation_of}
 
 use crate::Sheet;
 
-#[derive(Drop)]
+#[derive(Clone, Copy)]
 pub enum Role {
     Trainee,
     Tutor,
@@ -13,7 +13,7 @@ pub enum Role {
 }
 
 // An operation with its arguments.
-#[derive(Drop)]
+#[derive(Clone, Copy)]
 pub enum Operation {
     Add {
         sample: u32,
@@ -42,7 +42,7 @@ pub enum Operation {
 }
 
 // Who calls: the role, and the trainee number, which an added run takes.
-#[derive(Drop)]
+#[derive(Clone, Copy)]
 pub struct Caller {
     pub role: Role,
     pub number: u32,

@@ -8,7 +8,7 @@ use crate::roles::{Caller, Operation};
 use crate::{Sheet, current, ranges, roles, table};
 
 // Why a catalogue turns a call down. 1 and 12 are found before a table is made.
-#[derive(Drop)]
+#[derive(Clone, Copy)]
 pub enum Cause {
     // 1: pages of fewer than 28 bytes, or a number of sheets out of its range
     Size,
@@ -24,7 +24,7 @@ pub enum Cause {
     Replaced,
 }
 
-#[derive(Drop)]
+#[derive(Clone, Copy)]
 pub enum Verdict {
     // refused with 9, 10, 13 or 11
     Refuse(Cause),

@@ -1,4 +1,6 @@
 // One turn of a rehearsed class (request A13): the generator's three advances, and the call that they give. It knows no store.
+#![tactic(auto)]
+
 ghost use Rattle.std.specs.Prelude.{◌≡◌, ◌*◌, ◌%◌, ◌^◌, ◌<◌, ◌≤◌};
 ghost use Rattle.turns.specs.Generator.{advanced};
 ghost use Rattle.turns.specs.Turns.{page_of, call_of, turn_of};
@@ -6,14 +8,14 @@ ghost use Rattle.turns.specs.Turns.{page_of, call_of, turn_of};
 use address::PageNo;
 
 // What a bench asks of the store in its turn.
-#[derive(Drop)]
+#[derive(Clone, Copy)]
 pub enum Call {
     Read(PageNo),
     Write { page: PageNo, byte: u8 },
 }
 
 // What a turn is made with: N×K pages, and the rates of writes and of runs, 0 to 256.
-#[derive(Drop)]
+#[derive(Clone, Copy)]
 pub struct Rates {
     pub pages: u32,
     pub write: u32,
@@ -21,7 +23,7 @@ pub struct Rates {
 }
 
 // A turn: the call, the number of its page, and the state after the three advances.
-#[derive(Drop)]
+#[derive(Clone, Copy)]
 pub struct Turn {
     pub call: Call,
     pub page: u32,

@@ -1,5 +1,7 @@
 -- What one more erasure does to the figures, over whole numbers: the proofs of specs/Rules.
-use Rattle.std.proofs.Common.{◌≡◌, ℕ, zero, suc, ◌+◌, ◌-◌, ◌*◌, ◌<◌, ◌≤◌, max, eqb, ltb, List, length, pos, negsuc, ◌-ℤ◌, nat_abs, sym, refl, ap, ◌∙◌, mul-le-mul, mul-le-mul_left, mul-add, arith, length-set, get_or-set_other, get_or-set_same, ltb-false, ltb-true, le-ltb, lt-ltb, eqb-true}
+use Rattle.std.proofs.Common.{◌≡◌, ℕ, zero, suc, ◌+◌, ◌-◌, ◌*◌, ◌<◌, ◌≤◌, max, eqb, ltb, List, length, pos, negsuc, ◌-ℤ◌, nat_abs, sym}
+use Rattle.std.proofs.Common.{refl, ap, ◌∙◌, mul-le-mul, mul-le-mul_left, mul-add, arith, length-set, get_or-set_other, get_or-set_same}
+use Rattle.std.proofs.Common.{ltb-false, ltb-true, le-ltb, lt-ltb, eqb-true}
 use lib.IntN.{sub_ℕ}
 use borrow.Author.Tests.{eqb-false}
 use Rattle.prelude.specs.Scan.{greatest}

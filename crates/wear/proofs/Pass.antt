@@ -1,5 +1,6 @@
 -- The one pass over the wear: what has been added up after the first i entries.
-use Rattle.std.proofs.Common.{◌≡◌, ℕ, ◌+◌, ◌-◌, ◌*◌, ◌%◌, ◌<◌, ◌≤◌, max, leb, List, length, sym, refl, mul-le-mul, add-one, arith, le-leb, leb-true}
+use Rattle.std.proofs.Common.{◌≡◌, ℕ, ◌+◌, ◌-◌, ◌*◌, ◌%◌, ◌<◌, ◌≤◌, max, leb, List, length, sym, refl, mul-le-mul, add-one, arith, le-leb}
+use Rattle.std.proofs.Common.{leb-true}
 use Rattle.prelude.specs.Scan.{all, greatest}
 use Rattle.prelude.proofs.Tests.{by-test}
 use Rattle.prelude.proofs.Scan.{all_of, all-at, greatest-ge, greatest-le}

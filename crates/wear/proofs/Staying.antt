@@ -1,5 +1,7 @@
 -- A call on a store whose report is accepted leaves a sound record, buffers that fit, and a wear within W.
-use Rattle.std.proofs.Common.{◌≡◌, ℕ, zero, suc, ◌+◌, ◌*◌, ◌<◌, Bool, true, false, ◌&&◌, eqb, ltb, leb, List, [], ◌∷◌, length, get_or, sym, refl, ap, ◌∙◌, inl, inr, not-suc-le-zero, arith, ltb-false, ltb-true, le-ltb, lt-ltb, eq-eqb, eqb-true, le-leb, leb-true}
+use Rattle.std.proofs.Common.{◌≡◌, ℕ, zero, suc, ◌+◌, ◌*◌, ◌<◌, Bool, true, false, ◌&&◌, eqb, ltb, leb, List, [], ◌∷◌, length, get_or, sym}
+use Rattle.std.proofs.Common.{refl, ap, ◌∙◌, inl, inr, not-suc-le-zero, arith, ltb-false, ltb-true, le-ltb, lt-ltb, eq-eqb, eqb-true}
+use Rattle.std.proofs.Common.{le-leb, leb-true}
 use lib.ListN.{get_or-eq_default}
 use Rattle.prelude.specs.Scan.{tab}
 use Rattle.prelude.specs.Bits.{bit}
@@ -16,7 +18,8 @@ use Rattle.model.specs.Calls.{is_refused, Call, Page, Cell, Buffers, heeding, de
 use Rattle.model.specs.Calls.{buffers_of, state_of, told, carried_out, call_reading}
 use Rattle.model.specs.Formats.{store_format}
 use Rattle.model.specs.Lists.{Picks, Put, Accepted, Reference, opened, Bears}
-use Rattle.model.specs.Shelf.{ShelfStore, ShelfCall, ShelfReference, shelved, shelf_ok, pages_of_shelf, is_back, ordinary, shelf_call, store_call}
+use Rattle.model.specs.Shelf.{ShelfStore, ShelfCall, ShelfReference, shelved, shelf_ok, pages_of_shelf, is_back, ordinary, shelf_call}
+use Rattle.model.specs.Shelf.{store_call}
 use Rattle.model.proofs.Soundness.{sound-facts}
 use Rattle.model.proofs.Lookup.{in_slots_lem, found-slot, own-slot, has-frame, frame_has, page-div, page-mod, page-vacant, block-vacant}
 use Rattle.model.proofs.Lookup.{page-lt, NoSlot, NoFrame}
@@ -115,7 +118,8 @@ module _ (s : ShelfStore) (fine : Fine s) where
     cache-is = rw (sizes-ok, open_store) (rw lent-now (rw wear-ok));
   }
 
-  first : Holds store_format Any Same sz laws u (record { cache = (open_store store_format sz u).cache; lent = u }) (opened store_format sz u)
+  first : Holds store_format Any Same sz laws u (record { cache = (open_store store_format sz u).cache; lent = u })
+      (opened store_format sz u)
   first = holds_opened store_format Any Same sz laws u opening (λ n l. tt)
 
   abbrev chip : Chip Cell Page

@@ -1,5 +1,6 @@
 -- Laws of sums: that N times the sum of squares is at least the total squared, and what one changed entry does.
-use Rattle.std.proofs.Common.{◌≡◌, ℕ, zero, suc, ◌+◌, ◌-◌, ◌*◌, ◌<◌, ◌≤◌, eqb, sym, refl, suc-mul, mul_comm, add-mul, zero-mul, mul-add, arith, eqb-true}
+use Rattle.std.proofs.Common.{◌≡◌, ℕ, zero, suc, ◌+◌, ◌-◌, ◌*◌, ◌<◌, ◌≤◌, eqb, sym, refl, suc-mul, mul_comm, add-mul, zero-mul, mul-add}
+use Rattle.std.proofs.Common.{arith, eqb-true}
 use native.Mathlib.Decide.{dec_lt}
 use borrow.Author.Tests.{eqb-false}
 use Rattle.prelude.proofs.Tests.{by-test}

@@ -1,5 +1,6 @@
 -- Every call wears as its answer says, and what that does to the report: the proofs of specs/Wearing.
-use Rattle.std.proofs.Common.{◌≡◌, ℕ, ◌+◌, ◌*◌, ◌<◌, Bool, true, false, ◌&&◌, eqb, ltb, leb, List, length, sym, refl, ap, ◌∙◌, inl, inr, arith, lt-ltb, le-leb}
+use Rattle.std.proofs.Common.{◌≡◌, ℕ, ◌+◌, ◌*◌, ◌<◌, Bool, true, false, ◌&&◌, eqb, ltb, leb, List, length, sym, refl, ap, ◌∙◌, inl, inr}
+use Rattle.std.proofs.Common.{arith, lt-ltb, le-leb}
 use borrow.Author.Tests.{lt-leb}
 use Rattle.prelude.proofs.Tests.{by-test, clash}
 use Rattle.prelude.proofs.Scan.{all_of, all-fails}
@@ -9,7 +10,8 @@ use Rattle.model.specs.Policy.{Choice, Plan, victim, plan, way_of, erased_by, du
 use Rattle.model.specs.Moves.{worn, worn_by}
 use Rattle.model.specs.Calls.{Answer, open_done, read_done, write_done, step_done, step_clean, flush_done, refused, is_refused}
 use Rattle.model.specs.Calls.{Call, read, write, part, step, flush, State, Outcome, checked, read_outcome, write_outcome, part_outcome}
-use Rattle.model.specs.Calls.{step_outcome, flush_outcome, decide, heeding, Page, Format, lent_ok, Store, Result, buffers_of, state_of, told}
+use Rattle.model.specs.Calls.{step_outcome, flush_outcome, decide, heeding, Page, Format, lent_ok, Store, Result, buffers_of, state_of}
+use Rattle.model.specs.Calls.{told}
 use Rattle.model.specs.Calls.{carried_out, call_reading}
 use Rattle.model.specs.Formats.{store_format}
 use Rattle.model.specs.Lists.{Picks}
@@ -113,7 +115,7 @@ module _ (fmt : Format) (pick : Choice) (besides : ℕ → Bool) (s : Store) (c 
       → Wore (carried_out fmt pick s c besides o)
   unfolding carried_out buffers_of
   carried-wears o h = by-test (is_refused o.answer)
-      (λ e. rw (e, carried_out) (refused-wears _ o.answer _ e))
+      (λ e. rw (e, carried_out) (refused-wears s.cache.sizes o.answer s.lent.wear e))
       (λ e. rw (e, carried_out) h)
 
   reading-wears : Picks pick → Wore (call_reading fmt pick besides s c)

@@ -1,9 +1,11 @@
 // The wear of a chip in whole figures (request A14). It knows a list of wear and no store.
+#![tactic(auto)]
+
 ghost use Rattle.std.specs.Prelude.{◌≡◌, ◌≤◌, max, length};
 ghost use Rattle.wear.specs.Figures.{measured};
 
 // The total T, the largest L, and the spread: N times the sum of squares, minus T squared. An entry above the limit is refused.
-#[derive(Drop)]
+#[derive(Clone, Copy)]
 pub enum Measured {
     Figures {
         total: u64,

@@ -1,4 +1,6 @@
 // The soundness test for a C or Rust program to call and measure.
+#![tactic(auto)]
+
 ghost use Rattle.std.specs.Prelude.{◌≡◌};
 ghost use Rattle.model.specs.Soundness.{sound, Shape};
 ghost use Rattle.cache.specs.View.{sizes_of, directory_of, numbers};
@@ -7,7 +9,7 @@ use cache::{Directory, Sizes};
 
 // The numbers of a cache record.
 #[repr(C)]
-#[derive(Drop)]
+#[derive(Clone, Copy)]
 pub struct Record {
     pub sizes: Sizes,
     pub directory: Directory,

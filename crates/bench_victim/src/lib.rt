@@ -1,4 +1,6 @@
 // The victim search for a C or Rust program to call and measure.
+#![tactic(auto)]
+
 ghost use Rattle.std.specs.Prelude.{◌≡◌};
 ghost use Rattle.model.specs.Soundness.{Sound};
 ghost use Rattle.cache.specs.View.{sizes_of, directory_of};
@@ -9,7 +11,7 @@ use policy::decision::Victim;
 
 // The numbers of a cache record.
 #[repr(C)]
-#[derive(Drop)]
+#[derive(Clone, Copy)]
 pub struct Record {
     pub sizes: Sizes,
     pub directory: Directory,

@@ -15,10 +15,9 @@ use Rattle.prelude.proofs.Tab.{length-tab, get_d_tab}
 use Rattle.prelude.proofs.Pages.{in_run, length-page_at, page-put_same, page-put_other}
 use Rattle.model.specs.Sizes.{Sizes, InLimits, is_coded, is_marked}
 use Rattle.model.specs.Moves.{cell_at}
-use Rattle.model.specs.Calls.{Page, Cell, Buffers, Fits, zero_page, flash_cells}
+use Rattle.model.specs.Calls.{Page, Cell, Buffers, Fits, flash_cells}
 use Rattle.model.specs.Lists.{no_cell}
 use Rattle.model.specs.Formats.{format_of, torn, store_format}
-use Rattle.codes.specs.Reading.{page_legible}
 use Rattle.codes.proofs.Pages.{length-codes, length-read}
 use Rattle.codes.proofs.Pages.{none-mended}
 use Rattle.page.specs.Page.{HasPage}
@@ -109,7 +108,8 @@ module _ (sz : Sizes) (flash codes marks : List ℕ) (h : Lent sz flash codes ma
   -- page x is programmed
   pub programmed-is : (x flash' codes' marks' : List ℕ) → length x ≡ sz.S → flash' ≡ put_page sz.S flash n x
       → codes' ≡ put_page (code_long sz) codes n ((code_for (is_coded sz)).code_of sz (page_at sz.S flash' n))
-      → marks' ≡ put_page (mark_long sz) marks n (cond (is_marked sz) (0 ∷ []) []) → Programmed sz flash codes marks n x flash' codes' marks'
+      → marks' ≡ put_page (mark_long sz) marks n (cond (is_marked sz) (0 ∷ []) [])
+      → Programmed sz flash codes marks n x flash' codes' marks'
   unfolding format_of
   programmed-is x flash' codes' marks' xl fe ce me =
       let back : page_at sz.S flash' n ≡ x = rw fe (page-put_same sz.S flash n x in_flash xl) in

@@ -1,13 +1,13 @@
 -- The functions that ask for an option: with it and without.
-use mathlib.Core.Path.{◌≡◌, refl, sym, ap, ap₂, ◌∙◌}
+use mathlib.Core.Path.{◌≡◌, sym, ap, ap₂, ◌∙◌}
 use mathlib.Core.Bool.{Bool, true, false, not, cond, ◌&&◌}
-use mathlib.Core.List.{List, [], ◌∷◌, ◌++◌}
-use Prim.Native.Nat.{ℕ, zero, suc, ◌+◌, ◌*◌, ◌/◌, ◌≤◌, ◌<◌}
+use mathlib.Core.List.{List, [], ◌∷◌}
+use Prim.Native.Nat.{ℕ, ◌*◌, ◌/◌, ◌≤◌, ◌<◌}
 use native.Mathlib.Nat.{mul-zero, mul-one}
 use native.Mathlib.Numerals.{add-one}
 use native.Mathlib.Omega.{arith}
 use lib.Dec.{eqb}
-use lib.ListN.{length, get_or, set, take, drop, take-append-drop}
+use lib.ListN.{length, get_or, set, drop, take-append-drop}
 use lib.Seq.{set_split, get_or-take, get_or-drop}
 use Rattle.prelude.specs.Pages.{page_at, put_page}
 use Rattle.prelude.proofs.Tests.{not_f, not_t, and_l, and_r}
@@ -27,7 +27,6 @@ use Rattle.codes.specs.Reading.{page_legible, page_mended, page_mends}
 use Rattle.ecc.specs.Checks.{checked, Decoded}
 use Rattle.ecc.proofs.Checking.{unreadable-is, readable-is, mends-is}
 use Rattle.page.specs.Page.{HasPage}
-use Rattle.chip.specs.declared.Seen.{Seen}
 use Rattle.model.specs.Formats.{page_code, code_for, code_long, mark_long}
 use Rattle.chip.specs.Formats.{read_at, unreadable_at, mends_at}
 use Rattle.chip.specs.Chip.{CodesLent, CodeLooked, torn_at}
@@ -90,7 +89,8 @@ module _ (sz : Sizes) (flash codes : List ℕ) (n : ℕ) where
     mends-are = sym (mends-plain (is_coded sz) e sz _ _);
   }
 
-  pub uncoded-is : is_coded sz ≡ false → codes ≡ put_page (code_long sz) codes n ((code_for (is_coded sz)).code_of sz (page_at sz.S flash n))
+  pub uncoded-is : is_coded sz ≡ false
+      → codes ≡ put_page (code_long sz) codes n ((code_for (is_coded sz)).code_of sz (page_at sz.S flash n))
   uncoded-is e = rw (code_long, e) (sym (put-none codes n))
 
   module _ (h : CodesLent sz flash codes) (l : n < sz.N * sz.K) (coded : is_coded sz ≡ true) where

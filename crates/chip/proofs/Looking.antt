@@ -2,9 +2,9 @@
 use mathlib.Core.Path.{◌≡◌, refl, sym, ap, ap₂, ◌∙◌}
 use mathlib.Core.Logic.{◌≢◌, ⊎_elim}
 use mathlib.Core.Bool.{Bool, true, false, not, cond, ◌&&◌, ◌||◌}
-use mathlib.Core.List.{List, []}
-use Prim.Native.Nat.{ℕ, zero, suc, ◌+◌, ◌*◌, ◌/◌, ◌%◌, ◌^◌, ◌≤◌, ◌<◌}
-use native.Mathlib.Nat.{add_assoc, suc-mul, mul-le-mul}
+use mathlib.Core.List.{List}
+use Prim.Native.Nat.{ℕ, zero, suc, ◌+◌, ◌*◌, ◌/◌, ◌^◌, ◌≤◌, ◌<◌}
+use native.Mathlib.Nat.{suc-mul, mul-le-mul}
 use native.Mathlib.Numerals.{add-one}
 use native.Mathlib.Omega.{arith}
 use lib.Dec.{ltb, eqb}
@@ -314,7 +314,8 @@ module _ (sz : Sizes) (flash codes marks : List ℕ) (reads : ℕ → Bool) wher
     pub fault-one : fault_met sz (fault_on sz flash codes marks) reads ≡ fault_on sz flash codes marks n
     unfolding fault_met some_page some
     fault-one = ap₂ (λ (x y : Bool). cond x 7 (cond y 14 0)) (meets-one 7) (meets-one 14)
-        ∙ ends_low (unreadable_at sz flash codes n) (torn_at sz marks n) (fault_on sz flash codes marks n) (fault-is sz flash codes marks n l)
+        ∙ ends_low (unreadable_at sz flash codes n) (torn_at sz marks n) (fault_on sz flash codes marks n)
+        (fault-is sz flash codes marks n l)
 
     pub mends-one : mends_met sz (mends_on sz flash codes marks) reads ≡ mends_on sz flash codes marks n
     unfolding mends_met
@@ -395,7 +396,8 @@ least-worst false false x h = refl
 pub none-worse : (sz : Sizes) (fault : ℕ → ℕ) (reads : ℕ → Bool) (x : ℕ) → worse_of (fault_met sz fault reads) x ≡ 0
     → fault_met sz fault reads ≡ 0
 unfolding fault_met
-none-worse sz fault reads x h = least-worst (some_page sz (λ i. reads i && eqb (fault i) 7)) (some_page sz (λ i. reads i && eqb (fault i) 14))
+none-worse sz fault reads x h =
+    least-worst (some_page sz (λ i. reads i && eqb (fault i) 7)) (some_page sz (λ i. reads i && eqb (fault i) 14))
     x h
 
 pub fault-or : (sz : Sizes) (fault : ℕ → ℕ) (p q : ℕ → Bool) → fault_met sz fault (λ i. p i || q i)

@@ -1,28 +1,28 @@
 -- A block of flash and a frame's stretch, page by page: the merge reads.
-use mathlib.Core.Path.{◌≡◌, refl, sym, ap, subst, ◌∙◌}
-use mathlib.Core.Bool.{true, false, not, cond, ◌&&◌}
+use mathlib.Core.Path.{◌≡◌, sym, ap, subst, ◌∙◌}
+use mathlib.Core.Bool.{true, false, not, ◌&&◌}
 use mathlib.Core.List.{List}
-use Prim.Native.Nat.{ℕ, zero, suc, ◌+◌, ◌-◌, ◌*◌, ◌/◌, ◌%◌, ◌^◌, ◌≤◌, ◌<◌}
-use native.Mathlib.Nat.{add_assoc, add-zero, add-mul, mul-le-mul, mul-le-mul_right, suc-mul}
+use Prim.Native.Nat.{ℕ, zero, suc, ◌+◌, ◌-◌, ◌*◌, ◌^◌, ◌≤◌, ◌<◌}
+use native.Mathlib.Nat.{add-zero, add-mul, mul-le-mul_right, suc-mul}
 use native.Mathlib.Omega.{arith}
-use lib.Dec.{ltb, eqb}
+use lib.Dec.{ltb}
 use lib.ListN.{length, get_or}
-use borrow.Author.Tests.{ltb-true, ltb-false, eq-eqb, ne_eqb}
+use borrow.Author.Tests.{ltb-true, ltb-false}
 use Rattle.prelude.specs.Scan.{first_from}
 use Rattle.prelude.specs.Bits.{bit, bit_without}
 use Rattle.prelude.specs.Pages.{page_at, put_page, run_at, laid, pages_of}
 use Rattle.prelude.proofs.Tests.{by-test, not_t, and_l, and_r}
 use Rattle.prelude.proofs.Scan.{First, first_from-is}
 use Rattle.prelude.proofs.Bits.{bit-zero, bit_mask}
-use Rattle.prelude.proofs.Tab.{get_d_tab, tab-ext, Done, done-from, done-put, done-skip, done-past, done-rest}
-use Rattle.prelude.proofs.Pages.{ends-before, length-laid, length_run, laid_none, laid_more, length-page_at, in_run, page-at, pages-length}
+use Rattle.prelude.proofs.Tab.{get_d_tab, tab-ext, Done, done-put, done-skip, done-past}
+use Rattle.prelude.proofs.Pages.{ends-before, length-laid, length_run, laid_none, laid_more, length-page_at, in_run, page-at}
 use Rattle.prelude.proofs.Pages.{pages-put}
-use Rattle.model.specs.Sizes.{Sizes, is_coded, is_marked}
+use Rattle.model.specs.Sizes.{Sizes, is_coded}
 use Rattle.model.specs.Calls.{Page, zero_page}
-use Rattle.model.proofs.Lookup.{page-div, page-mod, page-lt, page-vacant, page-split, offset_lt}
+use Rattle.model.proofs.Lookup.{page-lt, page-vacant}
 use Rattle.page.specs.Page.{HasPage}
-use Rattle.chip.specs.Formats.{read_at, unreadable_at, mends_at}
-use Rattle.chip.specs.Chip.{Legible, Facing, CodesFacing, stretch_pages, raw_page, raw_merged, mended_page, mended_pages, merged_page}
+use Rattle.chip.specs.Formats.{read_at, mends_at}
+use Rattle.chip.specs.Chip.{Facing, CodesFacing, stretch_pages, raw_page, raw_merged, mended_page, mended_pages, merged_page}
 use Rattle.chip.specs.Chip.{merged_pages, mend_set, Settled, Mendable}
 use Rattle.chip.proofs.Cells.{read_plain, read-long, mends-coded}
 

@@ -6,16 +6,15 @@ use Prim.Native.Nat.{ℕ, suc, ◌+◌, ◌-◌, ◌*◌, ◌/◌, ◌%◌, ◌^
 use native.Mathlib.Nat.{mul-le-mul, mul-le-mul_right, suc-mul}
 use native.Mathlib.Omega.{arith}
 use lib.Dec.{ltb, eqb}
-use lib.ListN.{length, get_or, set, length-set, take, drop, replicate, length-replicate, get_or-replicate}
+use lib.ListN.{length, get_or, set, length-set, drop, replicate, length-replicate, get_or-replicate}
 use lib.Seq.{ext_get_or, get_or-set_same, get_or-set_other, get_or-take, get_or-drop}
-use borrow.Author.Tests.{ltb-true, ltb-false, eqb-true, eqb-false, lt-ltb, le-ltb, eq-eqb, ne_eqb}
-use Rattle.prelude.specs.Scan.{tab}
+use borrow.Author.Tests.{ltb-true, ltb-false, eqb-true, eqb-false, lt-ltb, le-ltb, eq-eqb}
 use Rattle.prelude.specs.Pages.{page_at, put_page, pages_of}
 use Rattle.prelude.proofs.Tests.{by-test}
 use Rattle.prelude.proofs.Tab.{length-tab, get_d_tab, tab-ext, tab-list}
 use Rattle.prelude.proofs.Pages.{ends-before, length-page_at, page-at, block-put}
 use Rattle.model.specs.Sizes.{Sizes, InLimits, is_coded, is_marked}
-use Rattle.model.specs.Moves.{Chip, cell_at, programmed, programmed_to}
+use Rattle.model.specs.Moves.{Chip, cell_at, programmed_to}
 use Rattle.model.specs.Calls.{Page, Cell, zero_page, flash_cells}
 use Rattle.model.specs.Formats.{format_of}
 use Rattle.model.proofs.Soundness.{K_pos}
@@ -23,8 +22,8 @@ use Rattle.model.proofs.Lookup.{page-div, page-mod, page-lt, page-split, offset_
 use Rattle.model.proofs.Parts.{programmed_to-all}
 use Rattle.model.specs.Formats.{page_code, code_for, chip_for, code_long, mark_long}
 use Rattle.chip.specs.Formats.{cells}
-use Rattle.chip.specs.Chip.{Lent, Erasable, Erased, Programmed, PagesProgrammed, BlockProgrammed}
-use Rattle.chip.proofs.Cells.{cell_of, cells-long, cell-is}
+use Rattle.chip.specs.Chip.{Lent, Erased, Programmed, PagesProgrammed, BlockProgrammed}
+use Rattle.chip.proofs.Cells.{cells-long, cell-is}
 
 -- ---- over any chip
 

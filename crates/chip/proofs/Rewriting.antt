@@ -13,7 +13,7 @@ use Rattle.prelude.proofs.Tab.{get_d_tab, tab-ext}
 use Rattle.prelude.proofs.Pages.{length-page_at, page-at, page-put_same, block-fits, block-page, block-put}
 use Rattle.model.specs.Sizes.{Sizes, InLimits}
 use Rattle.model.specs.Directory.{Directory, valid_at}
-use Rattle.model.specs.Moves.{Chip, flash_page, programmed, programmed_to, merged, rewritten_pages}
+use Rattle.model.specs.Moves.{Chip, flash_page, programmed_to, merged, rewritten_pages}
 use Rattle.model.specs.Calls.{Page, Cell, zero_page, frame_pages}
 use Rattle.model.proofs.Soundness.{K_pos}
 use Rattle.model.proofs.Lookup.{page-lt, offset_lt}
@@ -22,7 +22,7 @@ use Rattle.page.specs.Page.{HasPage}
 use Rattle.page.proofs.Part.{part, put_part, got, put}
 use Rattle.chip.specs.declared.Rewrote.{Rewrote}
 use Rattle.model.specs.Formats.{chip_for}
-use Rattle.chip.specs.Formats.{cells, cell_on, read_at}
+use Rattle.chip.specs.Formats.{cells}
 use Rattle.chip.specs.Chip.{stretch_pages, merged_page, merged_pages, chip_memory, Settled, Rewritable, Rewritten}
 use Rattle.chip.proofs.Cells.{page-is}
 use Rattle.chip.proofs.Looking.{no-fault}
@@ -116,7 +116,8 @@ pub rewritten-whole : {sz : Sizes} {v b f ops : ℕ} {flash codes marks wear bsp
     {flash' codes' marks' wear' bspace' : List ℕ}
     → InLimits sz → suc sz.K ≤ ops → Rewritten sz v b f ops flash codes marks wear bspace r flash' codes' marks' wear' bspace'
     → (d : Directory) → valid_at d f ≡ v
-    → chip_memory sz flash' codes' marks' bspace' ≡ rewritten_pages (chip_for sz) (zero_page sz) sz d (chip_memory sz flash codes marks bspace)
+    → chip_memory sz flash' codes' marks' bspace'
+    ≡ rewritten_pages (chip_for sz) (zero_page sz) sz d (chip_memory sz flash codes marks bspace)
     b f
 unfolding rewritten_pages
 rewritten-whole {sz} {v} {b} {f} {ops} limits l h d e =

@@ -1,5 +1,7 @@
 // Flash with its codes and marks, and wear: one function for each operation of the chip, and the rewrite of a block that is made of
 // them. A store without codes, or without marks, lends none. Every access to flash is made by the functions of this file.
+#![tactic(auto)]
+
 pub mod torn; // torn.rt: the torn blocks
 
 ghost use Rattle.std.specs.Prelude.{◌≡◌, cond, [], ◌∷◌, ◌+◌, ◌*◌, ◌/◌, ◌≤◌, ◌<◌, ltb, length};
@@ -20,14 +22,14 @@ use ecc::Checked;
 
 // What a flash page was found to be: the refusal that reading it meets (0 none, 7 unreadable, 14 torn), and how many of its chunks
 // the code mends.
-#[derive(Drop)]
+#[derive(Clone, Copy)]
 pub struct Seen {
     pub fault: u32,
     pub mends: u32,
 }
 
 // The same of the pages of a block that a merge would read, and the set of those that want mending.
-#[derive(Drop)]
+#[derive(Clone, Copy)]
 pub struct BlockSeen {
     pub fault: u32,
     pub mends: u32,
@@ -35,7 +37,7 @@ pub struct BlockSeen {
 }
 
 // What a rewrite answers: its merge reads, and how many chip operations may still be done.
-#[derive(Drop)]
+#[derive(Clone, Copy)]
 pub struct Rewrote {
     pub reads: u32,
     pub left: u32,

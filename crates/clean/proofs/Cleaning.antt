@@ -1,9 +1,8 @@
 -- The cleaning of one block: the check beforehand; a join, the frame vacated and a rewrite.
-use mathlib.Core.Path.{◌≡◌, refl, sym, ap, ◌∙◌}
+use mathlib.Core.Path.{◌≡◌, sym, ap, ◌∙◌}
 use mathlib.Core.Bool.{cond}
 use mathlib.Core.List.{List, []}
 use Prim.Native.Nat.{ℕ, suc, ◌≤◌, ◌<◌}
-use native.Mathlib.Omega.{arith}
 use lib.Dec.{ltb}
 use lib.ListN.{length, get_or, set}
 use lib.Seq.{get_or-set_same, set-set}
@@ -12,7 +11,7 @@ use Rattle.model.specs.Directory.{Directory, valid_at, uses_at}
 use Rattle.model.specs.Soundness.{Sound}
 use Rattle.model.specs.Policy.{due, in_block, in_slots, slot_of}
 use Rattle.model.specs.Moves.{Memory, flash_page, joined, filled, joined_pages, vacated, merged, rewritten_pages, stepped, stepped_pages}
-use Rattle.model.specs.Calls.{Page, Cell, zero_page, slot_pages, merges_page, fault_met, mends_met}
+use Rattle.model.specs.Calls.{Page, Cell, zero_page, slot_pages, merges_page}
 use Rattle.model.specs.Cut.{cut_rewrite}
 use Rattle.model.proofs.Kept.{joined-sound}
 use Rattle.model.proofs.Steps.{worn_by-is}
@@ -24,10 +23,9 @@ use Rattle.chip.specs.declared.BlockSeen.{BlockSeen}
 use Rattle.chip.specs.declared.Rewrote.{Rewrote}
 use Rattle.model.specs.Formats.{chip_for}
 use Rattle.chip.specs.Formats.{cells}
-use Rattle.chip.specs.Chip.{Lent, fault_on, mends_on, block_reads, mend_set, chip_memory, BlockLooked, Rewritable, Rewritten}
+use Rattle.chip.specs.Chip.{block_reads, chip_memory, BlockLooked, Rewritable, Rewritten}
 use Rattle.chip.proofs.Rewriting.{programmed-ext, rewritten-whole}
-use Rattle.chip.proofs.Looking.{looked-plain}
-use Rattle.clean.specs.Clean.{Lookable, MergesLooked, Cleanable, BlockCleaned, memory}
+use Rattle.clean.specs.Clean.{MergesLooked, Cleanable, BlockCleaned, memory}
 
 -- ---- the check beforehand
 

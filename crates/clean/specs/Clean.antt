@@ -1,12 +1,12 @@
 -- What the cleaning of one block asks and leaves: a flush step, and the beginning of way 7. A primed value is the one afterwards.
-use Rattle.std.specs.Prelude.{◌≡◌, List, [], ℕ, suc, ◌-◌, ◌*◌, ◌≤◌, ◌<◌, length, get_or}
+use Rattle.std.specs.Prelude.{◌≡◌, List, ℕ, suc, ◌-◌, ◌*◌, ◌≤◌, length}
 use Rattle.model.specs.Sizes.{Sizes}
 use Rattle.model.specs.Directory.{Directory, valid_at}
 use Rattle.model.specs.Soundness.{Sound}
 use Rattle.model.specs.Policy.{merge_reads, due}
 use Rattle.model.specs.Moves.{Memory, joined, stepped, stepped_pages}
 use Rattle.model.specs.Calls.{Page, Cell, zero_page, slot_pages, frame_pages, merges_page, fault_met, mends_met}
-use Rattle.model.specs.Cut.{Left, cut_rewrite}
+use Rattle.model.specs.Cut.{cut_rewrite}
 use Rattle.model.proofs.Steps as steps
 use Rattle.chip.specs.declared.BlockSeen.{BlockSeen}
 use Rattle.chip.specs.declared.Rewrote.{Rewrote}

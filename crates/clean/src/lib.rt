@@ -1,4 +1,6 @@
 // The cleaning of one block, for a sound record and rightly sized buffers: a flush step's work, and the beginning of way 7.
+#![tactic(auto)]
+
 ghost use Rattle.std.specs.Prelude.{◌≡◌, []};
 ghost use Rattle.model.specs.Policy.{due};
 ghost use Rattle.model.specs.Moves.{stepped};

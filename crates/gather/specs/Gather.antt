@@ -7,7 +7,6 @@ use Rattle.model.specs.Directory.{Directory}
 use Rattle.model.specs.Moves.{read_page}
 use Rattle.model.specs.Calls.{Page, zero_page}
 use Rattle.model.specs.Formats.{chip_for}
-use Rattle.chip.specs.declared.Seen.{Seen}
 use Rattle.chip.specs.Formats.{read_at}
 use Rattle.chip.specs.Chip.{Lent, Looked}
 use Rattle.reads.specs.Reads.{pages, fault_read, mends_read}

@@ -1,4 +1,6 @@
 // All sheets of a catalogue read from the store, as no use, into a table.
+#![tactic(auto)]
+
 mod sheet; // sheet.rt: one sheet, decoded where it lies
 
 ghost use Rattle.std.specs.Prelude.{[]};

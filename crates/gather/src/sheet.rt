@@ -15,7 +15,7 @@ use policy::lookup;
 use sheets::{Sheet, bytes};
 
 // The refusal that a page meets in flash (0: none), its mends, and the sheet that it holds where it is not refused.
-#[derive(Drop)]
+#[derive(Clone, Copy)]
 pub struct Met {
     pub fault: u32,
     pub mends: u32,

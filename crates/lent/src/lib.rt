@@ -1,4 +1,6 @@
 // Whether lent buffers have the lengths that the sizes ask for (refusal 2), and wear within its limit (refusal 3).
+#![tactic(auto)]
+
 ghost use Rattle.std.specs.Prelude.{◌≡◌, ◌+◌, ◌≤◌, leb, length, get_or};
 ghost use Rattle.prelude.specs.Scan.{all};
 ghost use Rattle.model.specs.Sizes.{InLimits};

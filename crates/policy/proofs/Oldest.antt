@@ -12,7 +12,8 @@ use Rattle.prelude.proofs.Scan.{Missed, first-is, first-at, first-hit}
 use Rattle.model.specs.Sizes.{Sizes}
 use Rattle.model.specs.Directory.{Directory, frame_at, recency_at}
 use Rattle.model.specs.Soundness.{Sound}
-use Rattle.model.specs.Policy.{least_recent, policy_choice, evictable, any_evictable, evict_frame, occupied, lowest_in_slots, due_of, due, clean}
+use Rattle.model.specs.Policy.{least_recent, policy_choice, evictable, any_evictable, evict_frame, occupied, lowest_in_slots, due_of, due}
+use Rattle.model.specs.Policy.{clean}
 use Rattle.model.proofs.Plan.{policy_choice-picks, policy-oldest}
 use Rattle.policy.specs.Views.{step_frame, oldest_occupied}
 

@@ -1,12 +1,12 @@
 -- A set of frames that a loop gathers, and the frame with the fewest uses among them.
 use mathlib.Core.Path.{◌≡◌, refl, sym, ap, ◌∙◌}
 use mathlib.Core.Bool.{Bool, true, false, not, ◌||◌}
-use Prim.Native.Nat.{ℕ, suc, ◌+◌, ◌^◌, ◌≤◌, ◌<◌}
+use Prim.Native.Nat.{ℕ, ◌+◌, ◌≤◌, ◌<◌}
 use native.Mathlib.Numerals.{add-one}
 use native.Mathlib.Omega.{arith}
 use lib.Dec.{leb, ltb, eqb}
-use borrow.Author.Tests.{eqb-true, eqb-false, eq-eqb, ltb-true, ltb-false, lt-ltb, le-ltb}
-use Rattle.prelude.specs.Scan.{first, first_from}
+use borrow.Author.Tests.{eqb-true, eqb-false, eq-eqb, ltb-true, lt-ltb}
+use Rattle.prelude.specs.Scan.{first}
 use Rattle.prelude.specs.Bits.{bit, mask, with_bit}
 use Rattle.prelude.proofs.Tests.{by-test, clash, and_l, and_r, and_i, same_test}
 use Rattle.prelude.proofs.Scan.{Missed, all-at, all_of, from-same, first-hit, first-at}

@@ -6,7 +6,8 @@ use Rattle.model.specs.Sizes.{Sizes}
 use Rattle.model.specs.Directory.{Directory}
 use Rattle.model.specs.Soundness.{Sound}
 use Rattle.model.specs.Policy as model
-use Rattle.model.specs.Policy.{frame_of, valid_count, slot_count, least_recent, policy_choice, victim, slot_hit, frame_hit, free_slot, join, fill}
+use Rattle.model.specs.Policy.{frame_of, valid_count, slot_count, least_recent, policy_choice, victim, slot_hit, frame_hit, free_slot, join}
+use Rattle.model.specs.Policy.{fill}
 use Rattle.model.specs.Policy.{exchange, evict, clean, due, occupied}
 use Rattle.cache.specs.View.{block_no, numbers}
 use Rattle.policy.specs.declared.decision.Victim.{Victim}

@@ -3,14 +3,14 @@ use address::BlockNo;
 
 // A block and how many of its pages stand in slots.
 #[repr(C)]
-#[derive(Drop)]
+#[derive(Clone, Copy)]
 pub struct Victim {
     pub block: BlockNo,
     pub pages: u32,
 }
 
 // What a write does, by document 01's ways.
-#[derive(Drop)]
+#[derive(Clone, Copy)]
 pub enum Plan {
     // Way 1: the page is in this slot.
     SlotHit(usize),
@@ -23,7 +23,7 @@ pub enum Plan {
 }
 
 // How a write makes room in the slots: the victim, and the frame that takes its pages.
-#[derive(Drop)]
+#[derive(Clone, Copy)]
 pub enum Room {
     // Way 4: they join the frame, which is the victim's.
     Join(BlockNo, usize),
@@ -36,7 +36,7 @@ pub enum Room {
 }
 
 // What a flush step does.
-#[derive(Drop)]
+#[derive(Clone, Copy)]
 pub enum Due {
     // Nothing is cached.
     Clean,

@@ -1,4 +1,6 @@
 // The decisions of the store, from the record's numbers alone: each is what document 01's rule says of a sound record.
+#![tactic(auto)]
+
 pub mod decision; // decision.rt: what is decided, as data
 mod lfu; // lfu.rt: the frame with the fewest uses
 pub mod lookup; // lookup.rt: where a page or a block is

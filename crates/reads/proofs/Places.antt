@@ -18,7 +18,7 @@ use Rattle.model.specs.Sizes.{Sizes}
 use Rattle.model.specs.Directory.{Directory, inFrame}
 use Rattle.model.specs.Policy.{slot_of, in_slots, frame_with, read_way}
 use Rattle.model.specs.Moves.{read_page, flash_page, read_directory, touched}
-use Rattle.model.specs.Calls.{zero_page, some_page, fault_met, sum, mends_met, reads_page}
+use Rattle.model.specs.Calls.{zero_page, reads_page}
 use Rattle.model.proofs.Lookup.{offset_lt}
 use Rattle.cache.specs.View.{numbers}
 use Rattle.reads.specs.declared.Given.{Given}

@@ -1,6 +1,6 @@
 -- What a read asks, and what it leaves.
 use Rattle.std.specs.Prelude.{◌≡◌, cond, List, ℕ, ◌*◌, ◌<◌, eqb, length}
-use Rattle.model.specs.Sizes.{Sizes, InLimits}
+use Rattle.model.specs.Sizes.{Sizes}
 use Rattle.model.specs.Directory.{Directory}
 use Rattle.model.specs.Policy.{frame_with, read_way}
 use Rattle.model.specs.Moves.{Memory, read_directory, read_page}

@@ -1,4 +1,6 @@
 // Reading a page, for a sound record and rightly sized buffers.
+#![tactic(auto)]
+
 ghost use Rattle.std.specs.Prelude.{[]};
 ghost use Rattle.model.specs.Soundness.{Sound};
 ghost use Rattle.cache.specs.View.{sizes_of, numbers};
@@ -10,7 +12,7 @@ use moves::numbers;
 use policy::lookup;
 
 // The way of a read, its frame in way 2, the refusal that it meets in flash (0: none), and its mends.
-#[derive(Drop)]
+#[derive(Clone, Copy)]
 pub struct Given {
     pub way: u32,
     pub frame: usize,
@@ -19,7 +21,7 @@ pub struct Given {
 }
 
 // What a read answers: its way, or the refusal that it meets in flash (0: none), and its mends.
-#[derive(Drop)]
+#[derive(Clone, Copy)]
 pub struct Answered {
     pub way: u32,
     pub fault: u32,

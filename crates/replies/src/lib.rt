@@ -1,4 +1,6 @@
 // An answer in numbers, for C: document 01's number of a refusal, and what a call answers.
+#![tactic(auto)]
+
 ghost use Rattle.std.specs.Prelude.{◌≡◌};
 ghost use Rattle.model.specs.Sizes.{vacant};
 ghost use Rattle.answer.specs.Numbers.{refusal_of, opening_of, torn_of, read_of, write_of, step_of, flush_of};
@@ -11,7 +13,7 @@ use cache::VACANT;
 // `refusal` is document 01's number, and 0 where the call is accepted. What a call does not answer is 0, and `block` is VACANT where no
 // block is meant.
 #[repr(C)]
-#[derive(Drop)]
+#[derive(Clone, Copy)]
 pub struct Answer {
     pub refusal: u32,
     // the way of a read or a write, 0 of a part write without bytes

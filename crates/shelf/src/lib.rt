@@ -1,5 +1,7 @@
 // The shelf of request A8: 8 entries, page numbers or VACANT, oldest first, and a page for each that is in use. Whether they fit, what a
 // write puts there, and what taking back leaves.
+#![tactic(auto)]
+
 ghost use Rattle.std.specs.Prelude.{◌≡◌, false, cond, [], ◌*◌, ◌<◌, ltb, eqb, length, get_or, set};
 ghost use Rattle.prelude.specs.Scan.{all};
 ghost use Rattle.model.specs.Sizes.{vacant};

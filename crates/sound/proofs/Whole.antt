@@ -9,7 +9,8 @@ use Rattle.prelude.proofs.Tests.{and_l, and_r, and_i, same_test, each, every_of,
 use Rattle.prelude.proofs.Scan.{all_both}
 use Rattle.model.specs.Sizes.{Sizes, sizes_ok}
 use Rattle.model.specs.Directory.{Directory}
-use Rattle.model.specs.Soundness.{shape_ok, slot_ok, frame_ok, slots_differ, frames_differ, cached_once, listed_once, slot_past, framePast, uses_ok}
+use Rattle.model.specs.Soundness.{shape_ok, slot_ok, frame_ok, slots_differ, frames_differ, cached_once, listed_once, slot_past, framePast}
+use Rattle.model.specs.Soundness.{uses_ok}
 use Rattle.model.specs.Soundness.{sound}
 use Rattle.model.specs.Soundness.{Shape}
 use Rattle.sound.specs.Soundness.{slot_good}
@@ -58,7 +59,13 @@ module _ (sz : Sizes) (d : Directory) where
           so,
           (
             and_l slots_ok (slots_apart_lem && slots_once) g,
-            (e5.0, (and_l slots_apart_lem slots_once g2, (e0.0, (and_r slots_apart_lem slots_once g2, (e1.0, (e3.0, (e2.0, (e4.0, tt)))))))),
+            (
+              e5.0,
+              (
+                and_l slots_apart_lem slots_once g2,
+                (e0.0, (and_r slots_apart_lem slots_once g2, (e1.0, (e3.0, (e2.0, (e4.0, tt)))))),
+              ),
+            ),
           ),
         ),
       ))

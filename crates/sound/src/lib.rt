@@ -1,5 +1,7 @@
 // The soundness test. One filter takes the frames' valid pages and then the slots' page numbers one by one; only where a
 // bit is met already are entries compared.
+#![tactic(auto)]
+
 ghost use Rattle.std.specs.Prelude.{◌≡◌, not, cond, ◌||◌, [], ◌<◌, ltb, eqb, length, get_or};
 ghost use Rattle.prelude.specs.Scan.{all, all_pairs};
 ghost use Rattle.model.specs.Sizes.{vacant, InLimits};

@@ -1,4 +1,6 @@
 // The tallies of a rehearsal (request A13), brought up to date after every call.
+#![tactic(auto)]
+
 ghost use Rattle.std.specs.Prelude.{◌≡◌};
 ghost use Rattle.answer.specs.Numbers.{read_of, write_of};
 ghost use Rattle.tally.specs.Count.{answer_of, counted, no_tallies, one_refused, erasures, Few, May};
@@ -8,7 +10,7 @@ use answer::{Read, Write};
 use cache::VACANT;
 
 // What a bench's call was answered.
-#[derive(Drop)]
+#[derive(Clone, Copy)]
 pub enum Answered {
     Read(Read),
     Write(Write),
@@ -16,7 +18,7 @@ pub enum Answered {
 
 // Accepted reads and accepted writes by way, at the way's own number; erasures, merge reads and refused calls.
 #[repr(C)]
-#[derive(Drop)]
+#[derive(Clone, Copy)]
 pub struct Tallies {
     pub reads: [u32; 4],
     pub writes: [u32; 8],

@@ -1,9 +1,0 @@
-use mathlib.Core.Path.{refl}
-use Rattle.replies.proofs.turned_down.Statement.{statement}
-use Rattle.replies.proofs.turned_down.Tie as tie
-
-returns : tie.Need-returns
-returns c = refl
-
-pub turned-down-spec : {M : Type 1} → statement M
-turned-down-spec = tie.close (tie.spec returns)

@@ -1,8 +1,8 @@
 -- A call of the model by its tests, and from what an inner call leaves to what the model's call gives.
 use mathlib.Core.Path.{◌≡◌, refl, sym, ap, ◌∙◌}
 use mathlib.Core.Logic.{◌≢◌}
-use mathlib.Core.Bool.{Bool, true, false, not, cond, ◌&&◌, ◌||◌}
-use mathlib.Core.List.{List, []}
+use mathlib.Core.Bool.{Bool, true, false, cond, ◌&&◌, ◌||◌}
+use mathlib.Core.List.{[]}
 use Prim.Native.Nat.{ℕ, suc, ◌+◌, ◌*◌, ◌≤◌, ◌<◌}
 use native.Mathlib.Nat.{mul-le-mul}
 use native.Mathlib.Omega.{arith}
@@ -14,12 +14,13 @@ use Rattle.model.specs.Sizes.{Sizes, vacant, InLimits}
 use Rattle.model.specs.Directory.{Directory}
 use Rattle.model.specs.Soundness.{sound}
 use Rattle.model.specs.Policy.{Choice, read_way, policy_choice, Plan, plan, due_of}
-use Rattle.model.specs.Moves.{Memory, read_directory, read_page}
+use Rattle.model.specs.Moves.{Memory, read_directory}
 use Rattle.model.specs.Formats.{store_format, chip_for}
 use Rattle.model.specs.Cut.{cut_call, operations}
 use Rattle.model.specs.Calls.{Answer, read_done, write_done, refused, is_refused, Call, read, write, part, step, flush, State, Outcome}
-use Rattle.model.specs.Calls.{turned_down, checked, read_outcome, write_outcome, part_outcome, step_outcome, flush_outcome, decide, no_bytes}
-use Rattle.model.specs.Calls.{reads_flash, reads_page, write_merges, step_merges, steps_merge, fault_met, mends_met, heeding, call_pages}
+use Rattle.model.specs.Calls.{turned_down, checked, read_outcome, write_outcome, part_outcome, step_outcome, flush_outcome, decide}
+use Rattle.model.specs.Calls.{no_bytes}
+use Rattle.model.specs.Calls.{reads_flash, reads_page, write_merges, step_merges, steps_merge, heeding, call_pages}
 use Rattle.model.specs.Calls.{Page, Cell}
 use Rattle.model.specs.Calls.{Buffers, lent_ok, Fits, Store, zero_page, flash_cells, memory_of, buffers_of, state_of, told, lent_buffer}
 use Rattle.model.specs.Calls.{Result, filled_buffer, unaltered, fault_of, mends_of, reads_all, carried_out, call_reading, call}
@@ -29,8 +30,6 @@ use Rattle.model.proofs.Soundness.{sound-facts}
 use Rattle.model.proofs.RulesCalls.{heeds-rule}
 use Rattle.answer.specs.Carried.{Ready, left_of, Carried, CarriedTo}
 use Rattle.checked.specs.Lists.{CalledTo}
-use Rattle.answer.proofs.Heeding.{down-late, goes_on}
-use Rattle.chip.specs.declared.Seen.{Seen}
 use Rattle.chip.specs.Chip.{fault_on, fault_in, mends_in}
 use Rattle.chip.proofs.Cells.{lent_of}
 use Rattle.chip.proofs.Looking.{fault-none, mends-none, met-late}
@@ -110,7 +109,8 @@ module _ (pick : Choice) (s : Store) (c : Call Page) (besides : ℕ → Bool) wh
   carried-refused o = by-test (is_refused o.answer) (λ e. rw (e, carried_out) e) (λ e. rw (e, carried_out) e)
 
   module _ (a : sounds ≡ true) (b : lent_ok store_format s.cache.sizes s.lent ≡ true) where
-    reading-carried : call_reading store_format pick besides s c ≡ carried_out store_format pick s c besides (heeding (state_of s) late decided)
+    reading-carried : call_reading store_format pick besides s c
+        ≡ carried_out store_format pick s c besides (heeding (state_of s) late decided)
     unfolding call_reading
     reading-carried = rw (a, call_reading) (rw b)
 
@@ -210,7 +210,8 @@ module _ (pick : Choice) (s : Store) (c : Call Page) (besides : ℕ → Bool) wh
             → CarriedTo (operations sz c ≤ ops) (heeding (state_of s) (fault_in sz s.lent reads) o) (mends_in sz s.lent reads)
             (left_of sz s.lent) (cut_call (chip_for sz) (zero_page sz) pick sz ops (state_of s) (memory_of store_format sz s.lent) c)
             (memory_of store_format sz s.lent)
-            (call_pages (chip_for sz) (zero_page sz) pick sz (state_of s) (memory_of store_format sz s.lent) c) answer mended d' (left_of sz u')
+            (call_pages (chip_for sz) (zero_page sz) pick sz (state_of s) (memory_of store_format sz s.lent) c) answer mended d'
+            (left_of sz u')
             (memory_of store_format sz u')
             → (answer ≡ (heeding (state_of s) (fault_in sz s.lent reads) o).answer
             → page' ≡ buffer_after (heeding (state_of s) (fault_in sz s.lent reads) o))

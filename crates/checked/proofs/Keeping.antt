@@ -1,27 +1,26 @@
 -- A write that keeps page n as it was: from the checks and from what the inner call leaves to what the model's call gives.
-use mathlib.Core.Path.{◌≡◌, refl, sym, ap, ◌∙◌}
+use mathlib.Core.Path.{◌≡◌, refl, sym, ◌∙◌}
 use mathlib.Core.Bool.{Bool, true, false}
 use mathlib.Core.List.{List, ◌++◌}
-use Prim.Native.Nat.{ℕ, suc, ◌+◌, ◌*◌, ◌≤◌, ◌<◌}
+use Prim.Native.Nat.{ℕ, ◌+◌, ◌*◌, ◌≤◌, ◌<◌}
 use native.Mathlib.Nat.{zero-mul}
 use lib.Dec.{leb}
-use lib.ListN.{length, take, drop}
+use lib.ListN.{length}
 use lib.Seq.{take_at}
 use Rattle.prelude.specs.Pages.{page_at}
 use Rattle.prelude.proofs.Tests.{clash}
-use Rattle.model.specs.Sizes.{Sizes, vacant, InLimits}
+use Rattle.model.specs.Sizes.{vacant, InLimits}
 use Rattle.model.specs.Cut.{operations}
 use Rattle.model.specs.Directory.{Directory}
 use Rattle.model.specs.Soundness.{sound}
 use Rattle.model.specs.Policy.{policy_choice}
 use Rattle.model.specs.Formats.{store_format}
-use Rattle.model.specs.Calls.{Answer, refused, is_refused, Call, write, part, reads_page, no_bytes, Page, Buffers, Fits, lent_ok, lent_buffer}
+use Rattle.model.specs.Calls.{Answer, refused, is_refused, Call, write, part, reads_page, no_bytes, Page, Buffers, Fits, lent_ok}
+use Rattle.model.specs.Calls.{lent_buffer}
 use Rattle.model.specs.Calls.{Result, unaltered, call_reading, page_seen}
-use Rattle.model.proofs.Soundness.{sound-facts}
-use Rattle.model.proofs.Buffers.{fits-of}
 use Rattle.cache.specs.declared.Sizes as sizes
 use Rattle.cache.specs.View.{sizes_of}
-use Rattle.keeping.specs.Keeping.{WriteReady, KeptPage, KeptWrite, KeptPart}
+use Rattle.keeping.specs.Keeping.{KeptPage, KeptWrite, KeptPart}
 use Rattle.checked.specs.Lists.{store_with, result_with, Keeping, KeepingTo}
 use Rattle.checked.proofs.Carrying.{called-down, write-reading, part-reading}
 

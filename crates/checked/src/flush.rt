@@ -79,7 +79,8 @@ pub fn flush(
         let d' = numbers slots.new frames.new valid.new recency.now uses.new in
         let u' = buffers flash.new codes.new marks.new
         wear.new pspace.now bspace.new in
-        CalledTo policy_choice ops (λ _. false) (store_with z d u) flush (result_with (flush_of result) (mends_of_flush result) z d' u' []) }
+        CalledTo policy_choice ops (λ _. false) (store_with z d u) flush
+        (result_with (flush_of result) (mends_of_flush result) z d' u' []) }
 {
     if !lists_sound(z, slots, frames, valid, recency, uses) {
         return Flush::Refused(Refusal::Record);

@@ -1,30 +1,26 @@
 -- The check beforehand of a flush, gone through step by step on the directory alone; and what a step leaves of the pages that are still to
 -- be merged.
 use mathlib.Core.Path.{◌≡◌, refl, sym, ap, ◌∙◌}
-use mathlib.Core.Logic.{⊎_elim}
-use mathlib.Core.Bool.{Bool, true, false, cond, ◌&&◌, ◌||◌}
-use mathlib.Core.List.{List, []}
-use Prim.Native.Nat.{ℕ, zero, suc, ◌+◌, ◌*◌, ◌/◌, ◌≤◌, ◌<◌}
+use mathlib.Core.Bool.{Bool, true, false, ◌||◌}
+use mathlib.Core.List.{List}
+use Prim.Native.Nat.{ℕ, zero, suc, ◌+◌, ◌*◌, ◌≤◌, ◌<◌}
 use native.Mathlib.Nat.{zero-add}
 use native.Mathlib.Omega.{arith}
 use Rattle.prelude.specs.Scan.{count}
-use Rattle.prelude.proofs.Tests.{by-test, same_test, or_false}
+use Rattle.prelude.proofs.Tests.{same_test, or_false}
 use Rattle.prelude.proofs.Scan.{count-le}
 use Rattle.model.specs.Sizes.{Sizes, is_coded, is_marked}
 use Rattle.model.specs.Directory.{Directory}
 use Rattle.model.specs.Soundness.{Sound}
 use Rattle.model.specs.Policy.{policy_choice, clean, due, due_of, cached}
-use Rattle.model.specs.Moves.{cell_at, stepped, stepped_pages}
-use Rattle.model.specs.Formats.{store_format, chip_for}
-use Rattle.model.specs.Calls.{merges_page, steps_merge, fault_met, mends_met, Buffers, zero_page, memory_of}
-use Rattle.model.proofs.Lookup.{block-lt}
+use Rattle.model.specs.Moves.{stepped}
+use Rattle.model.specs.Calls.{merges_page, steps_merge, fault_met, mends_met}
 use Rattle.model.proofs.Plain.{no-faults, no-mends, plain-fault, plain-mends}
 use Rattle.model.proofs.Plan.{policy_choice-picks}
 use Rattle.model.proofs.Steps as steps
-use Rattle.model.proofs.Cut.{stepped-other}
 use Rattle.model.proofs.Merges.{flush-in, flush-out, steps_mend, flush-mends}
 use Rattle.chip.specs.declared.BlockSeen.{BlockSeen}
-use Rattle.chip.specs.Chip.{Lent, fault_on, mends_on, worse_of, most_mends}
+use Rattle.chip.specs.Chip.{fault_on, mends_on, worse_of, most_mends}
 use Rattle.chip.proofs.Looking.{fault-none, fault-or, met-set, mends-set, mends-few}
 use Rattle.clean.specs.Clean.{Lookable, MergesLooked}
 use Rattle.flushes.specs.Flushes.{flush_merges, LooksAll, AllLooked}

@@ -6,7 +6,7 @@ use mathlib.Core.List.{List, []}
 use Prim.Native.Nat.{ℕ, zero, suc, ◌+◌, ◌-◌, ◌*◌, ◌/◌, ◌≤◌, ◌<◌}
 use native.Mathlib.Nat.{sub-zero, mul-le-mul_right, suc-mul}
 use native.Mathlib.Omega.{arith}
-use lib.Dec.{leb, eqb}
+use lib.Dec.{eqb}
 use lib.ListN.{length}
 use borrow.Author.Tests.{lt-ltb, le-ltb, le-leb, lt-leb}
 use Rattle.prelude.specs.Scan.{count}
@@ -17,8 +17,8 @@ use Rattle.model.specs.Directory.{Directory, valid_at}
 use Rattle.model.specs.Policy.{in_block, frame_of, slot_count, policy_choice, clean, due, due_of, cached, lowest_worn}
 use Rattle.model.specs.Moves.{Memory, cell_at, joined, stepped, stepped_pages}
 use Rattle.model.specs.Formats.{store_format, chip_for}
-use Rattle.model.specs.Calls.{flush_done, refused, is_refused, Tally, steps, flush_outcome, heeding, merges_page, steps_merge}
-use Rattle.model.specs.Calls.{fault_met, mends_met}
+use Rattle.model.specs.Calls.{flush_done, refused, is_refused, Tally, steps, flush_outcome, merges_page, steps_merge}
+use Rattle.model.specs.Calls.{mends_met}
 use Rattle.model.specs.Calls.{steps_pages, Page, Cell, Buffers, Fits, zero_page, flash_cells, memory_of}
 use Rattle.model.specs.Cut.{Left, cut_steps}
 use Rattle.model.proofs.Lookup.{block-lt}
@@ -32,13 +32,13 @@ use Rattle.cache.specs.View.{numbers}
 use Rattle.chip.specs.declared.Rewrote.{Rewrote}
 use Rattle.chip.specs.Chip.{fault_on, mends_on, fault_in, mends_in, block_reads, mend_set}
 use Rattle.chip.proofs.Cells.{lent_of}
-use Rattle.chip.proofs.Looking.{fault-none, met-late, none-either, met-set, met-cells, mends-cells, none-to_mend}
+use Rattle.chip.proofs.Looking.{met-late, none-either, met-cells, mends-cells, none-to_mend}
 use Rattle.answer.specs.Carried.{buffers, Ready, left_of}
 use Rattle.answer.proofs.Heeding.{down-before, down-late, goes_on}
 use Rattle.clean.specs.Clean.{Lookable, Cleanable, BlockCleaned}
 use Rattle.flushes.specs.Flushes.{state_in, FlushCarried, flush_merges, Flushable}
 use Rattle.flushes.proofs.Stepping.{due-ready, due-lookable, worn-whole}
-use Rattle.flushes.proofs.Checking.{none_left, merges-next, mends-next}
+use Rattle.flushes.proofs.Checking.{merges-next, mends-next}
 
 abbrev tally : Directory → Buffers → ℕ → ℕ → Tally
 tally d u rewrites merges = record { state = state_in d u; rewrites = rewrites; merges = merges }
@@ -70,7 +70,8 @@ pub record Underway (sz : Sizes) (d₀ : Directory) (u₀ : Buffers) (mends ops�
 -- ---- steps by what is due
 
 module _ (sz : Sizes) (d : Directory) where
-  steps-stop : (u : Buffers) (r m : ℕ) → clean ≡ due_of policy_choice sz d → (c : ℕ) → steps policy_choice sz c (tally d u r m) ≡ tally d u r m
+  steps-stop : (u : Buffers) (r m : ℕ) → clean ≡ due_of policy_choice sz d → (c : ℕ)
+      → steps policy_choice sz c (tally d u r m) ≡ tally d u r m
   unfolding steps
   steps-stop u r m e zero = refl
   steps-stop u r m e (suc c) = rw (← e, steps)
@@ -195,7 +196,8 @@ module _ {sz : Sizes} {d₀ : Directory} {u₀ : Buffers} {mends ops₀ : ℕ} {
     reads_now = rw fuel (λ i n. merges-next sz d k.ready.sound b f e (sz.N - suc rewrites) n i)
 
     faults : (fault_in sz u (merges_page sz d b f) ≡ 0) × (fault_in sz u (steps_merge policy_choice sz (sz.N - suc rewrites) after) ≡ 0)
-    faults = none-either sz (fault_on sz flash codes marks) (merges_page sz d b f) (steps_merge policy_choice sz (sz.N - suc rewrites) after)
+    faults = none-either sz (fault_on sz flash codes marks) (merges_page sz d b f)
+        (steps_merge policy_choice sz (sz.N - suc rewrites) after)
         (rw reads_now at k.faultless)
 
     mends-now : mends ≡ 0 → (mends_in sz u (merges_page sz d b f) ≡ 0)

@@ -5,18 +5,18 @@ use mathlib.Core.Bool.{true, false, cond}
 use mathlib.Core.List.{List, []}
 use Prim.Native.Nat.{ℕ, suc, ◌≤◌, ◌<◌}
 use native.Mathlib.Omega.{arith}
-use lib.Dec.{eqb, ltb}
+use lib.Dec.{eqb}
 use lib.ListN.{length}
 use borrow.Author.Tests.{lt-ltb}
 use Rattle.prelude.proofs.Tests.{clash}
 use Rattle.model.specs.Sizes.{Sizes, vacant}
 use Rattle.model.specs.Directory.{Directory}
-use Rattle.model.specs.Policy.{in_block, slot_count, least_recent, fewest_uses, policy_choice, clean, due, occupied, lowest_in_slots, due_of}
+use Rattle.model.specs.Policy.{in_block, slot_count, least_recent, fewest_uses, policy_choice, clean, due, occupied, lowest_in_slots}
+use Rattle.model.specs.Policy.{due_of}
 use Rattle.model.specs.Policy.{is_worn}
 use Rattle.model.specs.Moves.{worn_by, stepped_pages}
-use Rattle.model.specs.Formats.{store_format, chip_for}
-use Rattle.model.specs.Calls.{step_done, step_clean, refused, is_refused, Outcome, step_outcome, heeding, merges_page, step_merges, Buffers}
-use Rattle.model.specs.Calls.{zero_page, flash_cells, memory_of}
+use Rattle.model.specs.Calls.{step_done, step_clean, refused, is_refused, step_outcome, merges_page, step_merges, Buffers}
+use Rattle.model.specs.Calls.{flash_cells, memory_of}
 use Rattle.model.specs.Cut.{cut_rewrite, cut_step}
 use Rattle.model.proofs.Lookup.{block-vacant}
 use Rattle.model.proofs.Plan.{policy_choice-picks}
@@ -25,16 +25,17 @@ use Rattle.model.proofs.Calls.{not-worn}
 use Rattle.cache.specs.View.{numbers}
 use Rattle.chip.specs.declared.BlockSeen.{BlockSeen}
 use Rattle.chip.specs.declared.Rewrote.{Rewrote}
-use Rattle.chip.specs.Chip.{fault_on, fault_in, mends_in}
+use Rattle.chip.specs.Chip.{fault_on, fault_in}
 use Rattle.chip.proofs.Cells.{lent_of}
 use Rattle.chip.proofs.Looking.{fault-none, mends-none, met-late}
-use Rattle.answer.specs.Carried.{buffers, Ready, left_of}
+use Rattle.answer.specs.Carried.{buffers, Ready}
 use Rattle.answer.proofs.Heeding.{down-before, down-late, goes_on}
 use Rattle.clean.specs.Clean.{Lookable, MergesLooked, Cleanable, BlockCleaned}
 use Rattle.flushes.specs.Flushes.{state_in, StepCarried}
 
 -- the valid pages are not looked at
-pub due-same : (sz : Sizes) (s f v r u : List ℕ) → due_of policy_choice sz (numbers s f [] r u) ≡ due_of policy_choice sz (numbers s f v r u)
+pub due-same : (sz : Sizes) (s f v r u : List ℕ)
+    → due_of policy_choice sz (numbers s f [] r u) ≡ due_of policy_choice sz (numbers s f v r u)
 unfolding due_of occupied policy_choice fewest_uses least_recent lowest_in_slots slot_count in_block
 due-same sz s f v r u = refl
 

@@ -6,7 +6,8 @@ use Rattle.model.specs.Soundness.{Sound}
 use Rattle.model.specs.Policy.{policy_choice, due_of, lowest_worn}
 use Rattle.model.specs.Moves.{stepped_pages}
 use Rattle.model.specs.Formats.{store_format, chip_for}
-use Rattle.model.specs.Calls.{Answer, State, step_outcome, flush_outcome, heeding, step_merges, steps_merge, fault_met, mends_met, steps_pages}
+use Rattle.model.specs.Calls.{Answer, State, step_outcome, flush_outcome, heeding, step_merges, steps_merge, fault_met, mends_met}
+use Rattle.model.specs.Calls.{steps_pages}
 use Rattle.model.specs.Calls.{Buffers, zero_page, memory_of}
 use Rattle.model.specs.Cut.{cut_step, cut_steps}
 use Rattle.chip.specs.declared.Seen.{Seen}

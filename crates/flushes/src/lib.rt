@@ -1,4 +1,6 @@
 // A flush step and a flush, for a sound record and rightly sized buffers. Each looks first, and changes nothing where it is refused.
+#![tactic(auto)]
+
 mod ahead; // ahead.rt: the check beforehand of a flush
 
 ghost use Rattle.std.specs.Prelude.{◌≡◌};

@@ -1,6 +1,5 @@
 -- From what such a write asks to what its read and its write ask, and back from what they leave.
-use mathlib.Core.Path.{◌≡◌, refl, sym, ◌∙◌}
-use mathlib.Core.Bool.{false}
+use mathlib.Core.Path.{◌≡◌, sym, ◌∙◌}
 use mathlib.Core.List.{List, []}
 use Prim.Native.Nat.{ℕ, ◌*◌, ◌≤◌, ◌<◌}
 use lib.ListN.{length}
@@ -8,7 +7,6 @@ use Rattle.model.specs.Sizes.{Sizes, InLimits}
 use Rattle.model.specs.Directory.{Directory, inFrame}
 use Rattle.model.specs.Policy.{slot_of, in_slots, frame_with, read_way, policy_choice, plan}
 use Rattle.model.specs.Moves.{read_page}
-use Rattle.model.specs.Formats.{store_format}
 use Rattle.model.specs.Calls.{Answer, is_refused, write_outcome, write_merges, reads_page, Page, Buffers, flash_cells, memory_of}
 use Rattle.cache.specs.View.{numbers}
 use Rattle.chip.specs.declared.Seen.{Seen}

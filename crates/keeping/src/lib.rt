@@ -1,5 +1,7 @@
 // A write, and a part write, that keep page n as it was before, for a sound record and rightly sized buffers (request A8). The page is read
 // as no use, before anything is changed; what that meets in flash is the write's.
+#![tactic(auto)]
+
 ghost use Rattle.std.specs.Prelude.{◌≡◌, length};
 ghost use Rattle.cache.specs.View.{sizes_of, numbers};
 ghost use Rattle.answer.specs.Numbers.{write_of, mends_of_write};

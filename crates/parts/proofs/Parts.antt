@@ -1,6 +1,6 @@
 -- What a part write lays in and hands back.
-use mathlib.Core.Path.{◌≡◌, refl, sym, ap, ◌∙◌}
-use mathlib.Core.Bool.{Bool, true, false, cond}
+use mathlib.Core.Path.{◌≡◌, sym, ap, ◌∙◌}
+use mathlib.Core.Bool.{Bool, false, cond}
 use mathlib.Core.List.{List, [], append-nil}
 use Prim.Native.Nat.{ℕ, ◌≤◌}
 use native.Mathlib.Nat.{zero-add}
@@ -9,7 +9,8 @@ use lib.Seq.{drop-length}
 use Rattle.prelude.specs.Pages.{laid}
 use Rattle.prelude.proofs.Tests.{by-test}
 use Rattle.model.specs.Formats.{store_format, chip_for}
-use Rattle.model.specs.Calls.{Answer, is_refused, Outcome, write_outcome, write_merges, reads_page, combined, Page, Cell, Buffers, zero_page}
+use Rattle.model.specs.Calls.{Answer, is_refused, Outcome, write_outcome, write_merges, reads_page, combined, Page, Cell, Buffers}
+use Rattle.model.specs.Calls.{zero_page}
 use Rattle.model.specs.Calls.{flash_cells, memory_of}
 use Rattle.model.specs.Sizes.{Sizes, InLimits}
 use Rattle.model.specs.Directory.{Directory, inFrame}

@@ -1,5 +1,7 @@
 // A part write, for a sound record, rightly sized buffers and bytes that end within the page: page n is read without a use, the bytes are
 // laid in, and the page so combined is written.
+#![tactic(auto)]
+
 ghost use Rattle.std.specs.Prelude.{◌≡◌, cond, [], ◌+◌, ◌≤◌, length};
 ghost use Rattle.model.specs.Calls.{is_refused};
 ghost use Rattle.cache.specs.View.{sizes_of, numbers};

@@ -29,7 +29,8 @@ use Rattle.wear.proofs.Staying.{Fine, stays-fine}
 use Rattle.wear.proofs.Wearing.{fine_report}
 use Rattle.store.specs.declared.Cache.{Cache}
 use Rattle.store.specs.View.{Lent, store_of, opened_of}
-use Rattle.store.specs.Histories.{Made, call_of, cache_after, lent_after, Contract, Turn, flipped_to, lent_to, AsContracted, fed_by, StillNear}
+use Rattle.store.specs.Histories.{Made, call_of, cache_after, lent_after, Contract, Turn, flipped_to, lent_to, AsContracted, fed_by}
+use Rattle.store.specs.Histories.{StillNear}
 use Rattle.store.specs.Histories.{Claim, CodesMatch, begun}
 use Rattle.store.proofs.Demand3.{beginning, begins, begins-sizes, demand_3}
 use Rattle.report.specs.Histories.{Item, called, asked, AllContracted, calls_of, ReportsBook, Demand3WithReports}
@@ -105,7 +106,13 @@ module _ (sz : model.Sizes) (u₀ : Lent) where
         h.0.0 ∙ fine_report (store_of c v) fine
             ∙ ap (λ (w : List ℕ). figures (total w) (largest w) (spread w)) (on [] tt flash codes near).wear-is,
         reports is c v r (λ ts q. same-claim c u r flash codes ts (on ts (same-calls c u flash codes ts q)))
-            (record { sizes-are = a.sizes-are; record_ok_lem = fine.record_ok_lem; shelf-long = a.shelf-long; in_limit_lem = a.in_limit_lem })
+            (record {
+              sizes-are = a.sizes-are;
+              record_ok_lem = fine.record_ok_lem;
+              shelf-long = a.shelf-long;
+              in_limit_lem =
+                  a.in_limit_lem;
+            })
             (subst (λ (k : Cache). AllContracted k v is) h.0.1 h.1),
       )
 

@@ -45,6 +45,7 @@ ReportsBook sz u r (asked flash codes x ∷ is) = StillNear sz r (flipped_to u f
 
 -- Demand 3 with reports in the list: what it claims holds of the calls, which no report disturbs, and every report is the book's.
 abbrev pub Demand3WithReports : Type 0
-Demand3WithReports = (z : Sizes) (u : Lent) (o : Opened) → OpeningContract z u o → (opened_of o).answer ≡ open_done → CodesMatch (sizes_of z) u
+Demand3WithReports = (z : Sizes) (u : Lent) (o : Opened) → OpeningContract z u o → (opened_of o).answer ≡ open_done
+    → CodesMatch (sizes_of z) u
     → (is : List Item) → AllContracted o.cache u is
     → Claim (sizes_of z) u o.cache u (begun (sizes_of z) u) (calls_of is) × ReportsBook (sizes_of z) u (begun (sizes_of z) u) is

@@ -1,4 +1,6 @@
 // The report of a store's wear (request A14): a call on the cache record that changes nothing.
+#![tactic(auto)]
+
 ghost use Rattle.std.specs.Prelude.{◌≡◌};
 ghost use Rattle.wear.specs.Report.{reported};
 ghost use Rattle.store.specs.View.{lent, store_of};
@@ -9,7 +11,7 @@ use store::Cache;
 use wear::Measured;
 
 // What a report answers: the total, the largest and the spread of the wear.
-#[derive(Drop)]
+#[derive(Clone, Copy)]
 pub enum Report {
     Done {
         total: u64,
@@ -20,7 +22,7 @@ pub enum Report {
 }
 
 // The record handed back, as it was taken, and the answer.
-#[derive(Drop)]
+#[derive(Clone, Copy)]
 pub struct ReportOut {
     pub cache: Cache,
     pub answer: Report,

@@ -9,13 +9,12 @@ use native.Mathlib.Omega.{arith}
 use lib.Dec.{ltb, eqb}
 use lib.ListN.{length, get_or, set}
 use borrow.Author.Tests.{eqb-true, eqb-false, eq-eqb, ne_eqb, lt-ltb, ltb-true, ltb-false, leb-true}
-use Rattle.prelude.specs.Tests.{every}
 use Rattle.prelude.specs.Pages.{page_at, pages_of, flat}
 use Rattle.prelude.proofs.Tests.{by-test, clash, and_l, and_r, each}
 use Rattle.prelude.proofs.Scan.{first-le, all-at}
 use Rattle.prelude.proofs.Pages.{in_run, flat-pages, page-at}
 use Rattle.model.specs.Directory.{Directory}
-use Rattle.model.specs.Sizes.{Sizes, vacant}
+use Rattle.model.specs.Sizes.{vacant}
 use Rattle.model.specs.Soundness.{sound}
 use Rattle.model.specs.Policy.{policy_choice}
 use Rattle.model.specs.Formats.{store_format}
@@ -109,10 +108,12 @@ module _ (z : sizes.Sizes) (d : Directory) (es : List ℕ) (u : Buffers) (sb : L
     unfolding ordinary
     below-cut ops c e r h =
         let besides : ℕ → Bool = shelving_reads store_format z.shelf_pages policy_choice s c in
-        let is : (store_call policy_choice s c).answer ≡ (call_reading store_format policy_choice besides (store_with z d u) (meant_by s c)).answer =
+        let is : (store_call policy_choice s c).answer
+        ≡ (call_reading store_format policy_choice besides (store_with z d u) (meant_by s c)).answer =
         ap (λ (x : ShelfResult). x.answer) (fit store_format z.shelf_pages policy_choice (store_with z d u) es sb ok c e) in
         record {
-          refused-stays = λ q. let down : is_refused (call_reading store_format policy_choice besides (store_with z d u) (meant_by s c)).answer
+          refused-stays = λ q. let down : is_refused
+              (call_reading store_format policy_choice besides (store_with z d u) (meant_by s c)).answer
               ≡ true = ap is_refused (sym is) ∙ q in
               let same : r.store ≡ store_with z d u = ap (λ (x : Result). x.store) (h.down down)
               ∙ below-refused policy_choice besides (store_with z d u) (meant_by s c) down in (
@@ -134,7 +135,8 @@ module _ (z : sizes.Sizes) (d : Directory) (es : List ℕ) (u : Buffers) (sb : L
     plain-cut : (ops : ℕ) (c : ShelfCall) → (ltb 0 z.shelf_pages && ltb (shelves c) vacant) ≡ false
         → (is_back c && eqb (shelved es) 0) ≡ false → (r : Result)
         → CalledTo policy_choice ops (λ i. false) (store_with z d u) (meant_by s c) r → CutTo policy_choice ops s c r.store.lent
-    plain-cut ops c q e r h = below-cut ops c e r (subst (λ (b : ℕ → Bool). CalledTo policy_choice ops b (store_with z d u) (meant_by s c) r)
+    plain-cut ops c q e r h =
+        below-cut ops c e r (subst (λ (b : ℕ → Bool). CalledTo policy_choice ops b (store_with z d u) (meant_by s c) r)
         (λ j i. sym (nothing_read c q i) j) h)
 
     -- a call that shelves nothing is the one below
@@ -195,7 +197,8 @@ module _ (z : sizes.Sizes) (d : Directory) (es : List ℕ) (u : Buffers) (sb : L
         pages sb = pages_of z.page_size h sb
 
         -- of a page of the chip
-        shelved-on : ltb n vacant ≡ true → result_on a mends z d' es' u' sb' page ≡ store_call policy_choice (store_on z d es u sb) (plainly c)
+        shelved-on : ltb n vacant ≡ true
+            → result_on a mends z d' es' u' sb' page ≡ store_call policy_choice (store_on z d es u sb) (plainly c)
         shelved-on t =
             let w : ltb (shelves (plainly c)) vacant ≡ true = ap (λ (m : ℕ). ltb m vacant) is ∙ t in
             let q : ltb 0 h ≡ true = lt-ltb 0 h positive in
@@ -280,7 +283,8 @@ module _ (z : sizes.Sizes) (d : Directory) (es : List ℕ) (u : Buffers) (sb : L
       latest-there =
           let l = latest-small in
           let q = entries-long in
-          let i : k - 1 < shelved es = (by-test (eqb k 0) (λ t. absurd (some (eqb-true k 0 t))) (λ t. let n = eqb-false k 0 t in omega arith)) in
+          let i : k - 1 < shelved es =
+          (by-test (eqb k 0) (λ t. absurd (some (eqb-true k 0 t))) (λ t. let n = eqb-false k 0 t in omega arith)) in
           let each-entry = all-at 8 _ (each _ (and_l (shelf_ok (sizes_of z) z.shelf_pages es) _ ok)).1.1.0 (k - 1) l in
           rw (get_d_any es (k - 1) 0 vacant (omega arith)) (ltb-true _ _ (rw (lt-ltb (k - 1) (shelved es) i) at each-entry))
 
@@ -309,7 +313,8 @@ module _ (z : sizes.Sizes) (d : Directory) (es : List ℕ) (u : Buffers) (sb : L
       unfolding call
       back_on ops a mends d' u' es' x g h =
           let h' : CalledTo policy_choice ops (λ i. false) (store_with z d u) (meant_by s back) (result_with a mends z d' u' x) =
-          subst (λ (c : Call Page). CalledTo policy_choice ops (λ i. false) (store_with z d u) c (result_with a mends z d' u' x)) latest h in
+          subst (λ (c : Call Page). CalledTo policy_choice ops (λ i. false) (store_with z d u) c
+          (result_with a mends z d' u' x)) latest h in
           record {
             whole = λ enough. back_is a mends d' u' es' x g (h'.whole enough);
             cut = plain-cut ops back (and-f (ltb 0 z.shelf_pages)) (ne_eqb _ 0 (λ q. some (e ∙ q))) (result_with a mends z d' u' x) h';

@@ -1,6 +1,8 @@
 // The calls on the directory's lists, with the shelf's entries and the shelf: a call where they do not fit is refused, and every other is
 // checked and carried out. Writes of a store with shelf pages go their own way. A call that rewrites is told how many operations of the
 // chip it may do (request A12).
+#![tactic(auto)]
+
 pub mod back; // back.rt: taking a write back
 mod keep; // keep.rt: writes of a store with shelf pages
 mod unfit; // unfit.rt: calls that are refused for their entries and shelf

@@ -3,7 +3,6 @@ use mathlib.Core.Path.{◌≡◌, refl, sym, ap, ◌∙◌, subst}
 use mathlib.Core.Bool.{Bool}
 use mathlib.Core.List.{List, [], ◌∷◌}
 use Prim.Native.Nat.{ℕ, ◌*◌, ◌≤◌, ◌<◌}
-use native.Mathlib.Omega.{arith}
 use lib.ListN.{length}
 use Rattle.model.specs.Sizes as model
 use Rattle.model.specs.Directory as cached
@@ -26,14 +25,12 @@ use Rattle.model.specs.Legible.{ShelfLegible}
 use Rattle.model.proofs.Legible.{store-legible}
 use Rattle.model.specs.Undo as undo
 use Rattle.model.proofs.Undo.{shelf-undoes}
-use Rattle.cache.specs.declared.Sizes.{Sizes}
 use Rattle.cache.specs.View.{sizes_of}
 use Rattle.store.specs.declared.Cache.{Cache}
-use Rattle.store.specs.declared.Opened.{Opened}
 use Rattle.store.specs.View.{Lent, store_of, opened_of}
 use Rattle.store.specs.Histories.{Made, read, write, part, step, flush, back, call_of, cache_after, lent_after, result_of, Turn, lent_to}
 use Rattle.store.specs.Histories.{AsContracted, by_policy, said_by, fed_by, StillNear, Claim, CodesMatch, begun, Demand3}
-use Rattle.store.specs.Histories.{Contract, OpeningContract, Legible, NeverUnreadable, UndoneBy, Undoes, TakenBack}
+use Rattle.store.specs.Histories.{Contract, Legible, NeverUnreadable, UndoneBy, Undoes, TakenBack}
 
 -- the calls of a list, each by the policy of the record
 abbrev pub chosen : List Turn → List ShelfChosen
@@ -223,7 +220,8 @@ module _ (sz : model.Sizes) where
       let v : Lent = lent_to u₁ t in
       let k = called sz c₁ v m e h.0 in
       let b = a t.flash t.codes near is (ap (λ (x : ShelfResult). is_refused x.answer) (sym k) ∙ ok) in
-      let there : fed_with sz u r₁ m (result_of v m) ≡ fed_by sz r₁ v m = ap (λ (s : ShelfStore). shelf_fed sz sz.shelf_pages r₁ (by_policy m)
+      let there : fed_with sz u r₁ m (result_of v m) ≡ fed_by sz r₁ v m =
+      ap (λ (s : ShelfStore). shelf_fed sz sz.shelf_pages r₁ (by_policy m)
       (said_by sz r₁ v m) (flash_cells store_format sz s.store.lent)) (store-after v m) in
       record {
         array-is = ap (λ (x : ShelfReference). x.reference.array) (sym there)

@@ -20,9 +20,9 @@ use Rattle.cache.specs.View.{sizes_of, directory_of}
 use Rattle.shelving.specs.Shelving.{store_on, ShelvedTo}
 use Rattle.store.specs.declared.Cache.{Cache}
 use Rattle.store.specs.View.{Lent, store_of, opened_of}
-use Rattle.store.specs.Histories.{Made, call_of, cache_after, lent_after, result_of, Turn, lent_to, AsContracted, by_policy, said_by, fed_by}
-use Rattle.store.specs.Histories.{CodesMatch, begun}
-use Rattle.store.specs.PowerLoss.{CutContract, CutOff, PowerLost, Ends, MadeWhole}
+use Rattle.store.specs.Histories.{Made, call_of, cache_after, lent_after, Turn, lent_to, AsContracted, by_policy, said_by, fed_by}
+use Rattle.store.specs.Histories.{begun}
+use Rattle.store.specs.PowerLoss.{CutOff, PowerLost, Ends, MadeWhole}
 use Rattle.store.proofs.Demand3.{chosen, chosen-pick, store-after, called, same-sizes, fed_with, accepted, few-pages, opened-as}
 use Rattle.store.proofs.Demand3.{begins}
 use Rattle.store.proofs.Demand3.{beginning, begins-sizes}

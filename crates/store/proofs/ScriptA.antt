@@ -22,11 +22,11 @@ use Rattle.model.specs.Moves.{put_frame_page}
 use Rattle.model.specs.Moves.{joined, filled, joined_pages, unmet, spare, taken, given_slot, exchanged, exchanged_pages, vacated, merged}
 use Rattle.model.specs.Moves.{rewritten_pages, read_directory, written, stepped, read_page, written_pages, stepped_pages}
 use Rattle.model.specs.Moves.{oneMore}
-use Rattle.model.specs.Calls.{checked, read_outcome, write_outcome, step_outcome, steps, flush_outcome, decide, steps_pages, call_pages, Page}
-use Rattle.model.specs.Calls.{Buffers, lent_ok, open_store, zero_page, memory_of, buffers_of, flash_cells, carried_out, call_reading, call}
+use Rattle.model.specs.Calls.{checked, read_outcome, write_outcome, step_outcome, steps, flush_outcome, decide, steps_pages, call_pages}
+use Rattle.model.specs.Calls.{Page}
+use Rattle.model.specs.Calls.{lent_ok, open_store, zero_page, memory_of, buffers_of, flash_cells, carried_out, call_reading}
 use Rattle.model.specs.Calls.{reads_all, heeding, fault_of, fault_met, some_page, mends_of, mends_met, reads_flash, reads_page, steps_merge}
 use Rattle.model.specs.Calls.{torn_blocks, merges_page, sum, open_done, Answer, is_refused}
-use Rattle.model.specs.Calls as calls
 use Rattle.model.specs.Formats.{format_of, torn, store_format, StoreNear}
 use Rattle.model.specs.Lists.{fed, flash_pages, After}
 use Rattle.model.specs.Shelf.{ShelfOpened, ShelfReference, shelved, shelve, shelf_ok, entries_after, shelf_after, open_shelf, store_open}
@@ -127,20 +127,22 @@ abbrev pub turns : List Turn
 turns = quietly lent_a made-a
 
 pub accepted : OpeningContract sizes lent_a opening
-unfolding open_shelf open_store lent_ok is_coded is_marked sizes_ok vacant_directory blank_cache every all tab tab_from directory_of torn_blocks count
+unfolding open_shelf open_store lent_ok is_coded is_marked sizes_ok vacant_directory blank_cache every all tab tab_from directory_of
+    torn_blocks count
 accepted = refl
 
 -- each call was made on what the one before it left, and did what its contract says
 pub as_contracted : AsContracted opening.cache lent_a turns
-unfolding directory_of shelf_call shelf_ok shelved shelve entries_after shelf_after shelving_reads ordinary call_reading reads_all heeding fault_of
-    fault_met some_page mends_of mends_met sum reads_flash reads_page steps_merge merges_page cell_at is_coded is_marked format_of torn flash_cells
-    uses_ok carried_out memory_of buffers_of zero_page lent_ok call_pages steps_pages decide flush_outcome steps step_outcome write_outcome
-    read_outcome checked stepped_pages written_pages read_page stepped written read_directory rewritten_pages merged vacated exchanged_pages
-    exchanged given_slot taken spare unmet joined_pages filled joined put_frame_page put_slot_page entered put_slot touched recency_after oneMore
-    worn_by worn programmed flash_page lowest_worn is_worn cached due_of lowest_in_slots occupied plan eviction_plan evict_frame any_evictable
-    evictable fewest_valid victim policy_choice fewest_uses least_recent read_way slot_count valid_count frame_of frame_with in_slots slot_of in_block
-    inFrame sound framePast slot_past listed_once cached_once frames_differ slots_differ frame_ok slot_ok shape_ok sizes_ok every first first_from
-    count all all_pairs tab tab_from bit mask nth argmax least page_at pages_of flat
+unfolding directory_of shelf_call shelf_ok shelved shelve entries_after shelf_after shelving_reads ordinary call_reading reads_all heeding
+    fault_of fault_met some_page mends_of mends_met sum reads_flash reads_page steps_merge merges_page cell_at is_coded is_marked format_of
+    torn flash_cells uses_ok carried_out memory_of buffers_of zero_page lent_ok call_pages steps_pages decide flush_outcome steps
+    step_outcome write_outcome read_outcome checked stepped_pages written_pages read_page stepped written read_directory rewritten_pages
+    merged vacated exchanged_pages exchanged given_slot taken spare unmet joined_pages filled joined put_frame_page put_slot_page entered
+    put_slot touched recency_after oneMore worn_by worn programmed flash_page lowest_worn is_worn cached due_of lowest_in_slots occupied
+    plan eviction_plan evict_frame any_evictable evictable fewest_valid victim policy_choice fewest_uses least_recent read_way slot_count
+    valid_count frame_of frame_with in_slots slot_of in_block inFrame sound framePast slot_past listed_once cached_once frames_differ
+    slots_differ frame_ok slot_ok shape_ok sizes_ok every first first_from count all all_pairs tab tab_from bit mask nth argmax least
+    page_at pages_of flat
 as_contracted = (refl, (refl, (refl, (refl, (refl, (refl, (refl, tt)))))))
 
 pub accepted-answer : (store_open (sizes_of sizes) lent_a.below lent_a.shelf).answer ≡ open_done

@@ -3,10 +3,10 @@ use Rattle.std.specs.Prelude.{List, [], ℕ}
 use Rattle.model.specs.Directory as directory
 use Rattle.model.specs.Calls.{Buffers, Page}
 use Rattle.model.specs.Shelf.{ShelfOpened, ShelfStore, ShelfResult}
-use Rattle.cache.specs.declared.Sizes.{Sizes}
 use Rattle.cache.specs.View.{sizes_of, directory_of}
 use Rattle.answer.specs.Carried.{buffers}
-use Rattle.answer.specs.Numbers.{opening_of, torn_of, read_of, write_of, step_of, flush_of, mends_of_read, mends_of_write, mends_of_step, mends_of_flush}
+use Rattle.answer.specs.Numbers.{opening_of, torn_of, read_of, write_of, step_of, flush_of, mends_of_read, mends_of_write, mends_of_step}
+use Rattle.answer.specs.Numbers.{mends_of_flush}
 use Rattle.store.specs.declared.Cache.{Cache}
 use Rattle.store.specs.declared.Opened.{Opened}
 use Rattle.store.specs.declared.ReadOut.{ReadOut}

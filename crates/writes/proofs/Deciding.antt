@@ -1,22 +1,20 @@
 -- The look before a write, and what becomes of the write by what it foresees.
 use mathlib.Core.Path.{◌≡◌, refl, sym, ap, ◌∙◌}
 use mathlib.Core.Logic.{◌≢◌}
-use mathlib.Core.Bool.{Bool, true, false, cond, ◌||◌}
+use mathlib.Core.Bool.{Bool, true, false, cond}
 use mathlib.Core.List.{List}
-use Prim.Native.Nat.{ℕ, suc, ◌+◌, ◌*◌, ◌/◌, ◌≤◌, ◌<◌}
+use Prim.Native.Nat.{ℕ, ◌+◌, ◌*◌, ◌/◌, ◌<◌}
 use native.Mathlib.Omega.{arith}
-use lib.Dec.{eqb, ltb}
-use borrow.Author.Tests.{eqb-true, eqb-false, lt-ltb}
+use lib.Dec.{eqb}
+use borrow.Author.Tests.{eqb-true, eqb-false}
 use Rattle.prelude.proofs.Tests.{by-test, clash, and_l, and_r, or_false}
 use Rattle.model.specs.Sizes.{Sizes, vacant}
-use Rattle.model.specs.Directory.{Directory, frame_at, valid_at}
+use Rattle.model.specs.Directory.{Directory, frame_at}
 use Rattle.model.specs.Soundness.{Sound}
 use Rattle.model.specs.Policy.{Plan, slot_hit, frame_hit, free_slot, join, fill, exchange, evict, way_of, erased_by, is_worn, read_way}
-use Rattle.model.specs.Moves.{worn_by, joined, written, merged_by, written_pages}
-use Rattle.model.specs.Formats.{store_format, chip_for}
-use Rattle.model.specs.Calls.{Answer, write_done, refused, is_refused, Outcome, turned_down, write_outcome, heeding, merges_page, write_merges}
-use Rattle.model.specs.Calls.{reads_page, fault_met, mends_met, Page, Buffers, zero_page, memory_of}
-use Rattle.model.specs.Cut.{cut_write}
+use Rattle.model.specs.Moves.{worn_by, written, merged_by}
+use Rattle.model.specs.Calls.{Answer, write_done, refused, is_refused, Outcome, write_outcome, write_merges}
+use Rattle.model.specs.Calls.{reads_page, mends_met, Page, Buffers}
 use Rattle.model.proofs.Lookup.{block-lt, block-vacant}
 use Rattle.model.proofs.Steps as steps
 use Rattle.model.proofs.Merges.{merges-block, reads_merged}
@@ -28,11 +26,9 @@ use Rattle.chip.specs.declared.Seen.{Seen}
 use Rattle.chip.specs.Chip.{fault_on, mends_on, fault_in, mends_in, worse_of}
 use Rattle.chip.proofs.Looking.{fault-none, mends-none, fault-or, mends-or, met-late, none-worse}
 use Rattle.clean.specs.Clean.{Lookable, MergesLooked}
-use Rattle.answer.specs.Carried.{left_of, Carried, CarriedTo}
 use Rattle.answer.proofs.Heeding.{down-before, down-late, goes_on}
-use Rattle.writes.specs.declared.ahead.Outlook.{Outlook}
 use Rattle.writes.specs.Ahead.{LooksAt, Foreseen, foreseeing}
-use Rattle.writes.specs.Writes.{Writable, Beside, write_reads, write_heeding, Wrote, PlanHolds, mend_by, Carries, CarriedOut, state}
+use Rattle.writes.specs.Writes.{Writable, Beside, write_reads, Wrote, PlanHolds, mend_by, Carries, CarriedOut, state}
 
 -- ---- the look
 

@@ -4,13 +4,13 @@ use mathlib.Core.Bool.{true, false}
 use mathlib.Core.List.{List}
 use Prim.Native.Nat.{ℕ, suc, ◌+◌, ◌*◌, ◌%◌, ◌≤◌, ◌<◌}
 use native.Mathlib.Omega.{arith}
-use lib.Dec.{ltb}
 use lib.ListN.{set}
 use borrow.Author.Tests.{lt-ltb}
 use Rattle.model.specs.Sizes.{Sizes, vacant}
 use Rattle.model.specs.Directory.{Directory, frame_at}
 use Rattle.model.specs.Soundness.{Sound}
-use Rattle.model.specs.Policy.{Choice, slot_of, frame_of, Plan, slot_hit, frame_hit, free_slot, join, fill, exchange, evict, plan, victim, due}
+use Rattle.model.specs.Policy.{Choice, slot_of, frame_of, Plan, slot_hit, frame_hit, free_slot, join, fill, exchange, evict, plan, victim}
+use Rattle.model.specs.Policy.{due}
 use Rattle.model.specs.Moves.{Memory, worn_by, touched, put_slot, entered, stepped, written, stepped_pages, written_pages, put_slot_page}
 use Rattle.model.specs.Moves.{put_frame_page, joined, joined_pages, filled, exchanged_pages}
 use Rattle.model.specs.Formats.{store_format, chip_for}

@@ -6,7 +6,8 @@ use Rattle.model.specs.Policy.{valid_count, slot_count, Plan, slot_hit, frame_hi
 use Rattle.model.specs.Policy.{erased_by, is_worn}
 use Rattle.model.specs.Moves.{worn_by, joined, written, merged_by, written_pages}
 use Rattle.model.specs.Formats.{store_format, chip_for}
-use Rattle.model.specs.Calls.{Answer, write_done, State, Outcome, write_outcome, heeding, write_merges, reads_page, Page, Buffers, zero_page}
+use Rattle.model.specs.Calls.{Answer, write_done, State, Outcome, write_outcome, heeding, write_merges, reads_page, Page, Buffers}
+use Rattle.model.specs.Calls.{zero_page}
 use Rattle.model.specs.Calls.{memory_of}
 use Rattle.model.specs.Cut.{cut_write}
 use Rattle.chip.specs.declared.Seen.{Seen}
@@ -44,7 +45,8 @@ abbrev pub WroteWith : Sizes → Directory → Buffers → ℕ → Page → Plan
 WroteWith sz d u n page p besides ops answer mended d' u' =
     let m = memory_of store_format sz u in
     CarriedTo (suc sz.K ≤ ops) (write_heeding sz d u n p besides) (mends_in sz u (write_reads sz d p besides)) (left_of sz u)
-    (cut_write (chip_for sz) (zero_page sz) sz ops d u.wear m p) m (written_pages (chip_for sz) (zero_page sz) sz d m n page p) answer mended
+    (cut_write (chip_for sz) (zero_page sz) sz ops d u.wear m p) m
+    (written_pages (chip_for sz) (zero_page sz) sz d m n page p) answer mended
     d' (left_of sz u') (memory_of store_format sz u')
 
 -- the same, whatever was read besides where that was met

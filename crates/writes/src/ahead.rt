@@ -12,7 +12,7 @@ use policy::decision::{Plan, Room};
 
 // The plan, the block that it erases (VACANT for none) and whether that is worn, the refusal that its merge reads meet (0: none), their
 // mends, and the set of the pages that want mending.
-#[derive(Drop)]
+#[derive(Clone, Copy)]
 pub struct Outlook {
     pub plan: Plan,
     pub block: BlockNo,

@@ -1,5 +1,7 @@
 // Writing a page, for a sound record and rightly sized buffers: first a look at what the write would do and meet, which changes nothing,
 // and then the policy's plan is carried out.
+#![tactic(auto)]
+
 mod ahead; // ahead.rt: the look
 mod evict; // evict.rt: way 7
 mod full; // full.rt: ways 4 to 7

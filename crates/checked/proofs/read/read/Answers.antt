@@ -1,0 +1,90 @@
+use native.Mathlib.Omega.{arith}
+use mathlib.Core.Path.{sym, ◌∙◌}
+use Rattle.model.specs.Policy.{policy_choice}
+use Rattle.model.proofs.Soundness.{sound-facts, pages-small}
+use Rattle.cache.specs.View.{sizes_of, numbers}
+use Rattle.answer.specs.Carried.{buffers}
+use Rattle.checked.specs.Lists.{store_with}
+use Rattle.lent.proofs.Lengths.{lengths-lent}
+use Rattle.checked.proofs.Carrying.{read-checked, readable, read-late, read_done_lem, call-record, call_buffer}
+use Rattle.checked.proofs.Carrying.{call-page_buffer, call-page}
+use Rattle.checked.proofs.read.read.Goals as goal
+
+pub returns-then-not-lists_sound : goal.returns-then-not-lists_sound
+returns-then-not-lists_sound c =
+    sym (call-record policy_choice _ _ (sym c.lists_sound.ensures ∙ c.if-not-lists_sound.true))
+
+pub lengths_ok-requires : goal.lengths_ok-requires
+lengths_ok-requires c =
+    let sound-is = sym c.lists_sound.ensures ∙ c.if-not-lists_sound.false in
+    (sound-facts _ _ sound-is).limits
+
+pub returns-then-not-lengths_ok : goal.returns-then-not-lengths_ok
+returns-then-not-lengths_ok c =
+    let a = c.args in
+    let s = store_with a.z (numbers a.slots.now a.frames.now a.valid.now a.recency.now a.uses.now)
+    (buffers a.flash.now a.codes.now a.marks.now a.wear.now a.pspace.now a.bspace.now) in
+    let sound-is = sym c.lists_sound.ensures ∙ c.if-not-lists_sound.false in
+    sym (call_buffer policy_choice s _ sound-is (sym
+    (lengths-lent (sizes_of a.z) a.flash.now a.codes.now a.marks.now a.wear.now a.pspace.now a.bspace.now)
+    ∙ sym c.lengths_ok.ensures ∙ c.if-not-lengths_ok.true))
+
+pub returns-then-page-z : goal.returns-then-page-z
+returns-then-page-z c =
+    let a = c.args in
+    let s = store_with a.z (numbers a.slots.now a.frames.now a.valid.now a.recency.now a.uses.now)
+    (buffers a.flash.now a.codes.now a.marks.now a.wear.now a.pspace.now a.bspace.now) in
+    let sound-is = sym c.lists_sound.ensures ∙ c.if-not-lists_sound.false in
+    let fits-is = sym (lengths-lent (sizes_of a.z) a.flash.now a.codes.now a.marks.now a.wear.now a.pspace.now a.bspace.now)
+    ∙ sym c.lengths_ok.ensures ∙ c.if-not-lengths_ok.false in
+    sym (call-page_buffer s _ _ _ _ (read-checked s a.n.0 a.page.now) sound-is fits-is
+    c.if-page-z.true)
+
+pub overflow_mul-z : goal.overflow_mul-z
+overflow_mul-z c =
+    let sound-is = sym c.lists_sound.ensures ∙ c.if-not-lists_sound.false in
+    let h = pages-small _ (sound-facts _ _ sound-is).limits in
+    omega arith
+
+pub returns-then-z-n : goal.returns-then-z-n
+returns-then-z-n c =
+    let a = c.args in
+    let s = store_with a.z (numbers a.slots.now a.frames.now a.valid.now a.recency.now a.uses.now)
+    (buffers a.flash.now a.codes.now a.marks.now a.wear.now a.pspace.now a.bspace.now) in
+    let sound-is = sym c.lists_sound.ensures ∙ c.if-not-lists_sound.false in
+    let fits-is = sym (lengths-lent (sizes_of a.z) a.flash.now a.codes.now a.marks.now a.wear.now a.pspace.now a.bspace.now)
+    ∙ sym c.lengths_ok.ensures ∙ c.if-not-lengths_ok.false in
+    sym (call-page s _ _ _ _ (read-checked s a.n.0 a.page.now) sound-is fits-is
+    c.if-page-z.false c.if-z-n.true)
+
+pub read-done-requires : goal.read-done-requires
+read-done-requires c =
+    let a = c.args in
+    let s = store_with a.z (numbers a.slots.now a.frames.now a.valid.now a.recency.now a.uses.now)
+    (buffers a.flash.now a.codes.now a.marks.now a.wear.now a.pspace.now a.bspace.now) in
+    let sound-is = sym c.lists_sound.ensures ∙ c.if-not-lists_sound.false in
+    let fits-is = sym (lengths-lent (sizes_of a.z) a.flash.now a.codes.now a.marks.now a.wear.now a.pspace.now a.bspace.now)
+    ∙ sym c.lengths_ok.ensures ∙ c.if-not-lengths_ok.false in
+    (sound-facts _ _ sound-is, readable s a.n.0 a.page.now sound-is fits-is c.if-page-z.false c.if-z-n.false)
+
+pub returns-then-done-ne0 : goal.returns-then-done-ne0
+returns-then-done-ne0 c =
+    let a = c.args in
+    let s = store_with a.z (numbers a.slots.now a.frames.now a.valid.now a.recency.now a.uses.now)
+    (buffers a.flash.now a.codes.now a.marks.now a.wear.now a.pspace.now a.bspace.now) in
+    let sound-is = sym c.lists_sound.ensures ∙ c.if-not-lists_sound.false in
+    let fits-is = sym (lengths-lent (sizes_of a.z) a.flash.now a.codes.now a.marks.now a.wear.now a.pspace.now a.bspace.now)
+    ∙ sym c.lengths_ok.ensures ∙ c.if-not-lengths_ok.false in
+    rw c.late.ensures (read-late s a.n.0 a.page.now sound-is fits-is c.if-page-z.false
+    c.if-z-n.false _ _ _ c.read-done.ensures c.if-done-ne0.true)
+
+pub returns : goal.returns
+returns c =
+    let a = c.args in
+    let s = store_with a.z (numbers a.slots.now a.frames.now a.valid.now a.recency.now a.uses.now)
+    (buffers a.flash.now a.codes.now a.marks.now a.wear.now a.pspace.now a.bspace.now) in
+    let sound-is = sym c.lists_sound.ensures ∙ c.if-not-lists_sound.false in
+    let fits-is = sym (lengths-lent (sizes_of a.z) a.flash.now a.codes.now a.marks.now a.wear.now a.pspace.now a.bspace.now)
+    ∙ sym c.lengths_ok.ensures ∙ c.if-not-lengths_ok.false in
+    read_done_lem s a.n.0 a.page.now sound-is fits-is c.if-page-z.false c.if-z-n.false _ _ _
+    c.read-done.ensures c.if-done-ne0.false

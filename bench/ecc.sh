@@ -3,7 +3,7 @@
 set -eu
 cd "$(dirname "$0")/.."
 [ $# -gt 0 ] || set -- 256 2048
-rt staticlib bench_ecc | tail -n 1
+tools/build bench_ecc
 mkdir -p target/bench
 rustc --edition 2021 -O bench/ecc.rs -L target/staticlib -l static=bench_ecc -o target/bench/ecc
 target/bench/ecc "$@"

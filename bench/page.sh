@@ -5,7 +5,7 @@
 set -eu
 cd "$(dirname "$0")/.."
 [ $# -gt 0 ] || set -- 16 256 2048
-rt staticlib bench_c
+tools/build bench_c
 mkdir -p target/bench
 for level in full partial; do
   rustc -O -C relro-level=$level bench/page.rs -L target/staticlib -l static=bench_c -o target/bench/page-$level

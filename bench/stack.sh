@@ -4,9 +4,7 @@
 # on x86-64.
 set -eu
 cd "$(dirname "$0")/.."
-rt staticlib clash_c | tail -n 1
-rt staticlib catalogue_c | tail -n 1
-rt staticlib rehearsal_c | tail -n 1
+tools/build clash_c catalogue_c rehearsal_c
 mkdir -p target/bench
 cc -O2 -Iinclude bench/stack.c target/staticlib/lib{clash,catalogue,rehearsal}_c.a -lpthread -Wl,-z,now -o target/bench/stack
 paste <(target/bench/stack) <(target/bench/stack coded) <(target/bench/stack marked) <(target/bench/stack 8)

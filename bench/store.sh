@@ -2,5 +2,5 @@
 # bench/store.sh: measures the proved store beside a plain Rust one (bench/plain). Needs cargo on x86-64.
 set -eu
 cd "$(dirname "$0")/.."
-rt staticlib bench_sound | tail -n 1
+tools/build bench_sound
 cargo run --offline --release --quiet --manifest-path bench/store/Cargo.toml --target-dir target/bench/store

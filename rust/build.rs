@@ -89,21 +89,21 @@ fn build(root: &Path, name: &str) {
         say(&mut words, &format!("clash: another Rattle kit: found '{found}', and KIT names '{pinned}'. The kit found goes on."));
     }
     say(&mut words, &format!("clash: proving and building {archive}; about twenty minutes on two cores if nothing is proved yet"));
-    let said = prove(root, name, &mut words).unwrap_or_else(|e| panic!("`rt staticlib {name}` could not be run: {e}"));
+    let said = prove(root, name, &mut words).unwrap_or_else(|e| panic!("`tools/build {name}` could not be run: {e}"));
     if let Err(said) = said {
-        panic!("`rt staticlib {name}` failed:\n{said}");
+        panic!("`tools/build {name}` failed:\n{said}");
     }
     say(&mut words, &format!("clash: built {archive}"));
 }
 
-/// Runs the kit, and passes on its lines that a crate is proved as they come. Gives all that it said where it fails.
+/// Has the kit build an archive, and passes on its lines as they come. Gives all of them where it fails.
 fn prove(root: &Path, name: &str, words: &mut Option<File>) -> io::Result<Result<(), String>> {
-    let command = format!("exec rt staticlib {name} 2>&1");
+    let command = format!("exec tools/build {name} 2>&1");
     let mut rt = Command::new("sh").args(["-c", &command]).current_dir(root).stdout(Stdio::piped()).spawn()?;
     let mut said = String::new();
     for line in BufReader::new(rt.stdout.take().expect("piped")).lines() {
         let line = line?;
-        if line.contains(" proved (") && line.ends_with(" s)") {
+        if line.starts_with("rt: ") {
             say(words, &line);
         }
         said = said + &line + "\n";

@@ -11,9 +11,9 @@ use Rattle.prelude.proofs.Tests.{by-test, each}
 use Rattle.model.specs.Sizes as model
 use Rattle.model.specs.Sizes.{sizes_ok}
 use Rattle.model.specs.Policy.{policy_choice}
-use Rattle.model.specs.Calls.{Call, Page, Fits}
+use Rattle.model.specs.Calls.{Fits}
 use Rattle.model.specs.Formats.{store_format}
-use Rattle.model.specs.Shelf.{plainly, ShelfStore}
+use Rattle.model.specs.Shelf.{ShelfStore}
 use Rattle.model.proofs.Shelf.{sizes-stay}
 use Rattle.model.proofs.Soundness.{limits_of}
 use Rattle.print.specs.Print.{line_room, wear_room}
@@ -26,7 +26,7 @@ use Rattle.cache.specs.declared.Sizes.{Sizes}
 use Rattle.cache.specs.View.{sizes_of}
 use Rattle.store.specs.declared.Cache.{Cache}
 use Rattle.store.specs.View.{Lent, plain_lent, store_of}
-use Rattle.interpret.specs.declared.parts.Parts.{Parts}
+use Rattle.interpret.specs.declared.memory.Parts.{Parts}
 use Rattle.perform.specs.declared.Lined.{Lined}
 use Rattle.perform.specs.Effects.{Effect, opened, written, was_read, stepped, flushed}
 use Rattle.perform.specs.View.{Carries}

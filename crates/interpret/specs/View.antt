@@ -10,7 +10,7 @@ use Rattle.store.specs.View.{Lent, plain_lent}
 use Rattle.perform.specs.declared.Lined.{Lined}
 use Rattle.perform.specs.Effects.{Effect}
 use Rattle.perform.specs.View.{Carries}
-use Rattle.interpret.specs.declared.parts.Parts.{Parts}
+use Rattle.interpret.specs.declared.memory.Parts.{Parts}
 
 -- ---- the store's own buffers stand at the front of the program's memory
 

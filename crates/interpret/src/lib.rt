@@ -1,5 +1,7 @@
 // One line of a script, carried out on the program's store, and what it prints.
-mod parts; // parts.rt: the store's own buffers in the program's memory
+#![tactic(auto)]
+
+mod memory; // memory.rt: the store's own buffers in the program's memory
 
 ghost use Rattle.std.specs.Prelude.{◌≡◌};
 ghost use Rattle.script.specs.View.{meant};
@@ -33,7 +35,7 @@ pub fn line(
         result flash.new wear.new pspace.new bspace.new out.new }
 {
     let z = sizes_after(c.sizes, form);
-    let p = parts::lengths(z);
+    let p = memory::lengths(z);
     carry(
         c,
         form,

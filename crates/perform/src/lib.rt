@@ -1,4 +1,6 @@
 // Each form of a line carried out on the store's own buffers, and the line that it prints.
+#![tactic(auto)]
+
 pub mod memory; // memory.rt: what fills the memory lent before a call, and a first byte
 
 ghost use Rattle.std.specs.Prelude.{◌≡◌, ◌≤◌, length, true};
@@ -16,7 +18,7 @@ use cache::Sizes;
 use store::Cache;
 
 // The record after a line, and how many bytes are printed.
-#[derive(Drop)]
+#[derive(Clone, Copy)]
 pub struct Lined {
     pub cache: Cache,
     pub printed: usize,

@@ -63,7 +63,8 @@ pub read-line : (n way byte : ℕ)
 unfolding said tails
 read-line n way byte = four (lead "read" ++ decimal n) (32 ∷ field "way" way) (32 ∷ field "byte" byte) end ∙ numbered "read" (decimal n) _
 
-pub step_line_lem : (b m : ℕ) → (((40 ∷ bytes "step") ++ (32 ∷ field "block" b)) ++ (32 ∷ field "merged" m)) ++ end ≡ step_line (step_done b m)
+pub step_line_lem : (b m : ℕ) → (((40 ∷ bytes "step") ++ (32 ∷ field "block" b)) ++ (32 ∷ field "merged" m))
+    ++ end ≡ step_line (step_done b m)
 unfolding said tails
 step_line_lem b m = four (40 ∷ bytes "step") (32 ∷ field "block" b) (32 ∷ field "merged" m) end ∙ whole "step" _
 

@@ -1,4 +1,6 @@
 // What is printed, one bracketed form a line, into a lent buffer from `at` on. Each function gives the place after it.
+#![tactic(auto)]
+
 ghost use Rattle.std.specs.Prelude.{◌≡◌, [], ◌∷◌, ◌++◌, map, ◌+◌, ◌*◌, ◌≤◌, length};
 ghost use Rattle.model.specs.Sizes.{vacant};
 ghost use Rattle.model.specs.Calls.{open_done, read_done, write_done, step_done, step_clean, flush_done, refused};

@@ -9,7 +9,8 @@ use Rattle.prelude.proofs.Tests.{by-test}
 use Rattle.model.specs.Sizes.{Sizes}
 use Rattle.model.specs.Directory.{Directory}
 use Rattle.model.specs.Soundness.{sound}
-use Rattle.model.specs.Policy.{Choice, Plan, slot_hit, frame_hit, free_slot, join, fill, exchange, evict, in_slots, frame_with, read_way, plan}
+use Rattle.model.specs.Policy.{Choice, Plan, slot_hit, frame_hit, free_slot, join, fill, exchange, evict, in_slots, frame_with, read_way}
+use Rattle.model.specs.Policy.{plan}
 use Rattle.model.specs.Policy.{way_of, erased_by, is_worn}
 use Rattle.model.specs.Moves.{merged_by}
 use Rattle.model.specs.Calls.{is_refused, Call, read, write, State, state_of, Outcome, Store, Page, Format, told, lent_ok, checked}

@@ -11,7 +11,7 @@ use store::Cache;
 use tally::{Answered, Tallies};
 
 // The generator's state, each bench's last page, and the tallies.
-#[derive(Drop)]
+#[derive(Clone, Copy)]
 pub(crate) struct Class {
     pub state: u32,
     pub last: [u32; 16],
@@ -19,7 +19,7 @@ pub(crate) struct Class {
 }
 
 // The class and the cache record after a turn.
-#[derive(Drop)]
+#[derive(Clone, Copy)]
 pub(crate) struct Seat {
     pub class: Class,
     pub cache: Cache,

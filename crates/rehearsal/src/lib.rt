@@ -1,4 +1,6 @@
 // Rehearsing a class (request A13): benches served in turn by the plain LRU store, opened as the script program opens it.
+#![tactic(auto)]
+
 mod course; // course.rt: the turns of a class
 mod serve; // serve.rt: a bench's call on the store
 
@@ -18,7 +20,7 @@ use turns::Rates;
 // The settings of a rehearsal: the store's sizes and wear limit; 1 to 16 benches, 0 to 1,024 turns, the rates of writes and of runs, 0 to
 // 256 each, and the generator's starting state.
 #[repr(C)]
-#[derive(Drop)]
+#[derive(Clone, Copy)]
 pub struct Setting {
     pub page_size: u32,
     pub pages_per_block: u32,
@@ -91,7 +93,7 @@ impl Setting {
 }
 
 // What a rehearsal answers, and its tallies: all 0 where it is refused.
-#[derive(Drop)]
+#[derive(Clone, Copy)]
 pub struct Rehearsed {
     pub answer: Opening,
     pub tallies: Tallies,
@@ -128,7 +130,7 @@ pub fn rehearse(z: Setting) -> Rehearsed
 }
 
 // The lengths of the store's buffers and of the page buffer.
-#[derive(Drop)]
+#[derive(Clone, Copy)]
 struct Parts {
     flash: usize,
     wear: usize,
@@ -165,8 +167,9 @@ fn held(
     bspace: &mut [u8],
     page: &mut [u8],
 ) -> Tallies
-    requires z_value { setting_ok z ≡ true }
-    requires lengths { Lengths (store_sizes z) (length flash.old) (length wear.old) (length pspace.old) (length bspace.old) (length page.old) }
+    requires accepted { setting_ok z ≡ true }
+    requires lengths { Lengths (store_sizes z) (length flash.old) (length wear.old)
+        (length pspace.old) (length bspace.old) (length page.old) }
     ensures { result ≡ (rehearsed z z.turns (begun z)).class.tallies }
 {
     memory::fill(flash, 255);

@@ -11,7 +11,7 @@ use tally::Answered;
 use turns::Call;
 
 // The record after a bench's call, and what the call was answered.
-#[derive(Drop)]
+#[derive(Clone, Copy)]
 pub(crate) struct Served {
     pub cache: Cache,
     pub answered: Answered,

@@ -1,4 +1,6 @@
 // Lines that ask for rehearsals, and what is printed for them.
+#![tactic(auto)]
+
 mod parse; // parse.rt: what a line says
 
 ghost use Rattle.std.specs.Prelude.{◌≡◌, ◌+◌, ◌≤◌, ◌<◌, length, take, drop};
@@ -12,7 +14,7 @@ use rehearsal::Setting;
 use tally::Tallies;
 
 // What a line says.
-#[derive(Drop)]
+#[derive(Clone, Copy)]
 pub enum Line {
     Rehearse(Setting),
     // Any other line.
@@ -20,7 +22,7 @@ pub enum Line {
 }
 
 // The place of the next line, and how many bytes are printed.
-#[derive(Drop)]
+#[derive(Clone, Copy)]
 pub struct Done {
     pub next: usize,
     pub printed: usize,

@@ -1,4 +1,6 @@
 // The line of a call's answer, printed from the buffer's first byte on. Each function gives the bytes printed.
+#![tactic(auto)]
+
 ghost use Rattle.std.specs.Prelude.{◌≡◌, ◌≤◌, length};
 ghost use Rattle.answer.specs.Numbers.{refusal_of, opening_of, read_of, write_of, step_of, flush_of};
 ghost use Rattle.print.specs.Print.{Printed, line_room, open_line, write_line, read_line, step_line, flush_line};

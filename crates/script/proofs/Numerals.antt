@@ -52,7 +52,8 @@ decimal-large n h d =
       digit = λ i k. by-test (ltb i (length w))
           (λ t. rw (front i (ltb-true i (length w) t)) (d.digit i (ltb-true i (length w) t)))
           (λ t. let b = ltb-false i (length w) t in let z : length w ≡ i = omega arith in
-          rw (ap (λ (x : List ℕ). get_or x i 0) e ∙ get_or_at w (last_digit n) [] 0 i z) (digit-is (last_digit n) (omega arith) (omega arith)));
+          rw (ap (λ (x : List ℕ). get_or x i 0) e ∙ get_or_at w (last_digit n) [] 0 i z)
+          (digit-is (last_digit n) (omega arith) (omega arith)));
       some = omega arith;
       first = λ p q. d.first (omega arith) (sym (front 0 (omega arith)) ∙ q);
     }

@@ -89,7 +89,8 @@ module _ (w : List ℕ) where
 
   pub number-test : Number → is_number w ≡ true
   unfolding is_number
-  number-test n = every_of (leb 1 (length w) ∷ all (length w) (λ i. is_digit (get_or w i 0)) ∷ (eqb (length w) 1 || not (eqb (get_or w 0 0) 48))
+  number-test n = every_of
+      (leb 1 (length w) ∷ all (length w) (λ i. is_digit (get_or w i 0)) ∷ (eqb (length w) 1 || not (eqb (get_or w 0 0) 48))
       ∷ leb (value_of w) 4294967295 ∷ [])
       (le-leb 1 (length w) n.some, (all_of (length w) _ n.digit, (n.first, (le-leb (value_of w) 4294967295 n.small, tt))))
 

@@ -103,7 +103,8 @@ module _ (w : List ℕ) (count : ℕ) (v : List ℕ) where
   unfolding form_from
   from_step a b c d = rw (a, b, c, d)
 
-  pub from-flush : is_open_lem ≡ false → is_write ≡ false → is_read ≡ false → is_step ≡ false → is_flush ≡ true → form_from w count v ≡ flushes
+  pub from-flush : is_open_lem ≡ false → is_write ≡ false → is_read ≡ false → is_step ≡ false → is_flush ≡ true
+      → form_from w count v ≡ flushes
   unfolding form_from
   from-flush a b c d e = rw (a, b, c, d, e)
 

@@ -131,7 +131,8 @@ unfolding lines_of pieces
 lines_none l at h = rw (drop_of_length-le l h)
 
 -- the lines from `at` on: the one there, and those after it
-pub lines_from : (l : List ℕ) (at : ℕ) → at < length l → lines_of (drop at l) ≡ up_to 10 (drop at l) ∷ lines_of (drop (end_of 10 l at + 1) l)
+pub lines_from : (l : List ℕ) (at : ℕ) → at < length l
+    → lines_of (drop at l) ≡ up_to 10 (drop at l) ∷ lines_of (drop (end_of 10 l at + 1) l)
 unfolding lines_of
 lines_from l at h =
     let rest : after 10 [] l (end_of 10 l at) ≡ lines_of (drop (end_of 10 l at + 1) l) = by-test (ltb (end_of 10 l at) (length l))

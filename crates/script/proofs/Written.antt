@@ -17,7 +17,8 @@ use Rattle.model.specs.Sizes.{sizes_ok}
 use Rattle.print.specs.Text.{bytes, decimal, form, items}
 use Rattle.print.specs.Print.{spaced}
 use Rattle.script.specs.Forms.{Form, opens, writes, reads, steps, flushes, wears, bad, longer, pieces, words_of, is_digit, value_of}
-use Rattle.script.specs.Forms.{is_number, five, buffers_fit, opening, same, sizes_from, form_with, form_of_words, bracketed, inside, form_of}
+use Rattle.script.specs.Forms.{is_number, five, buffers_fit, opening, same, sizes_from, form_with, form_of_words, bracketed, inside}
+use Rattle.script.specs.Forms.{form_of}
 use Rattle.script.specs.Parts.{up_to, end_of, words_after}
 use Rattle.script.specs.Written.{numbers_of, written, Sayable}
 use Rattle.script.proofs.Words.{pieces-hit, pieces-miss, words_from}

@@ -1,4 +1,6 @@
 // The script program: what a line means, and a script walked line by line.
+#![tactic(auto)]
+
 pub mod reader;
 
 ghost use Rattle.std.specs.Prelude.{◌≡◌, ◌≤◌, length, take};
@@ -15,7 +17,7 @@ use cache::Sizes;
 const NONE: u64 = 4294967296;
 
 // What a line of a script says.
-#[derive(Drop)]
+#[derive(Clone, Copy)]
 pub enum Form {
     Open(Sizes),
     Write(PageNo, u8),
@@ -28,7 +30,7 @@ pub enum Form {
 }
 
 // The numbers after a line's word: at most eleven, and a count of 12 for anything else.
-#[derive(Drop)]
+#[derive(Clone, Copy)]
 pub struct Numbers {
     pub count: usize,
     pub values: [u32; 11],

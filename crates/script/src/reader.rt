@@ -5,7 +5,7 @@ ghost use Rattle.script.specs.Walk.{item_of, item_at};
 use crate::{Form, end_of, parse};
 
 // What stands at a place of a script: a line's form, the line's number and the place of the next line; or the end.
-#[derive(Drop)]
+#[derive(Clone, Copy)]
 pub enum Item {
     Line { form: Form, line: u32, next: usize },
     End,
@@ -25,7 +25,7 @@ pub fn item_at(src: &[u8], at: usize, line: u32) -> Item
 }
 
 // A script, the place of the next line in it and that line's number.
-#[derive(Drop)]
+#[derive(Clone, Copy)]
 pub struct Reader<'a> {
     pub src: &'a [u8],
     pub at: usize,

@@ -67,6 +67,8 @@ memory_kept h f w p b g = record {
   page-length = g ∙ h.page-length;
 }
 
+-- ---- no line, and several
+
 pub onward-none : (script : List ℕ) (w : Walk) (m : Lent) (out : List ℕ) → Ready script w out → Onward script w m out w m out
 onward-none script w m out h = record { output = refl; ready = h; from = omega arith }
 

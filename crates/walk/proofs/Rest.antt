@@ -84,7 +84,8 @@ module _ (w ns : List ℕ) where
   from-read = cond (same w (bytes "read") && eqb (length ns) 1) (reads (get_or ns 0 0)) from_step
 
   abbrev from-write : Form
-  from-write = cond (same w (bytes "write") && (eqb (length ns) 2 && leb (get_or ns 1 0) 255)) (writes (get_or ns 0 0) (get_or ns 1 0)) from-read
+  from-write = cond (same w (bytes "write") && (eqb (length ns) 2 && leb (get_or ns 1 0) 255))
+      (writes (get_or ns 0 0) (get_or ns 1 0)) from-read
 
   sized-read : Sized from-read
   sized-read = sized-cond (same w (bytes "read") && eqb (length ns) 1) (reads (get_or ns 0 0)) from_step tt
@@ -96,7 +97,8 @@ module _ (w ns : List ℕ) where
   unfolding form_with
   sized-with = sized-cond (same w (bytes "open") && eqb (length ns) 6) (opening (sizes_from ns)) from-write
       (sized-opening (sizes_from ns) refl refl refl)
-      (sized-cond (same w (bytes "write") && (eqb (length ns) 2 && leb (get_or ns 1 0) 255)) (writes (get_or ns 0 0) (get_or ns 1 0)) from-read
+      (sized-cond (same w (bytes "write") && (eqb (length ns) 2 && leb (get_or ns 1 0) 255))
+      (writes (get_or ns 0 0) (get_or ns 1 0)) from-read
       tt sized-read)
 
 sized-words : (ws : List (List ℕ)) → Sized (form_of_words ws)

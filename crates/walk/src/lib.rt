@@ -1,4 +1,6 @@
 // A whole script: its lines carried out one after the other, and its output printed into a lent buffer.
+#![tactic(auto)]
+
 ghost use Rattle.std.specs.Prelude.{◌≤◌, ◌<◌, length};
 ghost use Rattle.print.specs.Print.{wear_room};
 ghost use Rattle.store.specs.View.{plain_lent};
@@ -13,7 +15,7 @@ use store::Cache;
 pub const LINE_ROOM: usize = 45063;
 
 // The record after the lines so far, the place and the number of the next line, and how many bytes are printed.
-#[derive(Drop)]
+#[derive(Clone, Copy)]
 pub struct Walk {
     pub cache: Cache,
     pub at: usize,
@@ -57,11 +59,11 @@ pub fn run(
 ) -> Walk
     requires memory { Memory (plain_lent flash.old wear.old pspace.old bspace.old) page.old }
     requires ready { Ready script.now w out.old }
-    ensures fact { let u = plain_lent flash.old wear.old pspace.old bspace.old in
+    ensures onward { let u = plain_lent flash.old wear.old pspace.old bspace.old in
         let u' = plain_lent flash.new wear.new pspace.new bspace.new in
         Onward script.now w u out.old result u' out.new }
-    ensures at_lt_at { More script.now w out.old → w.at < result.at }
-    ensures fact_2 { More script.now result out.new → ⊥ }
+    ensures advances { More script.now w out.old → w.at < result.at }
+    ensures ended { More script.now result out.new → ⊥ }
 {
     let mut r = w;
     while (r.at < script.len()) & (LINE_ROOM <= out.len() - r.printed) {
@@ -84,10 +86,10 @@ fn advance(
     requires memory { Memory (plain_lent flash.old wear.old pspace.old bspace.old) page.old }
     requires ready { Ready script.now w out.old }
     requires more { More script.now w out.old }
-    ensures fact { let u = plain_lent flash.old wear.old pspace.old bspace.old in
+    ensures onward { let u = plain_lent flash.old wear.old pspace.old bspace.old in
         let u' = plain_lent flash.new wear.new pspace.new bspace.new in
         Onward script.now w u out.old result u' out.new }
-    ensures at_lt_at { w.at < result.at }
+    ensures advances { w.at < result.at }
 {
     let at = w.at;
     let number = w.number;

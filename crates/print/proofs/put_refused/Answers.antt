@@ -1,0 +1,13 @@
+use Prim.Native.Nat.{◌≤◌}
+use native.Mathlib.Omega.{arith}
+use lib.ListN.{length}
+use mathlib.Core.Path.{refl}
+use Rattle.print.specs.Text.{form, items}
+use Rattle.print.proofs.Put.{printed-then, printed-as}
+use Rattle.print.proofs.put_refused.Goals as goal
+
+pub returns : goal.returns
+unfolding form items
+returns c =
+    let h : c.args.at ≤ length c.args.out.now = omega (arith, c.requires) in
+    printed-as (omega arith) (refl) (printed-then h c.put_field-next.ensures c.put_bytes.ensures)

@@ -9,7 +9,6 @@ use Rattle.model.specs.Policy.{policy_choice}
 use Rattle.model.specs.Calls as calls
 use Rattle.model.specs.Calls.{Answer, refused, is_refused, Page}
 use Rattle.model.specs.Shelf.{plainly, ShelfStore, ShelfResult, store_call}
-use Rattle.cache.specs.declared.Sizes as sizes
 use Rattle.cache.specs.View.{sizes_of}
 use Rattle.chip.specs.Chip.{most_mends}
 use Rattle.answer.specs.declared.Refusal.{Refusal}

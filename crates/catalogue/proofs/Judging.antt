@@ -40,7 +40,6 @@ use Rattle.over.specs.Catalogue.{mends_from, turned_down, last_step, catalogue_c
 use Rattle.over.proofs.Checks.{by-check, not_stopped, asked-on, asked-off, fit-facts, enters_on, enters_off, sheets-pass, sheets-stop}
 use Rattle.over.proofs.Checks.{lowest-fault}
 use Rattle.sheets.specs.declared.roles.Caller.{Caller}
-use Rattle.sheets.specs.declared.verdict.Verdict as code
 use Rattle.sheets.specs.View.{sheets_of, caller_of, verdict_of}
 use Rattle.gather.specs.Gather.{Gatherable, fault_met_first, page_read, Gathered}
 use Rattle.catalogue.specs.declared.gate.Gate.{Gate}
@@ -222,7 +221,8 @@ module _ (cache : Cache) (u : Lent) (c : ℕ) (r : Ready (store_of cache u) c) w
 -- ---- once the checks have passed
 
 pub judged-rest : (cache : Cache) (u : Lent) (c : ℕ) (w : Caller) (op : Operation) (page : Page) → allowed (caller_of w).role op ≡ true
-    → (g : Gate) → gate_of g ≡ entering (store_of cache u) page (asking (sizes_fit (sizes_in (store_of cache u)) c) 1 passed) → gate_of g ≡ passed
+    → (g : Gate) → gate_of g ≡ entering (store_of cache u) page (asking (sizes_fit (sizes_in (store_of cache u)) c) 1 passed)
+    → gate_of g ≡ passed
     → (j : Judged) (m : List ℕ) → length m ≡ 256 → Decides (store_of cache u) c w op j m → Judges cache u c w op page j m
 judged-rest cache u c w op page may g h e (judgeds.Denied why) m l d = absurd d
 judged-rest cache u c w op page may g h e (judgeds.Stopped why) m l d = let k = gate_in cache u c w op page g h e in record {

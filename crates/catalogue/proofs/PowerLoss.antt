@@ -1,20 +1,14 @@
 -- Request A12 for the catalogue: from a judged call that is cut off to what it leaves.
 use mathlib.Core.Path.{◌≡◌, refl, sym, ap, ◌∙◌, subst}
-use mathlib.Core.Logic.{◌⊎◌, inl, inr}
-use mathlib.Core.List.{List}
+use mathlib.Core.Logic.{inl, inr}
 use Prim.Native.Nat.{ℕ, suc, ◌≤◌}
-use Rattle.model.specs.Sizes.{vacant}
-use Rattle.model.specs.Policy.{policy_choice}
-use Rattle.model.specs.Moves.{cell_at}
-use Rattle.model.specs.Calls.{Buffers, Cell, Page, refused, write, zero_page}
+use Rattle.model.specs.Calls.{Buffers, Cell, Page, write, zero_page}
 use Rattle.model.specs.Formats.{chip_for}
-use Rattle.model.specs.Shelf.{plainly, ShelfStore, store_call}
+use Rattle.model.specs.Shelf.{plainly, ShelfStore}
 use Rattle.model.specs.Cut.{Left}
 use Rattle.model.specs.CutCalls.{left_in}
 use Rattle.model.proofs.Cut.{cut-nothing}
 use Rattle.cache.specs.View.{sizes_of}
-use Rattle.answer.specs.declared.Refusal.{Refusal}
-use Rattle.answer.specs.Numbers.{refusal_of}
 use Rattle.store.specs.declared.Cache.{Cache}
 use Rattle.store.specs.View.{Lent, store_of}
 use Rattle.store.specs.PowerLoss.{CutContract, PowerLost}
@@ -27,9 +21,9 @@ use Rattle.sheets.specs.declared.roles.Caller.{Caller}
 use Rattle.sheets.specs.declared.verdict.Verdict as verdict
 use Rattle.sheets.specs.View.{verdict_of}
 use Rattle.catalogue.specs.View.{called, stepped}
-use Rattle.catalogue.specs.Histories.{Entry, look, list, read, add, replace, mark, cache_after, lent_after, out_of}
+use Rattle.catalogue.specs.Histories.{Entry, look, list, read, add, replace, mark, lent_after, out_of}
 use Rattle.catalogue.specs.Kinds.{PutKind}
-use Rattle.catalogue.specs.PowerLoss.{Nothing, CutVerdict, CutEntry, CutOff}
+use Rattle.catalogue.specs.PowerLoss.{CutVerdict, CutEntry, CutOff}
 
 -- another name of the verdict, or of the page
 pub verdict-is : (cache : Cache) (u : Lent) (ops : ℕ) (r : Cache) (u' : Buffers) (v w : verdict.Verdict) → v ≡ w

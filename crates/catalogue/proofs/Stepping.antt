@@ -195,6 +195,7 @@ module _ (s : ShelfStore) (n : ℕ) (y : Page) where
       (λ e. rw (e, checked) (λ h. clash refl h))
 
   pub wrote-answer : (x : Page) → record_ok s x ≡ true → buffers_ok s x ≡ true
-      → is_refused (store_call policy_choice s (plainly (write n y))).answer ≡ false → (store_call policy_choice s (plainly (write n y))).answer
+      → is_refused (store_call policy_choice s (plainly (write n y))).answer ≡ false
+      → (store_call policy_choice s (plainly (write n y))).answer
       ≡ write_done (way_of planned) (erased_by (directory_in s) planned) (merged_by (sizes_in s) (directory_in s) planned)
   wrote-answer x a b h = let k = called-says s x (write n y) a b h in k.1 ∙ wrote-checked k.0

@@ -3,7 +3,8 @@ use Rattle.std.specs.Prelude.{◌≡◌, true, cond, ◌&&◌, ◌||◌, List, �
 use Rattle.model.specs.Sizes.{Sizes, vacant}
 use Rattle.model.specs.Soundness.{sound}
 use Rattle.model.specs.Policy.{policy_choice}
-use Rattle.model.specs.Calls.{Answer, open_done, read_done, write_done, step_done, step_clean, flush_done, refused, Page, lent_ok, reads_page, sum}
+use Rattle.model.specs.Calls.{Answer, open_done, read_done, write_done, step_done, step_clean, flush_done, refused, Page, lent_ok}
+use Rattle.model.specs.Calls.{reads_page, sum}
 use Rattle.model.specs.Formats.{store_format}
 use Rattle.model.specs.Shelf.{shelf_ok, ShelfStore}
 use Rattle.chip.specs.Chip.{most_mends}

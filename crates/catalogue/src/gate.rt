@@ -14,7 +14,7 @@ use cache::{Sizes, VACANT};
 use sheets::verdict::Cause;
 use store::Cache;
 
-#[derive(Drop)]
+#[derive(Clone, Copy)]
 pub enum Gate {
     Passed,
     Denied(Cause),

@@ -13,7 +13,7 @@ use sheets::{roles, verdict};
 use store::Cache;
 
 // Turned down by the catalogue, turned down by the store, or decided by the sheets.
-#[derive(Drop)]
+#[derive(Clone, Copy)]
 pub enum Judged {
     Denied(Cause),
     Stopped(Refusal),

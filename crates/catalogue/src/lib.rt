@@ -1,6 +1,8 @@
 // A catalogue of runs above the page store (requests A9 to A11). Each call takes the store's record by value with the lent buffers, the
 // number of sheets, who calls and a page buffer; a call that can change the record hands back the next one beside its answer. A refused
 // call changes nothing.
+#![tactic(auto)]
+
 pub mod cut; // cut.rt: adding, replacing, marking, cut off after so many operations of the chip
 mod gate; // gate.rt: the checks before the sheets are read
 mod judge; // judge.rt: the sheets read, and what they decide
@@ -16,7 +18,7 @@ use store::Cache;
 
 // What a look answers: the sheet as the caller sees it, the current run and the mends; or why it is turned down, by the catalogue or by
 // the store.
-#[derive(Drop)]
+#[derive(Clone, Copy)]
 pub enum Looked {
     Shown {
         sheet: Sheet,
@@ -28,7 +30,7 @@ pub enum Looked {
 }
 
 // What a listing answers: the run at the position, and the mends.
-#[derive(Drop)]
+#[derive(Clone, Copy)]
 pub enum Listed {
     Run { run: u32, mends: u32 },
     Denied(Cause),
@@ -36,7 +38,7 @@ pub enum Listed {
 }
 
 // What a read of a run's page answers: as the store's read of that page does, with the whole call's mends.
-#[derive(Drop)]
+#[derive(Clone, Copy)]
 pub enum Fetched {
     As(answer::Read),
     Denied(Cause),
@@ -44,7 +46,7 @@ pub enum Fetched {
 }
 
 // What adding, replacing and marking answer: the run, and as the store's write of its sheet does, with the whole call's mends.
-#[derive(Drop)]
+#[derive(Clone, Copy)]
 pub enum Written {
     As { run: u32, answer: answer::Write },
     Denied(Cause),
@@ -52,14 +54,14 @@ pub enum Written {
 }
 
 // The record after a read, and its answer.
-#[derive(Drop)]
+#[derive(Clone, Copy)]
 pub struct ReadOut {
     pub cache: Cache,
     pub answer: Fetched,
 }
 
 // The record after adding, replacing or marking, and its answer.
-#[derive(Drop)]
+#[derive(Clone, Copy)]
 pub struct WriteOut {
     pub cache: Cache,
     pub answer: Written,

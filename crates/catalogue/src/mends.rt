@@ -40,7 +40,8 @@ pub(crate) fn left(m: &[u32], c: u32, k: u32, b: BlockNo, at: u32) -> u32
 // A read's answer with more mends.
 pub(crate) fn with_read(answer: Read, more: u32) -> Read
     requires { (mends_of_read answer ≤ most_mends) × (more ≤ 536870912) }
-    ensures { (read_of result ≡ read_of answer) × (mends_of_read result ≡ cond (is_refused (read_of answer)) 0 (mends_of_read answer + more)) }
+    ensures { (read_of result ≡ read_of answer)
+        × (mends_of_read result ≡ cond (is_refused (read_of answer)) 0 (mends_of_read answer + more)) }
 {
     match answer {
         Read::Done { way, mends } => {

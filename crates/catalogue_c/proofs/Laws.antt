@@ -1,6 +1,6 @@
--- Answers in numbers, and a call by its role's number.
-use mathlib.Core.Path.{◌≡◌, refl, sym, ap, ◌∙◌}
-use Prim.Native.Nat.{ℕ, zero, suc, ◌≤◌, ◌<◌}
+-- A call by its role's number, with its answer in numbers.
+use mathlib.Core.Path.{◌≡◌, sym, ap, ◌∙◌}
+use Prim.Native.Nat.{ℕ, ◌≤◌, ◌<◌}
 use native.Mathlib.Omega.{arith}
 use borrow.Author.Tests.{lt-ltb, le-ltb}
 use Rattle.model.specs.Sizes.{vacant}
@@ -8,7 +8,7 @@ use Rattle.model.specs.Calls.{refused, Page}
 use Rattle.store.specs.declared.Cache.{Cache}
 use Rattle.store.specs.View.{Lent, store_of}
 use Rattle.runs.specs.Roles as roles
-use Rattle.runs.specs.Roles.{trainee, tutor, examiner, Operation}
+use Rattle.runs.specs.Roles.{Operation}
 use Rattle.over.specs.Catalogue.{down, Out}
 use Rattle.sheets.specs.declared.roles.Caller.{Caller}
 use Rattle.sheets.specs.declared.Sheet.{Sheet}
@@ -28,16 +28,8 @@ use Rattle.model.specs.Policy.{policy_choice}
 use Rattle.over.specs.Catalogue.{catalogue_call}
 use Rattle.catalogue_c.specs.declared.RunSheet.{RunSheet}
 use Rattle.catalogue_c.specs.declared.RunAnswer.{RunAnswer}
-use Rattle.catalogue_c.specs.Numbers.{role_at, caller_at, called_by, sheet_numbers, plain_run, run_numbers, numbered}
-
--- roles
-pub role-0 : (n : ℕ) → n ≡ 0 → trainee ≡ role_at n
-unfolding role_at
-role-0 n e = sym (ap role_at e)
-
-pub role-1 : (n : ℕ) → n ≡ 1 → tutor ≡ role_at n
-unfolding role_at
-role-1 n e = sym (ap role_at e)
+use Rattle.callers.specs.Callers.{caller_at, called_by}
+use Rattle.catalogue_c.specs.Numbers.{sheet_numbers, plain_run, run_numbers, numbered}
 
 module _ (c : Cache) (u : Lent) (n role t : ℕ) (op : Operation) (page : Page) where
   -- another role
@@ -72,10 +64,3 @@ pub looked-numbers : (a : Looked) (sheet : Sheet) (q mends : ℕ) → a ≡ look
     → record { answer = x; run = sheet.run; current = q; sheet = y } ≡ run_numbers (look_says a) (look_mends a)
 looked-numbers a sheet q mends e x h y k = (λ i. record { answer = h i; run = sheet.run; current = q; sheet = k i })
     ∙ sym (ap (λ (z : Looked). run_numbers (look_says z) (look_mends z)) e)
-
--- the third role
-pub role-2_of : (n : ℕ) → (n ≡ 0 → ⊥) → (n ≡ 1 → ⊥) → examiner ≡ role_at n
-unfolding role_at
-role-2_of zero a b = absurd (a refl)
-role-2_of (suc zero) a b = absurd (b refl)
-role-2_of (suc (suc n)) a b = refl

@@ -1,35 +1,16 @@
--- The catalogue's calls in numbers: a role by its number, and an answer as C has it.
-use Rattle.std.specs.Prelude.{true, false, ℕ, zero, suc, ltb}
+-- The answers of the catalogue's calls in numbers, as C has them.
+use Rattle.std.specs.Prelude.{ℕ}
 use Rattle.model.specs.Sizes.{vacant}
-use Rattle.model.specs.Policy.{policy_choice}
-use Rattle.model.specs.Calls.{refused, Page}
+use Rattle.model.specs.Calls.{Page}
 use Rattle.model.specs.Shelf.{ShelfStore}
 use Rattle.replies.specs.declared.Answer.{Answer}
 use Rattle.replies.specs.Numbers.{accepted, numbers_of}
-use Rattle.store.specs.declared.Cache.{Cache}
 use Rattle.store.specs.View.{Lent, store_of}
 use Rattle.runs.specs.Sheet.{Sheet}
-use Rattle.runs.specs.Roles.{Role, trainee, tutor, examiner, Operation, Caller}
-use Rattle.over.specs.Catalogue.{Says, down, shown, listed, fetched, wrote, Out, turned_down, catalogue_call}
+use Rattle.over.specs.Catalogue.{Says, down, shown, listed, fetched, wrote, Out}
 use Rattle.catalogue_c.specs.declared.RunSheet.{RunSheet}
 use Rattle.catalogue_c.specs.declared.RunAnswer.{RunAnswer}
 use Rattle.catalogue_c.specs.declared.RunReply.{RunReply}
-
--- 0 trainee, 1 tutor, 2 examiner
-unfoldable pub role_at : ℕ → Role
-role_at zero = trainee
-role_at (suc zero) = tutor
-role_at (suc (suc n)) = examiner
-
-abbrev pub caller_at : ℕ → ℕ → Caller
-caller_at role number = record { role = role_at role; number = number }
-
--- the call of a catalogue by a role of this number; another number than 0, 1 and 2 is refused 12
-unfoldable pub called_by : Cache → Lent → ℕ → ℕ → ℕ → Operation → Page → Out
-called_by c u n role number op page = elim (ltb role 3) [
-  | false ↦ turned_down (store_of c u) page (refused 12 vacant)
-  | true ↦ catalogue_call policy_choice n (store_of c u) (record { caller = caller_at role number; operation = op; page = page })
-]
 
 abbrev pub sheet_numbers : Sheet → RunSheet
 sheet_numbers s = record {

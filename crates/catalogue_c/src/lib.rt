@@ -1,4 +1,6 @@
 // The catalogue of runs for C and Rust programs: the record and the answers cross by value, a slice as its pointer and its length.
+#![tactic(auto)]
+
 ghost use Rattle.std.specs.Prelude.{◌≡◌};
 ghost use Rattle.model.specs.Sizes.{vacant};
 ghost use Rattle.model.specs.Calls.{refused};
@@ -6,23 +8,24 @@ ghost use Rattle.answer.specs.Numbers.{refusal_of};
 ghost use Rattle.over.specs.Catalogue.{down};
 ghost use Rattle.replies.specs.Numbers.{accepted};
 ghost use Rattle.runs.specs.Roles as roles;
-ghost use Rattle.sheets.specs.View.{fields_of, caller_of, cause_of};
+ghost use Rattle.sheets.specs.View.{fields_of, cause_of};
 ghost use Rattle.store.specs.View.{lent};
 ghost use Rattle.catalogue.specs.View.{look_says, look_mends, list_says, list_mends, fetch_says, fetch_mends, write_says, write_mends};
-ghost use Rattle.catalogue_c.specs.Numbers.{caller_at, called_by, sheet_numbers, plain_run, run_numbers, reply_of, numbered};
+ghost use Rattle.callers.specs.Callers.{called_by};
+ghost use Rattle.catalogue_c.specs.Numbers.{sheet_numbers, plain_run, run_numbers, reply_of, numbered};
 
 use answer::{Read, Refusal};
 use cache::VACANT;
+use callers::caller;
 use catalogue::{Fetched, Listed, Looked, Written, look, read, write};
 use replies::Answer;
 use sheets::Sheet;
-use sheets::roles::{Caller, Role};
 use sheets::verdict::Cause;
 use store::Cache;
 
 // A sheet, as C has it.
 #[repr(C)]
-#[derive(Drop)]
+#[derive(Clone, Copy)]
 pub struct RunSheet {
     pub run: u32,
     pub trainee: u32,
@@ -36,7 +39,7 @@ pub struct RunSheet {
 // What a call answers: as the store's calls do, with refusals 9 to 13 too; the run that was listed, or that was to be written; of a look
 // the sheet as the caller sees it, and the current run. What a call does not answer is 0.
 #[repr(C)]
-#[derive(Drop)]
+#[derive(Clone, Copy)]
 pub struct RunAnswer {
     pub answer: Answer,
     pub run: u32,
@@ -46,7 +49,7 @@ pub struct RunAnswer {
 
 // The record after a call, and the call's answer.
 #[repr(C)]
-#[derive(Drop)]
+#[derive(Clone, Copy)]
 pub struct RunReply {
     pub cache: Cache,
     pub answer: RunAnswer,
@@ -202,22 +205,6 @@ fn of_written(a: Written) -> RunAnswer
         Written::Denied(why) => denied(why),
         Written::Stopped(why) => stopped(why),
     }
-}
-
-// Who calls: role 0 trainee, 1 tutor, any other examiner.
-pub fn caller(role: u32, number: u32) -> Caller
-    ensures { caller_of result ≡ caller_at role number }
-{
-    if role == 0 {
-        let who = Role::Trainee;
-        return Caller { role: who, number };
-    }
-    if role == 1 {
-        let who = Role::Tutor;
-        return Caller { role: who, number };
-    }
-    let who = Role::Examiner;
-    Caller { role: who, number }
 }
 
 // The sheet of a run as the caller sees it, and the current run.

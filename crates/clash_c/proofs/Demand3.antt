@@ -7,7 +7,8 @@ use native.Mathlib.Omega.{arith}
 use Rattle.model.specs.Sizes as model
 use Rattle.model.specs.Sizes.{vacant}
 use Rattle.model.specs.Policy.{policy_choice}
-use Rattle.model.specs.Calls.{Answer, read_done, write_done, step_done, step_clean, flush_done, is_refused, refused, Page, Outcome, flash_cells}
+use Rattle.model.specs.Calls.{Answer, read_done, write_done, step_done, step_clean, flush_done, is_refused, refused, Page, Outcome}
+use Rattle.model.specs.Calls.{flash_cells}
 use Rattle.model.specs.Calls.{open_done, page_seen}
 use Rattle.model.specs.Formats.{store_format, StoreNear}
 use Rattle.model.specs.Lists.{flipped, Borne}
@@ -228,7 +229,8 @@ module _ (sz : model.Sizes) where
       record {
         array-is = ap (λ (s : ShelfStore). (fed_with sz r₁ m (said_by sz r₁ m) s).reference.array) (sym store)
             ∙ ap (λ (o : Outcome). (fed_with sz r₁ m o x.store).reference.array) (sym says) ∙ b.array-is;
-        shows = subst (λ (s : ShelfStore). (fl cd : List ℕ) → Borne store_format StoreNear sz (fed_with sz r₁ m (said_by sz r₁ m) s).reference
+        shows = subst (λ (s : ShelfStore). (fl cd : List ℕ)
+            → Borne store_format StoreNear sz (fed_with sz r₁ m (said_by sz r₁ m) s).reference
             (flipped s.store fl cd).lent → (n : ℕ) → n < sz.N * sz.K
             → page_seen store_format (flipped s.store fl cd) n ≡ page_seen store_format (store_of c u).store n) store
             (subst (λ (o : Outcome). (fl cd : List ℕ) → Borne store_format StoreNear sz (fed_with sz r₁ m o x.store).reference

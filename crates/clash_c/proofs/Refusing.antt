@@ -23,6 +23,8 @@ number_same (flush_done r m) = refl
 number_same (refused n b) = refl
 
 -- a refused report in numbers
-pub refused-reply : (c : Cache) (a : Report) (why : Refusal) (said : Answer) → a ≡ reports.Refused why → said ≡ numbers_of (refusal_of why) 0
+pub refused-reply : (c : Cache) (a : Report) (why : Refusal) (said : Answer) → a ≡ reports.Refused why
+    → said ≡ numbers_of (refusal_of why) 0
     → record { cache = c; refusal = said.refusal; largest = 0; total = 0; spread = 0 } ≡ wear_reply c (reported_of a)
-refused-reply c a why said e s = rw e (λ i. wear_reply c (turned_down ((ap (λ (x : Answer). x.refusal) s ∙ number_same (refusal_of why)) i)))
+refused-reply c a why said e s =
+    rw e (λ i. wear_reply c (turned_down ((ap (λ (x : Answer). x.refusal) s ∙ number_same (refusal_of why)) i)))

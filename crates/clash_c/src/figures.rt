@@ -11,7 +11,7 @@ use store::Cache;
 // The record, as it was taken, and the figures. `refusal` is document 01's number, and 0 where the report is accepted; the figures of a
 // refused report are 0.
 #[repr(C)]
-#[derive(Drop)]
+#[derive(Clone, Copy)]
 pub struct WearReport {
     pub cache: Cache,
     pub refusal: u32,

@@ -1,4 +1,6 @@
 // The store for C and Rust programs: the record and the answers cross by value, a slice as its pointer and its length.
+#![tactic(auto)]
+
 mod figures; // figures.rt: the report of the wear
 
 ghost use Rattle.std.specs.Prelude.{◌≡◌};
@@ -14,7 +16,7 @@ use store::Cache;
 
 // The record after a call, and the call's answer.
 #[repr(C)]
-#[derive(Drop)]
+#[derive(Clone, Copy)]
 pub struct Reply {
     pub cache: Cache,
     pub answer: Answer,
@@ -22,7 +24,7 @@ pub struct Reply {
 
 // The sizes and the wear limit of an opening.
 #[repr(C)]
-#[derive(Drop)]
+#[derive(Clone, Copy)]
 pub struct PlainSizes {
     pub page_size: u32,
     pub pages_per_block: u32,
@@ -34,7 +36,7 @@ pub struct PlainSizes {
 
 // The options of an opening: policy, codes, shelf pages, marks.
 #[repr(C)]
-#[derive(Drop)]
+#[derive(Clone, Copy)]
 pub struct Options {
     pub policy: u32,
     pub coded: u32,

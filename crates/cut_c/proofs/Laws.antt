@@ -1,5 +1,5 @@
 -- A call of a catalogue by its role's number, cut off.
-use mathlib.Core.Path.{◌≡◌, refl, ap, subst}
+use mathlib.Core.Path.{◌≡◌, refl, subst}
 use mathlib.Core.Logic.{inl}
 use Prim.Native.Nat.{ℕ, ◌≤◌, ◌<◌}
 use native.Mathlib.Omega.{arith}
@@ -12,11 +12,11 @@ use Rattle.store.specs.declared.Cache.{Cache}
 use Rattle.store.specs.View.{Lent, cache_of, store_of}
 use Rattle.runs.specs.Roles as roles
 use Rattle.runs.specs.Roles.{Operation}
-use Rattle.over.specs.Catalogue.{Out, catalogue_call}
+use Rattle.over.specs.Catalogue.{catalogue_call}
 use Rattle.sheets.specs.declared.roles.Caller.{Caller}
 use Rattle.sheets.specs.View.{caller_of}
 use Rattle.catalogue.specs.PowerLoss.{CutAs, CutEntry}
-use Rattle.catalogue_c.specs.Numbers.{caller_at, called_by}
+use Rattle.callers.specs.Callers.{caller_at, called_by}
 
 module _ (c : Cache) (u : Lent) (n role t : ℕ) (op : Operation) (page : Page) (ops : ℕ) (r : Cache) where
   -- another role: nothing changes

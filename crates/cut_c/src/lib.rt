@@ -1,5 +1,7 @@
 // Calls that are cut off after so many operations of the chip (request A12), for C and Rust programs that test what a power loss leaves:
 // those of the store, and those of a catalogue of runs. Each hands back the blank record.
+#![tactic(auto)]
+
 ghost use Rattle.model.specs.Calls as calls;
 ghost use Rattle.model.specs.Shelf as model;
 ghost use Rattle.model.specs.Shelf.{plainly};
@@ -8,7 +10,7 @@ ghost use Rattle.runs.specs.Roles as roles;
 ghost use Rattle.store.specs.View.{lent};
 ghost use Rattle.store.specs.PowerLoss.{CutContract};
 ghost use Rattle.catalogue.specs.PowerLoss.{CutAs};
-ghost use Rattle.catalogue_c.specs.Numbers.{called_by};
+ghost use Rattle.callers.specs.Callers.{called_by};
 
 use address::PageNo;
 use catalogue::cut;
@@ -183,7 +185,7 @@ pub extern "C" fn clash_cut_run_add(
     if 2 < role {
         return Cache::blank();
     }
-    let w = catalogue_c::caller(role, trainee);
+    let w = callers::caller(role, trainee);
     cut::cut_add(
         c, flash, codes, marks, wear, pspace, bspace, shelf, sheets, w, sample, first, count, page,
         ops,
@@ -220,7 +222,7 @@ pub extern "C" fn clash_cut_run_replace(
     if 2 < role {
         return Cache::blank();
     }
-    let w = catalogue_c::caller(role, trainee);
+    let w = callers::caller(role, trainee);
     cut::cut_replace(
         c, flash, codes, marks, wear, pspace, bspace, shelf, sheets, w, run, sample, first, count,
         page, ops,
@@ -255,7 +257,7 @@ pub extern "C" fn clash_cut_run_mark(
     if 2 < role {
         return Cache::blank();
     }
-    let w = catalogue_c::caller(role, trainee);
+    let w = callers::caller(role, trainee);
     cut::cut_mark(
         c, flash, codes, marks, wear, pspace, bspace, shelf, sheets, w, run, grade, page, ops,
     )

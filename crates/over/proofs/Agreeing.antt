@@ -270,10 +270,10 @@ module _ (sz : Sizes) (limits : InLimits sz) (u : Buffers) (h_le : sz.shelf_page
         refused-seven n m e i = e (cc)
 
         -- a call that is turned down by this answer
-        abbrev heldBack : Answer → Listed
-        heldBack a = record { says = down a; reference = r; sheets = ss; page = q.page }
+        abbrev held_back : Answer → Listed
+        held_back a = record { says = down a; reference = r; sheets = ss; page = q.page }
 
-        turned : (n : ℕ) → (n ≡ 7 → ⊥) → Agreed (turned_down now q.page (refused n vacant)) (heldBack (refused n vacant))
+        turned : (n : ℕ) → (n ≡ 7 → ⊥) → Agreed (turned_down now q.page (refused n vacant)) (held_back (refused n vacant))
         turned n ne = record {
           answers = refl;
           buffer = refl;
@@ -377,9 +377,9 @@ module _ (sz : Sizes) (limits : InLimits sz) (u : Buffers) (h_le : sz.shelf_page
         out_by (outside a) = turned_down now q.page a
         out_by (decided v) = last_step pick c now q.page v
 
-        abbrev listBy : Out → Judged Answer → Listed
-        listBy out (outside a) = heldBack a
-        listBy out (decided v) = listed-as out v
+        abbrev list_by : Out → Judged Answer → Listed
+        list_by out (outside a) = held_back a
+        list_by out (decided v) = listed-as out v
 
         abbrev judges : List Sheet → Check Answer → Judged Answer
         judges l k = judged c (sz.N * sz.K) l q.caller q.operation k
@@ -392,13 +392,13 @@ module _ (sz : Sizes) (limits : InLimits sz) (u : Buffers) (h_le : sz.shelf_page
         call-out (outside a) e = rw (e, catalogue_call)
         call-out (decided v) e = rw (e, catalogue_call)
 
-        call-listed : (out : Out) (j : Judged Answer) → judges ss (told out) ≡ j → list_says sz pick c ss r q out ≡ listBy out j
+        call-listed : (out : Out) (j : Judged Answer) → judges ss (told out) ≡ j → list_says sz pick c ss r q out ≡ list_by out j
         unfolding list_call
         call-listed out (outside a) e = rw (e, list_call)
         call-listed out (decided v) e = rw (e, list_call)
 
         settled : (j : Judged Answer) → judges (stored now c) (outside_of now c q.page) ≡ j → judges ss (told (out_by j)) ≡ j
-            → Agreed (out_by j) (listBy (out_by j) j) → Agreed (catalogue_call pick c now q) (list_says sz pick c ss r q
+            → Agreed (out_by j) (list_by (out_by j) j) → Agreed (catalogue_call pick c now q) (list_says sz pick c ss r q
             (catalogue_call pick c now q))
         settled j e e' g = rw (call-out j e, call-listed (out_by j) j e') g
 

@@ -139,10 +139,10 @@ module _ (c : ℕ) (k : Cache) (l l' : Buffers) (es es' sb sb' : List ℕ) (q : 
 
       same-sheets : sheets_check one c ≡ sheets_check two c
       unfolding sheets_check lowest_refused fault_at
-      same-sheets = λ j. sheetsBy (λ i. same-fault i j)
+      same-sheets = λ j. sheets_by (λ i. same-fault i j)
         where
-          sheetsBy : (ℕ → ℕ) → Check Answer
-          sheetsBy f = elim (ltb (first c (λ i. not (eqb (fault_met k.sizes f (reads_page k.sizes k.directory i)) 0))) c) [
+          sheets_by : (ℕ → ℕ) → Check Answer
+          sheets_by f = elim (ltb (first c (λ i. not (eqb (fault_met k.sizes f (reads_page k.sizes k.directory i)) 0))) c) [
             | true ↦ stopped (refused (fault_met k.sizes f (reads_page k.sizes k.directory
                 (first c (λ i. not (eqb (fault_met k.sizes f (reads_page k.sizes k.directory i)) 0))))) vacant)
             | false ↦ passed

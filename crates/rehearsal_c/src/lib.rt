@@ -1,4 +1,6 @@
 // Rehearsals for C and Rust programs: settings and tallies cross by value.
+#![tactic(auto)]
+
 ghost use Rattle.std.specs.Prelude.{◌≡◌};
 ghost use Rattle.rehearsal.specs.Class.{rehearsal_of};
 ghost use Rattle.rehearsal_c.specs.Numbers.{in_numbers};
@@ -9,7 +11,7 @@ use tally::Tallies;
 // `refusal` is 0, or 1 where a setting is out of range or a buffer would need over 32,768 bytes; all tallies are 0 then. Entry 0 of the
 // reads and of the writes is 0: no call of a rehearsal goes by way 0.
 #[repr(C)]
-#[derive(Drop)]
+#[derive(Clone, Copy)]
 pub struct Rehearsal {
     pub refusal: u32,
     pub tallies: Tallies,

@@ -37,9 +37,11 @@ module _ (script : List ℕ) (w : Walk) (done : ℕ) (m : Lent) (page out : List
   split = o.output ∙ h.left
 
   -- what is printed is what the output has next
+  pub next_printed : take r.printed out' ≡ take r.printed (drop done (output_of script))
+  next_printed = sym (ap (take r.printed) (sym split) ∙ take_at (take r.printed out') after r.printed long)
+
   pub next : take r.printed out' ≡ take (length (take r.printed out')) (drop done (output_of script))
-  next = sym (ap (λ (k : ℕ). take k (drop done (output_of script))) long ∙ ap (take r.printed) (sym split)
-      ∙ take_at (take r.printed out') after r.printed long)
+  next = next_printed ∙ sym (ap (λ (k : ℕ). take k (drop done (output_of script))) long)
 
   counted : done + r.printed + length after ≡ length (output_of script)
   counted =

@@ -17,7 +17,7 @@ pub fn alike(a: &[u8], b: &[u8]) -> usize
 }
 
 // A line of a text: where it starts, and its number.
-#[derive(Drop)]
+#[derive(Clone, Copy)]
 pub struct Line {
     pub start: usize,
     pub number: u64,

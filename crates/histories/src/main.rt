@@ -1,84 +1,112 @@
 // Runs the histories of document 01 that are to be run, and says of each what was expected and what came out: scripts against
 // what they must print, and the calls on records with one entry spoilt, each entry in turn.
+#![tactic(auto)]
+
 mod compare;
 mod report;
 mod spoilt;
 
-ghost use Rattle.io.specs.Counts.{IsPrefixLen};
+ghost use Rattle.std.specs.Prelude.{◌≡◌, ◌≤◌, length, take, IfOk, OnErr, IfSome};
 
-fn main() {
-    report::heading(b"scripts");
-    scripts();
-    report::heading(b"script A against a wrong expectation");
-    check(b"script-a.in", b"wrong.out");
-    report::heading(b"calls on a sound record");
-    spoilt::none();
-    report::heading(b"records with an entry spoilt, by every call");
-    spoilt::entries();
-    report::heading(b"records with a size beyond its limits, by every call");
-    spoilt::sizes();
-    report::heading(b"records with an option, by every call");
-    spoilt::options();
+use std::env::FillError;
+use std::rt::{Env, Files};
+use std::{fs, io, str};
+
+fn main(rt: HostRuntime) -> io::Result<()> {
+    report::heading(&rt, b"scripts")?;
+    scripts(&rt)?;
+    report::heading(&rt, b"script A against a wrong expectation")?;
+    check(&rt, b"script-a.in", b"wrong.out")?;
+    report::heading(&rt, b"calls on a sound record")?;
+    spoilt::none(&rt)?;
+    report::heading(&rt, b"records with an entry spoilt, by every call")?;
+    spoilt::entries(&rt)?;
+    report::heading(&rt, b"records with a size beyond its limits, by every call")?;
+    spoilt::sizes(&rt)?;
+    report::heading(&rt, b"records with an option, by every call")?;
+    spoilt::options(&rt)
 }
 
 // The arguments name a script and what it must print, in turn.
-fn scripts() {
-    let pairs = os::arg_count() / 2;
-    let mut i = 0;
-    while i < pairs {
-        pair(2 * i + 1, 2 * i + 2);
-        i += 1;
+fn scripts(rt: &(impl Env + Files + Print)) -> io::Result<()> {
+    for i in 0..usize::MAX / 4 {
+        if !pair(rt, 2 * i + 1, 2 * i + 2)? {
+            return Ok(());
+        }
+    }
+    Ok(())
+}
+
+// The script that argument a names, against what argument b names. False where there is no argument a.
+fn pair(rt: &(impl Env + Files + Print), a: usize, b: usize) -> io::Result<bool> {
+    let mut script = [0u8; 4096];
+    let mut expected = [0u8; 4096];
+    let Some(n) = argument(rt, a, &mut script) else {
+        return Ok(false);
+    };
+    let m = argument(rt, b, &mut expected).unwrap_or(0);
+    check(rt, &script[..n], &expected[..m])?;
+    Ok(true)
+}
+
+// Puts an argument at the start of a buffer, where there is one. One that is longer than the buffer is taken as empty.
+fn argument(rt: &impl Env, i: usize, into: &mut [u8]) -> Option<usize>
+    ensures { IfSome result (λ n. (n ≤ length into.new) × (n ≡ length (take n into.new))) }
+{
+    match rt.arg(i, into) {
+        Ok(n) => Some(n),
+        Err(FillError::TooLong) => Some(0),
+        Err(FillError::NotPresent) => None,
     }
 }
 
-// The script that argument a names, against what argument b names.
-fn pair(a: usize, b: usize) {
-    let mut script = io::buffer();
-    let mut expected = io::buffer();
-    let n = os::arg(a, &mut script);
-    let m = os::arg(b, &mut expected);
-    check(&script[..n], &expected[..m]);
-}
-
 // Runs a script through the script library and compares what it prints with a file.
-fn check(name: &[u8], other: &[u8]) {
-    let mut script = io::large_buffer();
+fn check(rt: &(impl Files + Print), name: &[u8], other: &[u8]) -> io::Result<()> {
+    let mut script = [0u8; 65536];
     let mut expected = [0u8; 131072];
     let mut got = [0u8; 131072];
-    let s = load(name, &mut script);
-    let e = load(other, &mut expected);
+    let s = load(rt, name, &mut script)?;
+    let e = load(rt, other, &mut expected)?;
     if !(s.found & e.found) {
-        report::missing(name, other);
-        return;
+        return report::missing(rt, name, other);
     }
     let n = s.bytes;
     let m = e.bytes;
     let k = walk::output(&script[..n], &mut got);
-    report::compared(name, other, &expected[..m], &got[..k]);
+    report::compared(rt, name, other, &expected[..m], &got[..k])
 }
 
 // How many bytes of a file stand in a buffer.
-#[derive(Drop)]
+#[derive(Clone, Copy)]
 struct Loaded {
     found: bool,
     bytes: usize,
 }
 
-// Reads a file into a buffer.
-fn load(path: &[u8], into: &mut [u8]) -> Loaded
-    ensures { IsPrefixLen result.bytes into.new }
+// Reads a file into a buffer, where it can be opened. The buffer keeps its length, and where reading fails, other bytes may stand in it.
+fn load(rt: &impl Files, path: &[u8], into: &mut [u8]) -> io::Result<Loaded>
+    ensures ok { IfOk result (λ r. (r.bytes ≤ length into.new) × (r.bytes ≡ length (take r.bytes into.new))) }
+    ensures err { OnErr result (length into.new ≡ length into.old) }
 {
-    let fd = os::open_read(path);
-    if fd < 0 {
-        return Loaded {
+    match open(rt, path) {
+        None => Ok(Loaded {
             found: false,
             bytes: 0,
-        };
+        }),
+        Some(mut file) => {
+            let n = streams::read_full(&mut file, into)?;
+            Ok(Loaded {
+                found: true,
+                bytes: n,
+            })
+        }
     }
-    let n = io::read_full(fd, into);
-    libc::close(fd);
-    Loaded {
-        found: true,
-        bytes: n,
+}
+
+// Opens a file, where it can be. A name is UTF-8 text, as std takes it.
+fn open<R: Files>(rt: &R, path: &[u8]) -> Option<R::File> {
+    match str::from_utf8(path) {
+        Ok(name) => fs::open(rt, name).ok(),
+        Err(_) => None,
     }
 }

@@ -2,74 +2,66 @@
 ghost use Rattle.std.specs.Prelude.{◌≤◌, length};
 
 use crate::compare::{alike, line_of};
-use libc::STDOUT_FILENO;
+use std::io;
 
 // A line before the cases of one kind.
-pub fn heading(name: &[u8]) {
-    text(name);
-    text(b":\n");
+pub fn heading(rt: &impl Print, name: &[u8]) -> io::Result<()> {
+    rt.write_all(name)?;
+    println!(rt; ":")
 }
 
 // A script whose files are not there.
-pub fn missing(name: &[u8], other: &[u8]) {
-    text(name);
-    text(b": cannot read it, or ");
-    text(other);
-    text(b"\n");
+pub fn missing(rt: &impl Print, name: &[u8], other: &[u8]) -> io::Result<()> {
+    rt.write_all(name)?;
+    print!(rt; ": cannot read it, or ")?;
+    rt.write_all(other)?;
+    println!(rt; "")
 }
 
 // A script, the file with what it must print, and what it printed.
-pub fn compared(name: &[u8], other: &[u8], expected: &[u8], got: &[u8]) {
-    text(name);
+pub fn compared(
+    rt: &impl Print,
+    name: &[u8],
+    other: &[u8],
+    expected: &[u8],
+    got: &[u8],
+) -> io::Result<()> {
+    rt.write_all(name)?;
     let n = alike(expected, got);
     if (n == expected.len()) & (n == got.len()) {
-        text(b": passed, ");
-        io::print_decimal(STDOUT_FILENO, n as u64);
-        text(b" bytes as in ");
-        text(other);
-        text(b"\n");
-        return;
+        print!(rt; ": passed, {n} bytes as in ")?;
+        rt.write_all(other)?;
+        return println!(rt; "");
     }
-    text(b": DIFFERS from ");
-    text(other);
-    difference(expected, got, n);
+    print!(rt; ": DIFFERS from ")?;
+    rt.write_all(other)?;
+    difference(rt, expected, got, n)
 }
 
 // Where two texts differ, and the line of each there.
-fn difference(expected: &[u8], got: &[u8], at: usize)
+fn difference(rt: &impl Print, expected: &[u8], got: &[u8], at: usize) -> io::Result<()>
     requires { (at ≤ length expected.now) × (at ≤ length got.now) }
 {
     let l = line_of(expected, at);
     let start = l.start;
-    text(b" after ");
-    io::print_decimal(STDOUT_FILENO, at as u64);
-    text(b" bytes, in line ");
-    io::print_decimal(STDOUT_FILENO, l.number);
-    text(b": expected ");
-    line(expected, start);
-    text(b", got ");
-    line(got, start);
-    text(b"\n");
+    let number = l.number;
+    print!(rt; " after {at} bytes, in line {number}: expected ")?;
+    line(rt, expected, start)?;
+    print!(rt; ", got ")?;
+    line(rt, got, start)?;
+    println!(rt; "")
 }
 
 // The line that starts at a place.
-fn line(s: &[u8], at: usize)
+fn line(rt: &impl Print, s: &[u8], at: usize) -> io::Result<()>
     requires { at ≤ length s.now }
 {
     let e = script::end_of(s, at, b'\n');
-    text(&s[at..e]);
+    rt.write_all(&s[at..e])
 }
 
 // How many calls, or records, must be refused 4, with nothing changed, and how many were.
-pub fn tally(name: &[u8], expected: u64, got: u64) {
-    text(name);
-    text(b": expected ");
-    io::print_decimal(STDOUT_FILENO, expected);
-    text(b" refused, got ");
-    io::print_decimal(STDOUT_FILENO, got);
-    text(b"\n");
-}
-
-fn text(bytes: &[u8]) {
-    io::write_all(STDOUT_FILENO, bytes);
+pub fn tally(rt: &impl Print, name: &[u8], expected: u64, got: u64) -> io::Result<()> {
+    rt.write_all(name)?;
+    println!(rt; ": expected {expected} refused, got {got}")
 }

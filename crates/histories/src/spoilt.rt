@@ -2,6 +2,7 @@
 use crate::report;
 use cache::{Directory, Sizes, VACANT};
 use records::{Entry, filled, with};
+use std::io;
 use store::Cache;
 
 // A sound record of S = 1, K = 4, N = 8, P = 3, B = 2, W = 9: pages 24 to 26 in its slots, all pages of blocks 0 and 1 in its
@@ -16,10 +17,10 @@ fn sound() -> Cache {
 }
 
 // The calls on the sound record, and on it under the two other policies.
-pub fn none() {
-    report::tally(b"as it is", 0, refuses::calls(sound()));
-    report::tally(b"under FIFO", 0, refuses::calls(under(1)));
-    report::tally(b"under LFU", 0, refuses::calls(under(2)));
+pub fn none(rt: &impl Print) -> io::Result<()> {
+    report::tally(rt, b"as it is", 0, refuses::calls(sound()))?;
+    report::tally(rt, b"under FIFO", 0, refuses::calls(under(1)))?;
+    report::tally(rt, b"under LFU", 0, refuses::calls(under(2)))
 }
 
 // The sound record under a policy.
@@ -34,126 +35,167 @@ fn under(policy: u32) -> Cache {
 }
 
 // Each entry of the sound record spoilt alone.
-pub fn entries() {
-    slots();
-    frames();
-    order();
-    uses();
-    past();
-    shelf();
+pub fn entries(rt: &impl Print) -> io::Result<()> {
+    slots(rt)?;
+    frames(rt)?;
+    order(rt)?;
+    uses(rt)?;
+    past(rt)?;
+    shelf(rt)
 }
 
-fn slots() {
-    each(b"page 24, in slot 0, again", 1, 3, Entry::Slot(24), 2);
-    each(b"page 0, valid in frame 0", 0, 3, Entry::Slot(0), 3);
-    each(b"page N * K", 0, 3, Entry::Slot(32), 3);
-    each(b"page vacant less 1", 0, 3, Entry::Slot(4294967294), 3);
+fn slots(rt: &impl Print) -> io::Result<()> {
+    each(rt, b"page 24, in slot 0, again", 1, 3, Entry::Slot(24), 2)?;
+    each(rt, b"page 0, valid in frame 0", 0, 3, Entry::Slot(0), 3)?;
+    each(rt, b"page N * K", 0, 3, Entry::Slot(32), 3)?;
+    each(rt, b"page vacant less 1", 0, 3, Entry::Slot(4294967294), 3)
 }
 
-fn frames() {
-    each(b"block 0, in frame 0, again", 1, 2, Entry::Frame(0), 1);
-    each(b"block 6, of pages in slots", 0, 2, Entry::Frame(6), 2);
-    each(b"block N", 0, 2, Entry::Frame(8), 2);
-    each(b"vacant with valid pages", 0, 2, Entry::Frame(VACANT), 2);
-    each(b"no valid page", 0, 2, Entry::Valid(0), 2);
-    each(b"valid bit at K", 0, 2, Entry::Valid(17), 2);
+fn frames(rt: &impl Print) -> io::Result<()> {
+    each(rt, b"block 0, in frame 0, again", 1, 2, Entry::Frame(0), 1)?;
+    each(rt, b"block 6, of pages in slots", 0, 2, Entry::Frame(6), 2)?;
+    each(rt, b"block N", 0, 2, Entry::Frame(8), 2)?;
     each(
+        rt,
+        b"vacant with valid pages",
+        0,
+        2,
+        Entry::Frame(VACANT),
+        2,
+    )?;
+    each(rt, b"no valid page", 0, 2, Entry::Valid(0), 2)?;
+    each(rt, b"valid bit at K", 0, 2, Entry::Valid(17), 2)?;
+    each(
+        rt,
         b"valid bit at 63",
         0,
         2,
         Entry::Valid(9223372036854775809),
         2,
-    );
+    )
 }
 
-fn order() {
-    each(b"frame 0 again in the order", 1, 2, Entry::Order(0), 1);
-    each(b"frame B in the order", 0, 2, Entry::Order(2), 2);
-    each(b"frame 255 in the order", 0, 2, Entry::Order(255), 2);
+fn order(rt: &impl Print) -> io::Result<()> {
+    each(rt, b"frame 0 again in the order", 1, 2, Entry::Order(0), 1)?;
+    each(rt, b"frame B in the order", 0, 2, Entry::Order(2), 2)?;
+    each(rt, b"frame 255 in the order", 0, 2, Entry::Order(255), 2)
 }
 
-fn uses() {
-    each(b"an occupied frame with no use", 0, 2, Entry::Uses(0), 2);
-    each(b"a use past B", 2, 8, Entry::Uses(1), 6);
-    each(b"4294967295 uses past B", 2, 8, Entry::Uses(4294967295), 6);
+fn uses(rt: &impl Print) -> io::Result<()> {
+    each(
+        rt,
+        b"an occupied frame with no use",
+        0,
+        2,
+        Entry::Uses(0),
+        2,
+    )?;
+    each(rt, b"a use past B", 2, 8, Entry::Uses(1), 6)?;
+    each(
+        rt,
+        b"4294967295 uses past B",
+        2,
+        8,
+        Entry::Uses(4294967295),
+        6,
+    )
 }
 
-fn past() {
-    each(b"a page past P", 3, 128, Entry::Slot(30), 125);
-    each(b"a block past B", 2, 8, Entry::Frame(5), 6);
-    each(b"a valid page past B", 2, 8, Entry::Valid(1), 6);
-    each(b"another frame past B", 2, 8, Entry::Order(0), 6);
+fn past(rt: &impl Print) -> io::Result<()> {
+    each(rt, b"a page past P", 3, 128, Entry::Slot(30), 125)?;
+    each(rt, b"a block past B", 2, 8, Entry::Frame(5), 6)?;
+    each(rt, b"a valid page past B", 2, 8, Entry::Valid(1), 6)?;
+    each(rt, b"another frame past B", 2, 8, Entry::Order(0), 6)
 }
 
 // Each size short of its limit, and past it.
-pub fn sizes() {
-    sized(b"page of 0 bytes", 0, 4, 8, 3, 2, 9);
-    sized(b"page of 2049 bytes", 2049, 4, 8, 3, 2, 9);
-    sized(b"block of 1 page", 1, 1, 8, 3, 2, 9);
-    sized(b"block of 65 pages", 1, 65, 8, 3, 2, 9);
-    sized(b"0 blocks", 1, 4, 0, 3, 2, 9);
-    sized(b"4097 blocks", 1, 4, 4097, 3, 2, 9);
-    sized(b"0 slots", 1, 4, 8, 0, 2, 9);
-    sized(b"129 slots", 1, 4, 8, 129, 2, 9);
-    sized(b"0 frames", 1, 4, 8, 3, 0, 9);
-    sized(b"9 frames", 1, 4, 8, 3, 9, 9);
-    sized(b"wear limit 0", 1, 4, 8, 3, 2, 0);
-    sized(b"wear limit 1000001", 1, 4, 8, 3, 2, 1000001);
+pub fn sizes(rt: &impl Print) -> io::Result<()> {
+    sized(rt, b"page of 0 bytes", 0, 4, 8, 3, 2, 9)?;
+    sized(rt, b"page of 2049 bytes", 2049, 4, 8, 3, 2, 9)?;
+    sized(rt, b"block of 1 page", 1, 1, 8, 3, 2, 9)?;
+    sized(rt, b"block of 65 pages", 1, 65, 8, 3, 2, 9)?;
+    sized(rt, b"0 blocks", 1, 4, 0, 3, 2, 9)?;
+    sized(rt, b"4097 blocks", 1, 4, 4097, 3, 2, 9)?;
+    sized(rt, b"0 slots", 1, 4, 8, 0, 2, 9)?;
+    sized(rt, b"129 slots", 1, 4, 8, 129, 2, 9)?;
+    sized(rt, b"0 frames", 1, 4, 8, 3, 0, 9)?;
+    sized(rt, b"9 frames", 1, 4, 8, 3, 9, 9)?;
+    sized(rt, b"wear limit 0", 1, 4, 8, 3, 2, 0)?;
+    sized(rt, b"wear limit 1000001", 1, 4, 8, 3, 2, 1000001)
 }
 
 // A vacant record of these sizes.
-fn sized(name: &[u8], s: u32, k: u32, n: u32, p: u32, b: u32, w: u32) {
-    vacant(name, records::sizes(s, k, n, p, b, w));
+fn sized(
+    rt: &impl Print,
+    name: &[u8],
+    s: u32,
+    k: u32,
+    n: u32,
+    p: u32,
+    b: u32,
+    w: u32,
+) -> io::Result<()> {
+    vacant(rt, name, records::sizes(s, k, n, p, b, w))
 }
 
 // A number that is no policy, and each other option.
-pub fn options() {
-    opted(b"policy 3", 3, 0, 0, 0);
-    opted(b"policy 4294967295", 4294967295, 0, 0, 0);
-    opted(b"coded 1", 0, 1, 0, 0);
-    opted(b"coded 2", 0, 2, 0, 0);
-    opted(b"9 shelf pages", 0, 0, 9, 0);
-    opted(b"4294967295 shelf pages", 0, 0, 4294967295, 0);
-    opted(b"marked 2", 0, 0, 0, 2);
-    opted(b"marked 4294967295", 0, 0, 0, 4294967295);
+pub fn options(rt: &impl Print) -> io::Result<()> {
+    opted(rt, b"policy 3", 3, 0, 0, 0)?;
+    opted(rt, b"policy 4294967295", 4294967295, 0, 0, 0)?;
+    opted(rt, b"coded 1", 0, 1, 0, 0)?;
+    opted(rt, b"coded 2", 0, 2, 0, 0)?;
+    opted(rt, b"9 shelf pages", 0, 0, 9, 0)?;
+    opted(rt, b"4294967295 shelf pages", 0, 0, 4294967295, 0)?;
+    opted(rt, b"marked 2", 0, 0, 0, 2)?;
+    opted(rt, b"marked 4294967295", 0, 0, 0, 4294967295)
 }
 
 // A vacant record with these options.
-fn opted(name: &[u8], policy: u32, coded: u32, shelf_pages: u32, marked: u32) {
+fn opted(
+    rt: &impl Print,
+    name: &[u8],
+    policy: u32,
+    coded: u32,
+    shelf_pages: u32,
+    marked: u32,
+) -> io::Result<()> {
     let s = records::sizes(1, 4, 8, 3, 2, 9);
     vacant(
+        rt,
         name,
         records::with_options(s, policy, coded, shelf_pages, marked),
-    );
+    )
 }
 
 // A vacant record of these sizes and options.
-fn vacant(name: &[u8], s: Sizes) {
+fn vacant(rt: &impl Print, name: &[u8], s: Sizes) -> io::Result<()> {
     let c = Cache {
         sizes: s,
         entries: [VACANT; 8],
         directory: Directory::vacant(),
     };
-    report::tally(name, 1, refuses::every_call(c));
+    report::tally(rt, name, 1, refuses::every_call(c))
 }
 
 // Each shelf entry alone in use, without shelf pages and with 2 of them, where the first may be; and the first ones in use, as many as
 // there are shelf pages and more.
-fn shelf() {
-    report::tally(b"page 0 on the shelf", 8, shelved(0, 0));
+fn shelf(rt: &impl Print) -> io::Result<()> {
+    report::tally(rt, b"page 0 on the shelf", 8, shelved(0, 0))?;
     report::tally(
+        rt,
         b"page vacant less 1 on the shelf",
         8,
         shelved(0, 4294967294),
-    );
-    report::tally(b"page 0 behind a vacant entry", 7, shelved(2, 0));
-    report::tally(b"page 32 on a shelf of 2 pages", 8, shelved(2, 32));
+    )?;
+    report::tally(rt, b"page 0 behind a vacant entry", 7, shelved(2, 0))?;
+    report::tally(rt, b"page 32 on a shelf of 2 pages", 8, shelved(2, 32))?;
     report::tally(
+        rt,
         b"page vacant less 1 on a shelf of 2 pages",
         8,
         shelved(2, 4294967294),
-    );
-    report::tally(b"more entries than 2 shelf pages", 6, crowded(2));
+    )?;
+    report::tally(rt, b"more entries than 2 shelf pages", 6, crowded(2))
 }
 
 // The sound record with so many shelf pages.
@@ -195,8 +237,15 @@ fn shelved(pages: u32, n: u32) -> u64 {
 }
 
 // The entries from one index to another, each alone replaced by x.
-fn each(name: &[u8], from: usize, to: usize, x: Entry, expected: u64) {
-    report::tally(name, expected, spoilt(from, to, x));
+fn each(
+    rt: &impl Print,
+    name: &[u8],
+    from: usize,
+    to: usize,
+    x: Entry,
+    expected: u64,
+) -> io::Result<()> {
+    report::tally(rt, name, expected, spoilt(from, to, x))
 }
 
 // How many of these records every call refuses.

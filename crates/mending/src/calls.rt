@@ -1,10 +1,11 @@
 // One call of a history, and its line.
 use crate::report;
 use address::PageNo;
+use std::io;
 use store::Cache;
 
 // What is called, and of which page.
-#[derive(Drop)]
+#[derive(Clone, Copy)]
 pub enum Call {
     Read(u32),
     // the page is filled with 40 and its number
@@ -32,6 +33,7 @@ pub fn call_of(letter: u8, digit: u8) -> Call {
 
 // Makes the call, and says what it answers and what is in the page buffer then, which has bytes 7 at first.
 pub fn make(
+    rt: &impl Print,
     c: Cache,
     call: Call,
     flash: &mut [u8],
@@ -39,18 +41,19 @@ pub fn make(
     wear: &mut [u32],
     pspace: &mut [u8],
     bspace: &mut [u8],
-) -> Cache {
+) -> io::Result<Cache> {
     match call {
-        Call::Read(n) => read(c, n, flash, codes, wear, pspace, bspace),
-        Call::Write(n) => write(c, n, flash, codes, wear, pspace, bspace),
-        Call::Part(n) => part(c, n, b"\x09", flash, codes, wear, pspace, bspace),
-        Call::Nothing(n) => part(c, n, b"", flash, codes, wear, pspace, bspace),
-        Call::Step => step(c, flash, codes, wear, pspace, bspace),
-        Call::Flush => flush(c, flash, codes, wear, pspace, bspace),
+        Call::Read(n) => read(rt, c, n, flash, codes, wear, pspace, bspace),
+        Call::Write(n) => write(rt, c, n, flash, codes, wear, pspace, bspace),
+        Call::Part(n) => part(rt, c, n, b"\x09", flash, codes, wear, pspace, bspace),
+        Call::Nothing(n) => part(rt, c, n, b"", flash, codes, wear, pspace, bspace),
+        Call::Step => step(rt, c, flash, codes, wear, pspace, bspace),
+        Call::Flush => flush(rt, c, flash, codes, wear, pspace, bspace),
     }
 }
 
 fn read(
+    rt: &impl Print,
     c: Cache,
     n: u32,
     flash: &[u8],
@@ -58,7 +61,7 @@ fn read(
     wear: &[u32],
     pspace: &[u8],
     bspace: &[u8],
-) -> Cache {
+) -> io::Result<Cache> {
     let none = [0u8; 0];
     let mut page = [7u8; 256];
     let r = c.read(
@@ -74,12 +77,13 @@ fn read(
     );
     let next = r.cache;
     let answer = r.answer;
-    report::answer(b"read", n, replies::of_read(answer));
-    report::page(&page);
-    next
+    report::answer(rt, b"read", n, replies::of_read(answer))?;
+    report::page(rt, &page)?;
+    Ok(next)
 }
 
 fn write(
+    rt: &impl Print,
     c: Cache,
     n: u32,
     flash: &mut [u8],
@@ -87,7 +91,7 @@ fn write(
     wear: &mut [u32],
     pspace: &mut [u8],
     bspace: &mut [u8],
-) -> Cache {
+) -> io::Result<Cache> {
     let mut none = [0u8; 0];
     let mut shelf = [0u8; 0];
     let b = (40 + n % 8) as u8;
@@ -105,12 +109,13 @@ fn write(
     );
     let next = r.cache;
     let answer = r.answer;
-    report::answer(b"write", n, replies::of_write(answer));
-    report::page(&page);
-    next
+    report::answer(rt, b"write", n, replies::of_write(answer))?;
+    report::page(rt, &page)?;
+    Ok(next)
 }
 
 fn part(
+    rt: &impl Print,
     c: Cache,
     n: u32,
     bytes: &[u8],
@@ -119,7 +124,7 @@ fn part(
     wear: &mut [u32],
     pspace: &mut [u8],
     bspace: &mut [u8],
-) -> Cache {
+) -> io::Result<Cache> {
     let mut none = [0u8; 0];
     let mut shelf = [0u8; 0];
     let mut page = [7u8; 256];
@@ -138,43 +143,45 @@ fn part(
     );
     let next = r.cache;
     let answer = r.answer;
-    report::answer(b"part", n, replies::of_write(answer));
-    report::page(&page);
-    next
+    report::answer(rt, b"part", n, replies::of_write(answer))?;
+    report::page(rt, &page)?;
+    Ok(next)
 }
 
 fn step(
+    rt: &impl Print,
     c: Cache,
     flash: &mut [u8],
     codes: &mut [u8],
     wear: &mut [u32],
     pspace: &[u8],
     bspace: &mut [u8],
-) -> Cache {
+) -> io::Result<Cache> {
     let mut none = [0u8; 0];
     let shelf = [0u8; 0];
     let r = c.flush_step(flash, codes, &mut none, wear, pspace, bspace, &shelf);
     let next = r.cache;
     let answer = r.answer;
-    report::answer(b"step", 0, replies::of_step(answer));
-    report::end();
-    next
+    report::answer(rt, b"step", 0, replies::of_step(answer))?;
+    report::end(rt)?;
+    Ok(next)
 }
 
 fn flush(
+    rt: &impl Print,
     c: Cache,
     flash: &mut [u8],
     codes: &mut [u8],
     wear: &mut [u32],
     pspace: &[u8],
     bspace: &mut [u8],
-) -> Cache {
+) -> io::Result<Cache> {
     let mut none = [0u8; 0];
     let shelf = [0u8; 0];
     let r = c.flush(flash, codes, &mut none, wear, pspace, bspace, &shelf);
     let next = r.cache;
     let answer = r.answer;
-    report::answer(b"flush", 0, replies::of_flush(answer));
-    report::end();
-    next
+    report::answer(rt, b"flush", 0, replies::of_flush(answer))?;
+    report::end(rt)?;
+    Ok(next)
 }

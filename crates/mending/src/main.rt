@@ -1,29 +1,37 @@
 // Runs histories of a coded store in which bits have flipped, and says what each call answers, what is in the page buffer then, and what
 // stands in flash at the end. What must come out is worked out by another program from the words of requests A6 and A7 (tools/coded-rows).
+#![tactic(auto)]
+
 mod calls; // calls.rt: one call, and its line
 mod report; // report.rt: the lines
 
 ghost use Rattle.std.specs.Prelude.{◌≤◌, length};
 
 use cache::Sizes;
+use std::io;
 use store::Cache;
 
-fn main() {
-    history(b"reads", 0, b"r0 r1 r2 r3 r4 r5 ");
-    history(b"way 7 mends", 0, b"w0 w5 w2 r1 ");
-    history(b"a page counts once", 0, b"w0 w5 p1 p3 ");
-    history(b"two pages count", 0, b"w0 w5 p3 ");
-    history(b"page 4 is unreadable", 0, b"w5 s  w1 w0 f  p4 n4 w4 f  ");
-    history(b"its block is worn", 9, b"w5 s  w0 w2 f  ");
-    history(b"a flush mends", 0, b"w0 w2 f  f  ");
+fn main(rt: HostRuntime) -> io::Result<()> {
+    history(&rt, b"reads", 0, b"r0 r1 r2 r3 r4 r5 ")?;
+    history(&rt, b"way 7 mends", 0, b"w0 w5 w2 r1 ")?;
+    history(&rt, b"a page counts once", 0, b"w0 w5 p1 p3 ")?;
+    history(&rt, b"two pages count", 0, b"w0 w5 p3 ")?;
+    history(
+        &rt,
+        b"page 4 is unreadable",
+        0,
+        b"w5 s  w1 w0 f  p4 n4 w4 f  ",
+    )?;
+    history(&rt, b"its block is worn", 9, b"w5 s  w0 w2 f  ")?;
+    history(&rt, b"a flush mends", 0, b"w0 w2 f  f  ")
 }
 
 // Opens a store of 3 blocks of 2 pages of 256 bytes, with one slot and one frame, and makes the calls of a history: three bytes each, of
 // which the first says what is called, and the second is the page number.
-fn history(name: &[u8], worn: u32, text: &[u8])
+fn history(rt: &impl Print, name: &[u8], worn: u32, text: &[u8]) -> io::Result<()>
     requires { length text.now ≤ 99 }
 {
-    report::heading(name);
+    report::heading(rt, name)?;
     let mut flash = flipped();
     let mut codes = [255u8; 18];
     codes[3] = 166;
@@ -52,6 +60,7 @@ fn history(name: &[u8], worn: u32, text: &[u8])
         let at = 3 * i;
         let call = calls::call_of(text[at], text[at + 1]);
         c = calls::make(
+            rt,
             c,
             call,
             &mut flash,
@@ -59,12 +68,12 @@ fn history(name: &[u8], worn: u32, text: &[u8])
             &mut wear,
             &mut pspace,
             &mut bspace,
-        );
+        )?;
         i += 1;
     }
-    report::flash(&flash);
-    report::codes(&codes);
-    report::wear(&wear);
+    report::flash(rt, &flash)?;
+    report::codes(rt, &codes)?;
+    report::wear(rt, &wear)
 }
 
 // Pages of one byte each, but for a bit of page 1. A data bit of page 1 is flipped, and two of page 4; the code of page 3 has one.

@@ -1,104 +1,84 @@
 // The lines that the program writes.
 ghost use Rattle.std.specs.Prelude.{◌≡◌, length};
 
-use libc::STDOUT_FILENO;
 use replies::Answer;
+use std::io;
 
 // A line before a history.
-pub fn heading(name: &[u8]) {
-    text(name);
-    text(b":\n");
+pub fn heading(rt: &impl Print, name: &[u8]) -> io::Result<()> {
+    rt.write_all(name)?;
+    println!(rt; ":")
 }
 
 // What a call answers.
-pub fn answer(name: &[u8], n: u32, a: Answer) {
-    text(name);
-    number(n);
-    text(b": refusal");
-    number(a.refusal);
-    text(b", way");
-    number(a.way);
-    text(b", block");
-    number(a.block);
-    text(b", rewrites");
-    number(a.rewrites);
-    text(b", merged");
-    number(a.merged);
-    text(b", mended");
-    number(a.mended);
+pub fn answer(rt: &impl Print, name: &[u8], n: u32, a: Answer) -> io::Result<()> {
+    let Answer {
+        refusal,
+        way,
+        block,
+        rewrites,
+        merged,
+        mended,
+        torn: _,
+    } = a;
+    rt.write_all(name)?;
+    print!(rt; " {n}: refusal {refusal}, way {way}, block {block}")?;
+    print!(rt; ", rewrites {rewrites}, merged {merged}, mended {mended}")
 }
 
 // A page by its last byte, and each byte that is another; and the end of the line.
-pub fn page(p: &[u8])
+pub fn page(rt: &impl Print, p: &[u8]) -> io::Result<()>
     requires { length p.now ≡ 256 }
 {
     let last = p[255];
-    text(b", page of");
-    byte(last);
+    print!(rt; ", page of {last}")?;
     let mut i = 0;
     while i < 256 {
         let x = p[i];
         if x != last {
-            text(b", byte");
-            number(i as u32);
-            byte(x);
+            print!(rt; ", byte {i} {x}")?;
         }
         i += 1;
     }
-    end();
+    end(rt)
 }
 
 // The pages of flash.
-pub fn flash(f: &[u8])
+pub fn flash(rt: &impl Print, f: &[u8]) -> io::Result<()>
     requires { length f.now ≡ 1536 }
 {
     let mut n = 0;
     while n < 6 {
         let a = n * 256;
         let e = a + 256;
-        text(b"flash");
-        number(n as u32);
-        page(&f[a..e]);
+        print!(rt; "flash {n}")?;
+        page(rt, &f[a..e])?;
         n += 1;
     }
+    Ok(())
 }
 
 // The codes, three bytes a page.
-pub fn codes(c: &[u8])
+pub fn codes(rt: &impl Print, c: &[u8]) -> io::Result<()>
     requires { length c.now ≡ 18 }
 {
-    text(b"codes");
+    print!(rt; "codes")?;
     let mut i = 0;
     while i < 18 {
-        byte(c[i]);
+        let x = c[i];
+        print!(rt; " {x}")?;
         i += 1;
     }
-    end();
+    end(rt)
 }
 
-pub fn wear(w: &[u32])
+pub fn wear(rt: &impl Print, w: &[u32]) -> io::Result<()>
     requires { length w.now ≡ 3 }
 {
-    text(b"wear");
-    number(w[0]);
-    number(w[1]);
-    number(w[2]);
-    end();
+    let (first, second, third) = (w[0], w[1], w[2]);
+    println!(rt; "wear {first} {second} {third}")
 }
 
-pub fn end() {
-    text(b"\n");
-}
-
-fn byte(x: u8) {
-    number(x as u32);
-}
-
-fn number(x: u32) {
-    text(b" ");
-    io::print_decimal(STDOUT_FILENO, x as u64);
-}
-
-fn text(bytes: &[u8]) {
-    io::write_all(STDOUT_FILENO, bytes);
+pub fn end(rt: &impl Print) -> io::Result<()> {
+    println!(rt; "")
 }

@@ -1,4 +1,6 @@
 // The calls on a record that is not sound: each answers refusal 4, and changes nothing.
+#![tactic(auto)]
+
 ghost use Rattle.std.specs.Prelude.{◌≤◌};
 
 use address::PageNo;

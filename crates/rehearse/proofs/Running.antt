@@ -1,5 +1,5 @@
 -- What is written so far is the first bytes of the output, and what the lines from here on print is the others.
-use mathlib.Core.Path.{◌≡◌, refl, sym, ap, ◌∙◌}
+use mathlib.Core.Path.{◌≡◌, sym, ap, ◌∙◌}
 use mathlib.Core.List.{List, [], ◌++◌}
 use Prim.Native.Nat.{ℕ, ◌+◌, ◌-◌, ◌*◌, ◌≤◌, ◌<◌}
 use native.Mathlib.Omega.{arith}
@@ -70,9 +70,11 @@ module _ (script : List ℕ) (at number done : ℕ) (out : List ℕ) (h : Runnin
     long = ap length (sym d.printed-is) ∙ length-take-le r.printed out' (let w = d.within in omega arith)
 
     -- what is printed is what the output has next
+    pub next_printed : take r.printed out' ≡ take r.printed (drop done (output_of script))
+    next_printed = d.printed-is ∙ sym (take_at this others r.printed long) ∙ ap (take r.printed) split
+
     pub next : take r.printed out' ≡ take (length (take r.printed out')) (drop done (output_of script))
-    next = d.printed-is ∙ sym (take_at this others (length this) refl) ∙ ap (take (length this)) split
-        ∙ ap (λ (x : List ℕ). take (length x) (drop done (output_of script))) (sym d.printed-is)
+    next = next_printed ∙ ap (λ (n : ℕ). take n (drop done (output_of script))) (sym long ∙ ap length (sym d.printed-is))
 
     counted : done + r.printed + length others ≡ length (output_of script)
     counted = let a : length this + length others ≡ length (output_of script) - done = sym (length-append this others) ∙ ap length split

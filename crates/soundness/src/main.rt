@@ -1,6 +1,8 @@
 // Runs the soundness test on records whose answer document 01 settles: sizes at their limits and one past, sound records at
 // the largest sizes and at others, and sound records with one entry spoilt, each entry in turn. A line for each case says what
 // must come out and what came out.
+#![tactic(auto)]
+
 mod report;
 mod runs;
 
@@ -10,202 +12,242 @@ use cache::{Directory, Sizes, VACANT};
 use records::{Entry, crowded, filled, largest, middling, sizes, with_options};
 use runs::entries;
 use sound::directory_sound;
+use std::io;
 
-fn main() {
-    report::heading(b"sizes, all vacant");
-    sizes_within();
-    sizes_short();
-    sizes_long();
-    options();
-    report::heading(b"the largest sizes");
-    largest_records();
-    report::heading(b"100 slots, 5 frames, 16 pages in a block");
-    middling_records();
+fn main(rt: HostRuntime) -> io::Result<()> {
+    report::heading(&rt, b"sizes, all vacant")?;
+    sizes_within(&rt)?;
+    sizes_short(&rt)?;
+    sizes_long(&rt)?;
+    options(&rt)?;
+    report::heading(&rt, b"the largest sizes")?;
+    largest_records(&rt)?;
+    report::heading(&rt, b"100 slots, 5 frames, 16 pages in a block")?;
+    middling_records(&rt)
 }
 
 // Each size at its limits, and the blank record.
-fn sizes_within() {
-    vacant(b"blank record", Sizes::blank(), false);
-    vacant(b"least sizes", sizes(1, 2, 1, 1, 1, 1), true);
-    vacant(b"largest sizes", largest(), true);
+fn sizes_within(rt: &impl Print) -> io::Result<()> {
+    vacant(rt, b"blank record", Sizes::blank(), false)?;
+    vacant(rt, b"least sizes", sizes(1, 2, 1, 1, 1, 1), true)?;
+    vacant(rt, b"largest sizes", largest(), true)
 }
 
 // One size short of its limit.
-fn sizes_short() {
-    vacant(b"page of 0 bytes", sizes(0, 2, 1, 1, 1, 1), false);
-    vacant(b"block of 1 page", sizes(1, 1, 1, 1, 1, 1), false);
-    vacant(b"0 blocks", sizes(1, 2, 0, 1, 1, 1), false);
-    vacant(b"0 slots", sizes(1, 2, 1, 0, 1, 1), false);
-    vacant(b"0 frames", sizes(1, 2, 1, 1, 0, 1), false);
-    vacant(b"wear limit 0", sizes(1, 2, 1, 1, 1, 0), false);
+fn sizes_short(rt: &impl Print) -> io::Result<()> {
+    vacant(rt, b"page of 0 bytes", sizes(0, 2, 1, 1, 1, 1), false)?;
+    vacant(rt, b"block of 1 page", sizes(1, 1, 1, 1, 1, 1), false)?;
+    vacant(rt, b"0 blocks", sizes(1, 2, 0, 1, 1, 1), false)?;
+    vacant(rt, b"0 slots", sizes(1, 2, 1, 0, 1, 1), false)?;
+    vacant(rt, b"0 frames", sizes(1, 2, 1, 1, 0, 1), false)?;
+    vacant(rt, b"wear limit 0", sizes(1, 2, 1, 1, 1, 0), false)
 }
 
 // One size past its limit.
-fn sizes_long() {
+fn sizes_long(rt: &impl Print) -> io::Result<()> {
     vacant(
+        rt,
         b"page of 2049 bytes",
         sizes(2049, 64, 4096, 128, 8, 1000000),
         false,
-    );
+    )?;
     vacant(
+        rt,
         b"block of 65 pages",
         sizes(2048, 65, 4096, 128, 8, 1000000),
         false,
-    );
+    )?;
     vacant(
+        rt,
         b"4097 blocks",
         sizes(2048, 64, 4097, 128, 8, 1000000),
         false,
-    );
-    vacant(b"129 slots", sizes(2048, 64, 4096, 129, 8, 1000000), false);
-    vacant(b"9 frames", sizes(2048, 64, 4096, 128, 9, 1000000), false);
+    )?;
     vacant(
+        rt,
+        b"129 slots",
+        sizes(2048, 64, 4096, 129, 8, 1000000),
+        false,
+    )?;
+    vacant(
+        rt,
+        b"9 frames",
+        sizes(2048, 64, 4096, 128, 9, 1000000),
+        false,
+    )?;
+    vacant(
+        rt,
         b"wear limit 1000001",
         sizes(2048, 64, 4096, 128, 8, 1000001),
         false,
-    );
+    )
 }
 
 // The policies, and each other option, at the largest sizes.
-fn options() {
+fn options(rt: &impl Print) -> io::Result<()> {
     let s = largest();
-    vacant(b"policy 1", with_options(s, 1, 0, 0, 0), true);
-    vacant(b"policy 2", with_options(s, 2, 0, 0, 0), true);
-    vacant(b"policy 3", with_options(s, 3, 0, 0, 0), false);
+    vacant(rt, b"policy 1", with_options(s, 1, 0, 0, 0), true)?;
+    vacant(rt, b"policy 2", with_options(s, 2, 0, 0, 0), true)?;
+    vacant(rt, b"policy 3", with_options(s, 3, 0, 0, 0), false)?;
     vacant(
+        rt,
         b"policy 4294967295",
         with_options(s, 4294967295, 0, 0, 0),
         false,
-    );
-    vacant(b"coded 1", with_options(s, 0, 1, 0, 0), true);
+    )?;
+    vacant(rt, b"coded 1", with_options(s, 0, 1, 0, 0), true)?;
     vacant(
+        rt,
         b"coded 1, page of 2040 bytes",
         with_options(sizes(2040, 64, 4096, 128, 8, 1000000), 0, 1, 0, 0),
         false,
-    );
-    vacant(b"coded 2", with_options(s, 0, 2, 0, 0), false);
-    vacant(b"1 shelf page", with_options(s, 0, 0, 1, 0), true);
-    vacant(b"8 shelf pages", with_options(s, 0, 0, 8, 0), true);
-    vacant(b"9 shelf pages", with_options(s, 0, 0, 9, 0), false);
-    vacant(b"marked 1", with_options(s, 0, 0, 0, 1), true);
-    vacant(b"marked 2", with_options(s, 0, 0, 0, 2), false);
+    )?;
+    vacant(rt, b"coded 2", with_options(s, 0, 2, 0, 0), false)?;
+    vacant(rt, b"1 shelf page", with_options(s, 0, 0, 1, 0), true)?;
+    vacant(rt, b"8 shelf pages", with_options(s, 0, 0, 8, 0), true)?;
+    vacant(rt, b"9 shelf pages", with_options(s, 0, 0, 9, 0), false)?;
+    vacant(rt, b"marked 1", with_options(s, 0, 0, 0, 1), true)?;
+    vacant(rt, b"marked 2", with_options(s, 0, 0, 0, 2), false)
 }
 
 // Slots that hold the last pages, and every page of blocks 0 to 7 in the frames.
-fn largest_records() {
+fn largest_records(rt: &impl Print) -> io::Result<()> {
     let s = largest();
     let d = filled(s, 262016, 1);
-    whole(b"slots apart", s, d);
-    crowded_records(s);
-    slots_in_turn(s, d, 128, 262016, 262144);
-    frames_in_turn(s, d, 8, 4096);
-    order_in_turn(s, d, 8);
-    uses_in_turn(s, d, 8);
+    whole(rt, b"slots apart", s, d)?;
+    crowded_records(rt, s)?;
+    slots_in_turn(rt, s, d, 128, 262016, 262144)?;
+    frames_in_turn(rt, s, d, 8, 4096)?;
+    order_in_turn(rt, s, d, 8)?;
+    uses_in_turn(rt, s, d, 8)
 }
 
 // Slots whose pages share remainders by 4096 with each other, or with pages in frames.
-fn crowded_records(s: Sizes) {
+fn crowded_records(rt: &impl Print, s: Sizes) -> io::Result<()> {
     let alike = crowded(s, 512);
-    whole(b"slots with equal remainders", s, alike);
+    whole(rt, b"slots with equal remainders", s, alike)?;
     let again = entries(s, alike, 1, 128);
-    again.each(b"page 4608, in slot 0, again", Entry::Slot(4608), 127);
+    again.each(rt, b"page 4608, in slot 0, again", Entry::Slot(4608), 127)?;
     let met = crowded(s, 0);
-    whole(b"slots with remainders of pages in frames", s, met);
+    whole(rt, b"slots with remainders of pages in frames", s, met)?;
     let all = entries(s, met, 0, 128);
-    all.each(b"page 511, in frame 7, in a slot", Entry::Slot(511), 128);
+    all.each(
+        rt,
+        b"page 511, in frame 7, in a slot",
+        Entry::Slot(511),
+        128,
+    )
 }
 
 // The same with entries past P and B, and bits past K.
-fn middling_records() {
+fn middling_records(rt: &impl Print) -> io::Result<()> {
     let s = middling();
     let d = filled(s, 3900, 1);
-    whole(b"slots apart", s, d);
-    slots_in_turn(s, d, 100, 3900, 4096);
-    frames_in_turn(s, d, 5, 256);
-    order_in_turn(s, d, 5);
-    uses_in_turn(s, d, 5);
-    bits_at_k(s, d);
-    entries_past(s, d);
+    whole(rt, b"slots apart", s, d)?;
+    slots_in_turn(rt, s, d, 100, 3900, 4096)?;
+    frames_in_turn(rt, s, d, 5, 256)?;
+    order_in_turn(rt, s, d, 5)?;
+    uses_in_turn(rt, s, d, 5)?;
+    bits_at_k(rt, s, d)?;
+    entries_past(rt, s, d)
 }
 
 // Each of the P slots in turn. Slot 0 holds page n, the others those after it, and end is N * K.
-fn slots_in_turn(s: Sizes, d: Directory, p: usize, n: u32, end: u32)
+fn slots_in_turn(
+    rt: &impl Print,
+    s: Sizes,
+    d: Directory,
+    p: usize,
+    n: u32,
+    end: u32,
+) -> io::Result<()>
     requires { 1 ≤ p }
 {
     let all = p as u64;
     let slots = entries(s, d, 0, p);
-    slots.each(b"slot vacated", Entry::Slot(VACANT), 0);
-    slots.each(b"slot with the page of slot 0", Entry::Slot(n), all - 1);
-    slots.each(b"slot with page 0, valid in frame 0", Entry::Slot(0), all);
-    slots.each(b"slot with page N * K", Entry::Slot(end), all);
-    slots.each(b"slot with vacant less 1", Entry::Slot(4294967294), all);
+    slots.each(rt, b"slot vacated", Entry::Slot(VACANT), 0)?;
+    slots.each(rt, b"slot with the page of slot 0", Entry::Slot(n), all - 1)?;
+    slots.each(
+        rt,
+        b"slot with page 0, valid in frame 0",
+        Entry::Slot(0),
+        all,
+    )?;
+    slots.each(rt, b"slot with page N * K", Entry::Slot(end), all)?;
+    slots.each(rt, b"slot with vacant less 1", Entry::Slot(4294967294), all)
 }
 
 // Each of the B frames in turn. Frame f holds block f, and n is N.
-fn frames_in_turn(s: Sizes, d: Directory, b: usize, n: u32)
+fn frames_in_turn(rt: &impl Print, s: Sizes, d: Directory, b: usize, n: u32) -> io::Result<()>
     requires { 1 ≤ b }
 {
     let all = b as u64;
     let frames = entries(s, d, 0, b);
-    frames.each(b"frame with block N", Entry::Frame(n), all);
-    frames.each(b"frame with block 1 again", Entry::Frame(1), all - 1);
-    frames.each(b"frame with no valid page", Entry::Valid(0), all);
-    frames.each(b"frame with one valid page", Entry::Valid(1), 0);
-    frames.each(b"frame vacant but for its bits", Entry::Frame(VACANT), all);
+    frames.each(rt, b"frame with block N", Entry::Frame(n), all)?;
+    frames.each(rt, b"frame with block 1 again", Entry::Frame(1), all - 1)?;
+    frames.each(rt, b"frame with no valid page", Entry::Valid(0), all)?;
+    frames.each(rt, b"frame with one valid page", Entry::Valid(1), 0)?;
+    frames.each(
+        rt,
+        b"frame vacant but for its bits",
+        Entry::Frame(VACANT),
+        all,
+    )?;
     let free = entries(s, Directory::vacant(), 0, b);
-    free.each(b"vacant frame with a valid page", Entry::Valid(1), all);
+    free.each(rt, b"vacant frame with a valid page", Entry::Valid(1), all)
 }
 
 // Each of the first B entries of the order in turn. Entry i is i.
-fn order_in_turn(s: Sizes, d: Directory, b: u8)
+fn order_in_turn(rt: &impl Print, s: Sizes, d: Directory, b: u8) -> io::Result<()>
     requires { 1 ≤ b }
 {
     let all = b as u64;
     let order = entries(s, d, 0, b as usize);
-    order.each(b"order with frame 1 again", Entry::Order(1), all - 1);
-    order.each(b"order with frame B", Entry::Order(b), all);
-    order.each(b"order with frame 255", Entry::Order(255), all);
+    order.each(rt, b"order with frame 1 again", Entry::Order(1), all - 1)?;
+    order.each(rt, b"order with frame B", Entry::Order(b), all)?;
+    order.each(rt, b"order with frame 255", Entry::Order(255), all)
 }
 
 // The use counts of the B occupied frames in turn, then of all 8 frames in a vacant directory.
-fn uses_in_turn(s: Sizes, d: Directory, b: usize) {
+fn uses_in_turn(rt: &impl Print, s: Sizes, d: Directory, b: usize) -> io::Result<()> {
     let uses = entries(s, d, 0, b);
-    uses.each(b"occupied frame with no use", Entry::Uses(0), b as u64);
-    uses.each(b"occupied frame with 1 use", Entry::Uses(1), 0);
+    uses.each(rt, b"occupied frame with no use", Entry::Uses(0), b as u64)?;
+    uses.each(rt, b"occupied frame with 1 use", Entry::Uses(1), 0)?;
     uses.each(
+        rt,
         b"occupied frame with 4294967295 uses",
         Entry::Uses(4294967295),
         0,
-    );
+    )?;
     let free = entries(s, Directory::vacant(), 0, 8);
-    free.each(b"vacant frame with a use", Entry::Uses(1), 8);
+    free.each(rt, b"vacant frame with a use", Entry::Uses(1), 8)
 }
 
 // With 16 pages in a block: valid bits at 15, 16 and 63.
-fn bits_at_k(s: Sizes, d: Directory) {
+fn bits_at_k(rt: &impl Print, s: Sizes, d: Directory) -> io::Result<()> {
     let frames = entries(s, d, 0, 5);
-    frames.each(b"valid bit at K - 1", Entry::Valid(32768), 0);
-    frames.each(b"valid bit at K", Entry::Valid(65537), 5);
-    frames.each(b"valid bit at 63", Entry::Valid(9223372036854775809), 5);
+    frames.each(rt, b"valid bit at K - 1", Entry::Valid(32768), 0)?;
+    frames.each(rt, b"valid bit at K", Entry::Valid(65537), 5)?;
+    frames.each(rt, b"valid bit at 63", Entry::Valid(9223372036854775809), 5)
 }
 
 // With 100 slots and 5 frames: each entry past them in turn.
-fn entries_past(s: Sizes, d: Directory) {
+fn entries_past(rt: &impl Print, s: Sizes, d: Directory) -> io::Result<()> {
     let slots = entries(s, d, 100, 128);
-    slots.each(b"slot past P with a page", Entry::Slot(200), 28);
+    slots.each(rt, b"slot past P with a page", Entry::Slot(200), 28)?;
     let frames = entries(s, d, 5, 8);
-    frames.each(b"frame past B with a block", Entry::Frame(9), 3);
-    frames.each(b"frame past B with a valid page", Entry::Valid(1), 3);
-    frames.each(b"order past B with frame 0", Entry::Order(0), 3);
-    frames.each(b"a use past B", Entry::Uses(1), 3);
+    frames.each(rt, b"frame past B with a block", Entry::Frame(9), 3)?;
+    frames.each(rt, b"frame past B with a valid page", Entry::Valid(1), 3)?;
+    frames.each(rt, b"order past B with frame 0", Entry::Order(0), 3)?;
+    frames.each(rt, b"a use past B", Entry::Uses(1), 3)
 }
 
 // These sizes with nothing cached.
-fn vacant(name: &[u8], s: Sizes, expected: bool) {
-    report::verdict(name, expected, directory_sound(Directory::vacant(), s));
+fn vacant(rt: &impl Print, name: &[u8], s: Sizes, expected: bool) -> io::Result<()> {
+    report::verdict(rt, name, expected, directory_sound(Directory::vacant(), s))
 }
 
 // A record that must be sound.
-fn whole(name: &[u8], s: Sizes, d: Directory) {
-    report::verdict(name, true, directory_sound(d, s));
+fn whole(rt: &impl Print, name: &[u8], s: Sizes, d: Directory) -> io::Result<()> {
+    report::verdict(rt, name, true, directory_sound(d, s))
 }

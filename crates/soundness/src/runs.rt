@@ -3,9 +3,10 @@ use crate::report;
 use cache::{Directory, Sizes};
 use records::{Entry, with};
 use sound::directory_sound;
+use std::io;
 
 // A run of entries of a record.
-#[derive(Drop)]
+#[derive(Clone, Copy)]
 pub struct Run {
     pub sizes: Sizes,
     pub directory: Directory,
@@ -25,8 +26,8 @@ pub fn entries(sizes: Sizes, directory: Directory, from: usize, to: usize) -> Ru
 
 impl Run {
     // Each entry alone is replaced by x: so many of these records must be unsound.
-    pub fn each(self, name: &[u8], x: Entry, expected: u64) {
-        report::tally(name, expected, self.unsound(x));
+    pub fn each(self, rt: &impl Print, name: &[u8], x: Entry, expected: u64) -> io::Result<()> {
+        report::tally(rt, name, expected, self.unsound(x))
     }
 
     // How many of these records are unsound.

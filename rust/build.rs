@@ -1,5 +1,5 @@
-//! Finds the proved archives, and has `rt` build each where it is missing or older than the Rattle sources. In a release, which has no
-//! Rattle sources, the archives are those in `lib/`.
+//! Finds the proved archives, and has `tools/build` make each where it is missing or older than the Rattle sources. In a release,
+//! which has no Rattle sources, the archives are those in `lib/`.
 use std::fs::{File, OpenOptions};
 use std::io::{self, BufRead, BufReader, Write};
 use std::path::{Path, PathBuf};

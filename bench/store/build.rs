@@ -1,4 +1,4 @@
-//! Links the archive of the soundness test, which `bench/store.sh` has `rt` build. The store's own comes with the crate `clash`.
+//! Links the archive of the soundness test, which `bench/store.sh` builds. The store's own comes with the crate `clash`.
 use std::path::Path;
 
 fn main() {

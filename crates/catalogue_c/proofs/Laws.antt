@@ -55,7 +55,8 @@ listed-numbers a run mends e x h r k = k ∙ ap (λ (y : Answer). plain_run y ru
     ∙ sym (ap (λ (y : Listed). run_numbers (list_says y) (list_mends y)) e)
 
 pub written-numbers : (a : Written) (run : ℕ) (said : Write) → a ≡ writtens.As run said → (x : Answer)
-    → x ≡ numbers_of (write_of said) (mends_of_write said) → (r : RunAnswer) → r ≡ plain_run x run → r ≡ run_numbers (write_says a) (write_mends a)
+    → x ≡ numbers_of (write_of said) (mends_of_write said) → (r : RunAnswer) → r ≡ plain_run x run
+    → r ≡ run_numbers (write_says a) (write_mends a)
 written-numbers a run said e x h r k = k ∙ ap (λ (y : Answer). plain_run y run) h
     ∙ sym (ap (λ (y : Written). run_numbers (write_says y) (write_mends y)) e)
 

@@ -1,5 +1,6 @@
 -- A loop that compares two texts: the test, a turn, and the end.
-use Rattle.std.proofs.Common.{◌≡◌, ℕ, suc, ◌+◌, ◌<◌, ◌≤◌, Bool, true, false, ◌&&◌, ltb, List, [], ◌∷◌, ◌++◌, length, get_or, take, sym, ap, ◌∙◌, add-one, take-suc, ltb-true, lt-ltb}
+use Rattle.std.proofs.Common.{◌≡◌, ℕ, suc, ◌+◌, ◌<◌, ◌≤◌, Bool, true, false, ◌&&◌, ltb, List, [], ◌∷◌, ◌++◌, length, get_or, take}
+use Rattle.std.proofs.Common.{sym, ap, ◌∙◌, add-one, take-suc, ltb-true, lt-ltb}
 use Rattle.prelude.proofs.Tests.{and_l, and_r, and_i, clash}
 use Rattle.histories.specs.Alike.{Alike}
 

@@ -8,12 +8,12 @@ ghost use Rattle.address.specs.Address.{block_of, offset_of, page_of};
 
 // The number of a page.
 #[repr(C)]
-#[derive(Clone, Copy)]
+#[derive(Clone, Copy, PartialEq, Eq, PartialOrd, Ord, Debug)]
 pub struct PageNo(pub u32);
 
 // The number of a block.
 #[repr(C)]
-#[derive(Clone, Copy)]
+#[derive(Clone, Copy, PartialEq, Eq, PartialOrd, Ord, Debug)]
 pub struct BlockNo(pub u32);
 
 // The block of page n.

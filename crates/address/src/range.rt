@@ -31,8 +31,8 @@ pub fn block_by(n: PageNo, k: u32, m: u32) -> BlockNo
     requires { (0 < k) × (k ≤ 64) × (n.0 < 262144) }
     ensures { result ≡ block_of n k }
 {
-    let wide = n.0 as u64 * m as u64;
-    let b = BlockNo((wide >> 32) as u32);
+    let product = n.0 as u64 * m as u64;
+    let b = BlockNo((product >> 32) as u32);
     let first = b.0 * k;
     let last = first + (k - 1);
     if n.0 < first {
@@ -44,7 +44,8 @@ pub fn block_by(n: PageNo, k: u32, m: u32) -> BlockNo
     b
 }
 
-// The block of page n, which lies before block `start`.
+// The block of page n, which lies before block `start`. How many blocks before is not known, and a division is not allowed here (request
+// A3), so that a `for` over the steps would be no plainer.
 fn block_before(n: PageNo, k: u32, start: BlockNo) -> BlockNo
     requires { (0 < k) × (k ≤ 64) × (start.0 < 262144) × (n.0 < start.0 * k) }
     ensures { result ≡ block_of n k }
@@ -58,7 +59,7 @@ fn block_before(n: PageNo, k: u32, start: BlockNo) -> BlockNo
     BlockNo(b)
 }
 
-// The block of page n, which lies after block `start`.
+// The block of page n, which lies after block `start`; a `while` for the same reason.
 fn block_after(n: PageNo, k: u32, start: BlockNo) -> BlockNo
     requires { (0 < k) × (n.0 < 262144) × (start.0 * k + k ≤ n.0) }
     ensures { result ≡ block_of n k }

@@ -6,18 +6,8 @@ ghost use Rattle.prelude.specs.Pages.{page_at, put_page};
 ghost use Rattle.page.specs.Page.{HasPage};
 ghost use Rattle.codes.specs.Code.{codes_of};
 
-use ecc::Checked;
-
-// What is answered for an unreadable page.
+// What is answered for an unreadable page; for another, the number of chunks mended: one number, since C calls it.
 const UNREADABLE: usize = 4294967295;
-
-// The number of chunks mended.
-fn mends(c: Checked) -> usize {
-    match c {
-        Checked::Readable(n) => n,
-        Checked::Unreadable => UNREADABLE,
-    }
-}
 
 // Writes the codes of page n.
 #[unsafe(no_mangle)]
@@ -33,7 +23,7 @@ pub extern "C" fn rt_encode_page(codes: &mut [u8], flash: &[u8], n: usize, m: us
 pub extern "C" fn rt_check_page(flash: &[u8], codes: &[u8], n: usize, m: usize) -> usize
     requires { HasPage (m * 256) flash.now n × HasPage (m * 3) codes.now n }
 {
-    mends(ecc::check_page(flash, codes, n, m))
+    ecc::check_page(flash, codes, n, m).unwrap_or(UNREADABLE)
 }
 
 // Reads page n into page i of dst.
@@ -48,5 +38,5 @@ pub extern "C" fn rt_decode_page(
 ) -> usize
     requires { HasPage (m * 256) dst.old i × HasPage (m * 256) flash.now n × HasPage (m * 3) codes.now n }
 {
-    mends(ecc::decode_page(dst, i, flash, codes, n, m))
+    ecc::decode_page(dst, i, flash, codes, n, m).unwrap_or(UNREADABLE)
 }

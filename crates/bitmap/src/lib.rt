@@ -21,19 +21,18 @@ pub fn with(v: u64, i: u32) -> u64
     v | (1 << i)
 }
 
-// The first offset from at on, below k, that is in v and not in w; k where there is none.
+// The first offset from at on, below k, that is in v and not in w; k where there is none, and no option: a run of pages ends there, and the
+// next search begins there.
 pub fn next(v: u64, w: u64, at: u32, k: u32) -> u32
     requires { (at ≤ k) × (k ≤ 64) }
     ensures { result ≡ first_from at (k - at) (bit_without v w) }
 {
-    let mut o = at;
-    while o < k {
-        if has(v, o) & !has(w, o) {
-            return o;
-        }
-        o += 1;
+    if at == 64 {
+        return 64;
     }
-    o
+    let rest = (v & !w) >> at;
+    let o = rest.trailing_zeros();
+    if o < k - at { at + o } else { k }
 }
 
 // How many offsets are in the set.

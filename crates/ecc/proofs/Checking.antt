@@ -1,5 +1,5 @@
 -- Checking a page chunk by chunk, and what a check found.
-use mathlib.Core.Path.{◌≡◌, refl, sym, ap, ◌∙◌}
+use mathlib.Core.Path.{◌≡◌, sym, ap, ◌∙◌}
 use mathlib.Core.Logic.{◌≢◌}
 use mathlib.Core.Bool.{Bool, true, false, ◌||◌}
 use mathlib.Core.List.{List}
@@ -8,12 +8,12 @@ use native.Mathlib.Omega.{arith}
 use borrow.Author.Tests.{ne_eqb}
 use Rattle.prelude.specs.Scan.{count, all}
 use Rattle.prelude.specs.Pages.{page_at}
-use Rattle.prelude.proofs.Tests.{by-test, clash, not-i}
+use Rattle.prelude.proofs.Tests.{by-test, not-i}
 use Rattle.prelude.proofs.Scan.{all_none, all-fails, all_more, count_none, count-hit, count-miss}
 use Rattle.codes.specs.Reading.{difference, leaves, pairs, legible, differs, code_at, page_legible, page_mends}
 use Rattle.codes.proofs.Differences.{leaves_none}
-use Rattle.ecc.specs.declared.Checked.{Checked}
-use Rattle.ecc.specs.declared.Checked.TheVariants.{Readable, Unreadable}
+use Rattle.std.specs.Prelude.{Ok, Err}
+use Rattle.ecc.specs.declared.Unreadable.{Unreadable}
 use Rattle.ecc.specs.Checks.{checked}
 
 -- ---- the loop
@@ -27,14 +27,12 @@ module _ (m : ℕ) (page codes : List ℕ) where
 
   -- the chunks below i can be read, and n of them are mended
   pub record Checking (i n : ℕ) : Type 0 where
-    pub below : i ≤ m
     pub few : n ≤ i
     pub can : all i ok_at ≡ true
     pub mends : n ≡ count i differ_at
 
   pub check-start : Checking 0 0
   check-start = record {
-    below = omega arith;
     few = omega arith;
     can = all_none ok_at;
     mends = sym (count_none 0 differ_at (λ j l. absurd (omega arith)));
@@ -59,7 +57,6 @@ module _ (m : ℕ) (page codes : List ℕ) where
 
     pub check-equal : (n : ℕ) → Checking i n → x ≡ 0 → Checking (i + 1) n
     check-equal n h z = let b = h.few in record {
-      below = omega arith;
       few = omega arith;
       can = all-next i h.can (equal-can z);
       mends = h.mends ∙ count-miss i differ_at (equal-same z);
@@ -73,39 +70,30 @@ module _ (m : ℕ) (page codes : List ℕ) where
 
       pub check-mended : (n : ℕ) → Checking i n → x ≢ 0 → (f || p) ≡ true → Checking (i + 1) (n + 1)
       check-mended n h z t = let b = h.few in record {
-        below = omega arith;
         few = omega arith;
         can = all-next i h.can (tested ∙ t);
         mends = ap (λ (k : ℕ). k + 1) h.mends ∙ count-hit i differ_at (other_differs z);
       }
 
-      pub check-fails : (f || p) ≡ false → Unreadable ≡ checked m page codes
+      pub check-fails : (f || p) ≡ false → Err (record {}) ≡ checked m page codes
       unfolding checked page_legible
       check-fails t = rw (all-fails m ok_at i l (tested ∙ t))
 
-  pub check-end : (i n : ℕ) → m ≤ i → Checking i n → Readable n ≡ checked m page codes
+  pub check-end : (i n : ℕ) → i ≡ m → Checking i n → Ok n ≡ checked m page codes
   unfolding checked page_legible page_mends
-  check-end i n e h = let b = h.below in let q : i ≡ m = omega arith in rw (← q, h.can, h.mends)
+  check-end i n e h = rw (← e, h.can, h.mends)
 
 -- ---- what a check found
 
-abbrev found : Checked → Bool
-found (Readable n) = true
-found Unreadable = false
-
-abbrev told : Checked → ℕ
-told (Readable n) = n
-told Unreadable = 0
-
 module _ (m : ℕ) (page codes : List ℕ) where
-  pub unreadable-is : Unreadable ≡ checked m page codes → page_legible m page codes ≡ false
+  pub unreadable-is : (r : Unreadable) → Err r ≡ checked m page codes → page_legible m page codes ≡ false
   unfolding checked
-  unreadable-is h = by-test (page_legible m page codes) (λ t. clash refl (sym (ap found h ∙ rw t))) (λ t. t)
+  unreadable-is r h = by-test (page_legible m page codes) (λ t. absurd (let e = rw t at h in cc)) (λ t. t)
 
-  pub readable-is : (n : ℕ) → Readable n ≡ checked m page codes → page_legible m page codes ≡ true
+  pub readable-is : (n : ℕ) → Ok n ≡ checked m page codes → page_legible m page codes ≡ true
   unfolding checked
-  readable-is n h = by-test (page_legible m page codes) (λ t. t) (λ t. clash refl (ap found h ∙ rw t))
+  readable-is n h = by-test (page_legible m page codes) (λ t. t) (λ t. absurd (let e = rw t at h in cc))
 
-  pub mends-is : (n : ℕ) → Readable n ≡ checked m page codes → n ≡ page_mends m page codes
+  pub mends-is : (n : ℕ) → Ok n ≡ checked m page codes → n ≡ page_mends m page codes
   unfolding checked
-  mends-is n h = ap told h ∙ rw (readable-is n h)
+  mends-is n h = let e = rw (readable-is n h) at h in cc

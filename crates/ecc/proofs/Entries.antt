@@ -49,8 +49,8 @@ module _ (b : ℕ) where
   unfolding entry_of
   parts = by-test (odd 8 (bit b)) (λ t. rw t) (λ t. rw t)
 
-  pub entry-high : entry_of b < 16
-  entry-high = let p = positions-lt 8 b (omega arith) in let e = parts in by-test (odd 8 (bit b))
+  pub entry_high : entry_of b < 16
+  entry_high = let p = positions-lt 8 b (omega arith) in let e = parts in by-test (odd 8 (bit b))
       (λ t. let q : num (odd 8 (bit b)) ≡ 1 = rw t in omega arith) (λ t. let q : num (odd 8 (bit b)) ≡ 0 = rw t in omega arith)
 
   pub entry-parity : entry_of b / 8 ≡ num (odd 8 (bit b))

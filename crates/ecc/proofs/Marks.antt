@@ -7,7 +7,8 @@ use native.Mathlib.Numerals.{add-one}
 use native.Mathlib.Omega.{arith}
 use lib.Pow.{shl_exact, pow_mono}
 use Rattle.prelude.specs.Bits.{bit, mask}
-use Rattle.prelude.proofs.Bits.{mask_lt}
+use Rattle.prelude.proofs.Bits.{mask_lt, ones-count}
+use Rattle.prelude.proofs.Scan.{all_none, all_end}
 use Rattle.codes.specs.Reading.{addressed}
 
 -- one of pair i
@@ -27,13 +28,12 @@ shl_byte i h = shl_exact {a = 1} 1 i 8 (omega arith) (omega arith) ∙ one-mul (
 module _ (x : ℕ) where
   -- a has the bits below i of the address that x names, and p is the weight of bit i
   pub record Naming (i p a : ℕ) : Type 0 where
-    pub below : i ≤ 11
     pub weight : p ≡ 2 ^ i
     pub bits : a ≡ mask i (odd_one x)
 
   pub name_start : Naming 0 1 0
   unfolding mask
-  name_start = record { below = omega arith; weight = refl; bits = refl }
+  name_start = record { weight = refl; bits = refl }
 
   -- so that nothing overflows
   pub name_bound : {i p a : ℕ} → i < 11 → Naming i p a → (p ≤ 1024) × (a < 1024)
@@ -47,17 +47,20 @@ module _ (x : ℕ) where
     pub name_hit : odd_one x i ≡ true → Naming (i + 1) (p * 2) (a + p)
     unfolding mask
     name_hit t = record {
-      below = omega arith;
       weight = doubled;
       bits = ap₂ (λ (m n : ℕ). m + n) h.bits h.weight ∙ rw (add-one i, t) (add_comm (mask i (odd_one x)) (2 ^ i));
     }
 
     pub name_miss : odd_one x i ≡ false → Naming (i + 1) (p * 2) a
     unfolding mask
-    name_miss t = record { below = omega arith; weight = doubled; bits = h.bits ∙ rw (add-one i, t) (sym (zero-add (mask i (odd_one x)))) }
+    name_miss t = record { weight = doubled; bits = h.bits ∙ rw (add-one i, t) (sym (zero-add (mask i (odd_one x)))) }
 
-  pub name_end : {i p a : ℕ} → 11 ≤ i → Naming i p a → (a ≡ addressed x) × (a < 2048)
+  pub name_end : {i p a : ℕ} → i ≡ 11 → Naming i p a → (a ≡ addressed x) × (a < 2048)
   unfolding addressed
-  name_end {i} {p} {a} l h = let b = h.below in
-      let e : a ≡ mask 11 (odd_one x) = h.bits ∙ ap (λ (k : ℕ). mask k (odd_one x)) (let q : i ≡ 11 = omega arith in q) in
+  name_end {i} {p} {a} l h = let e : a ≡ mask 11 (odd_one x) = h.bits ∙ ap (λ (k : ℕ). mask k (odd_one x)) l in
       (e, rw e (mask_lt 11 (odd_one x)))
+
+-- what the tests of a difference are proved by
+pub ruleset ones = (ones-count)
+
+pub ruleset pairing = (all_none, all_end)

@@ -1,11 +1,11 @@
 -- Mending a page in place: the chunks below i are mended, the others as they were.
-use mathlib.Core.Path.{◌≡◌, refl, sym, ap, ◌∙◌}
-use mathlib.Core.Bool.{Bool, true, false, cond}
+use mathlib.Core.Path.{◌≡◌, sym, ap, ◌∙◌}
+use mathlib.Core.Bool.{true, false}
 use mathlib.Core.List.{List, [], append-nil}
 use Prim.Native.Nat.{ℕ, ◌+◌, ◌*◌, ◌≤◌, ◌<◌}
 use native.Mathlib.Omega.{arith}
-use lib.ListN.{length, take, drop, length-append, length-take, length-drop, take-append-drop}
-use lib.Seq.{take-length, drop-length, drop-drop}
+use lib.ListN.{length, take, length-append, length-take, length-drop}
+use lib.Seq.{take-length, drop-length}
 use Rattle.prelude.specs.Pages.{page_at, put_page, pages_of, flat, laid, run_at}
 use Rattle.prelude.proofs.Tab.{Done, done_none, done-read, done-put, done-skip, done_all}
 use Rattle.prelude.proofs.Pages.{length-page_at, ends-before, flat-pages, pages-length, page-at, pages-put}
@@ -31,12 +31,11 @@ module _ (m : ℕ) (old codes : List ℕ) where
 
   -- the chunks below i are mended, the others as they were
   pub record Mending (i : ℕ) (page : List ℕ) : Type 0 where
-    pub below : i ≤ m
     pub long : length page ≡ m * 256
     pub done : Done [] m mended_at (pages_of 256 m old) i (pages_of 256 m page)
 
   pub mend-start : length old ≡ m * 256 → Mending 0 old
-  mend-start l = record { below = omega arith; long = l; done = done_none [] m mended_at (pages_of 256 m old) (pages-length 256 m old) }
+  mend-start l = record { long = l; done = done_none [] m mended_at (pages_of 256 m old) (pages-length 256 m old) }
 
   module _ (i x : ℕ) (page : List ℕ) (l : i < m) (h : Mending i page) (e : x ≡ difference (page_at 256 page i) (code_at codes i)) where
     still : page_at 256 page i ≡ page_at 256 old i
@@ -49,7 +48,6 @@ module _ (m : ℕ) (old codes : List ℕ) where
     -- chunk i stays
     pub mend-keep : leaves x ≡ true → Mending (i + 1) page
     mend-keep t = record {
-      below = omega arith;
       long = h.long;
       done = done-skip [] m mended_at (pages_of 256 m old) i (pages_of 256 m page) h.done
           (mended-keep (page_at 256 old i) (code_at codes i) x anew t ∙ sym (page-at 256 m old [] i l));
@@ -63,7 +61,6 @@ module _ (m : ℕ) (old codes : List ℕ) where
         let chunk-long : length (page_at 256 page i) ≡ 256 = length-page_at 256 page i (omega arith) in
         let new-long : length (flipped (page_at 256 page i) k) ≡ 256 = length-flipped (page_at 256 page i) k (omega arith) ∙ chunk-long in
         record {
-          below = omega arith;
           long = length-put 256 page i _ (omega arith) new-long ∙ long;
           done = rw (pages-put 256 m page i (flipped (page_at 256 page i) k) l long new-long)
               (done-put [] m mended_at (pages_of 256 m old) i (pages_of 256 m page) (flipped (page_at 256 page i) k) h.done l
@@ -85,13 +82,3 @@ copied m page out e f =
     let w : take (m * 256) page ≡ page = rw (← e) (take-length page) in
     let z : 0 + length page ≡ length out = omega arith in
     rw (w, z, drop-length out) (append-nil page)
-
-put_same : (s : ℕ) (l : List ℕ) (i : ℕ) → put_page s l i (page_at s l i) ≡ l
-unfolding put_page page_at
-put_same s l i = rw (← drop-drop s (i * s) l, take-append-drop s (drop (i * s) l), take-append-drop (i * s) l)
-
--- a page that is put, or the page itself
-pub put-cond : (s : ℕ) (l : List ℕ) (i : ℕ) (b : Bool) (x : List ℕ)
-    → put_page s l i (cond b x (page_at s l i)) ≡ cond b (put_page s l i x) l
-put-cond s l i true x = refl
-put-cond s l i false x = put_same s l i

@@ -6,7 +6,7 @@ ghost use Rattle.codes.specs.Code.{code_of};
 ghost use Rattle.codes.specs.Table.{entries};
 ghost use Rattle.codes.specs.Reading.{flipped, difference, leaves, pairs, addressed, code_at};
 
-use crate::{bytes, parity, words};
+use crate::{parity, words};
 
 // The code of a chunk, by the table that is lent. The words whose index has bit i hold the data bits whose address has bit i + 6.
 pub fn code_of(t: &[u8; 256], s: &[u8]) -> u32
@@ -34,15 +34,13 @@ pub fn code_of(t: &[u8; 256], s: &[u8]) -> u32
 }
 
 // The code stored for chunk i.
+#[tactic(auto, unfolding(codes::specs::Reading::code_at))]
 fn code_at(codes: &[u8], i: usize) -> u32
     requires { i * 3 + 3 ≤ length codes.now }
     ensures { (result ≡ code_at codes.now i) × (result < 16777216) }
 {
     let k = i * 3;
-    let a = bytes::small(codes[k]);
-    let b = bytes::small(codes[k + 1]);
-    let c = bytes::small(codes[k + 2]);
-    a + b * 256 + c * 65536
+    u32::from_le_bytes([codes[k], codes[k + 1], codes[k + 2], 0])
 }
 
 // The set of the bits in which the code of chunk i, computed anew, and the code stored for it differ.
@@ -58,6 +56,7 @@ pub fn differing(t: &[u8; 256], page: &[u8], codes: &[u8], i: usize) -> u32
 }
 
 // Whether bit i of x is 1.
+#[tactic(auto, unfolding(prelude::specs::Bits::bit))]
 fn has(x: u32, i: u32) -> bool
     requires { i < 24 }
     ensures { result ≡ bit x i }
@@ -66,6 +65,7 @@ fn has(x: u32, i: u32) -> bool
 }
 
 // Whether at most one bit differs.
+#[tactic(auto, unfolding(codes::specs::Reading::leaves), using(crate::proofs::Marks::ones))]
 pub fn few(x: u32) -> bool
     requires { x < 16777216 }
     ensures { result ≡ leaves x }
@@ -74,16 +74,15 @@ pub fn few(x: u32) -> bool
 }
 
 // Whether one bit of each pair differs, and none else.
+#[tactic(auto, unfolding(codes::specs::Reading::pairs), using(crate::proofs::Marks::pairing))]
 pub fn paired(x: u32) -> bool
     ensures { result ≡ pairs x }
 {
     let mut ok = true;
-    let mut i = 0;
-    while i < 11 {
+    for i in 0..11 {
         let a = has(x, i * 2);
         let b = has(x, i * 2 + 1);
         ok = ok & (a != b);
-        i += 1;
     }
     let c = has(x, 22);
     let d = has(x, 23);
@@ -96,18 +95,17 @@ pub fn named(x: u32) -> usize
 {
     let mut a = 0usize;
     let mut p = 1usize;
-    let mut i = 0;
-    while i < 11 {
+    for i in 0..11 {
         if has(x, i * 2 + 1) {
             a += p;
         }
         p = p * 2;
-        i += 1;
     }
     a
 }
 
 // Flips the bit at address a.
+#[tactic(auto, unfolding(codes::specs::Reading::flipped), using(crate::proofs::Marks::shl_byte))]
 pub fn flip(chunk: &mut [u8], a: usize)
     requires { a / 8 < length chunk.old }
     ensures { chunk.new ≡ flipped chunk.old a }

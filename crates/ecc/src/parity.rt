@@ -27,7 +27,7 @@ pub fn parity(t: &[u8; 256], x: u64) -> u32
 }
 
 // A word's parity, and the parities of its set bits at positions that have bit i, i from 0 to 5, as digits of base 4.
-#[derive(Clone, Copy)]
+#[derive(Clone, Copy, PartialEq, Eq, Debug)]
 pub struct Inner {
     pub parity: u32,
     pub digits: u32,

@@ -2,8 +2,6 @@
 ghost use Rattle.std.specs.Prelude.{◌≡◌, ◌<◌};
 ghost use Rattle.codes.specs.Table.{entry_of, entries};
 
-use crate::bytes;
-
 // For each byte its parity, in bit 3, and the exclusive-or of its set bits' positions, in bits 0 to 2.
 const TABLE: [u8; 256] =
     *b"\x00\x08\x09\x01\x0a\x02\x03\x0b\x0b\x03\x02\x0a\x01\x09\x08\x00\x0c\x04\x05\x0d\x06\x0e\x0f\x07\x07\x0f\x0e\x06\x0d\x05\x04\x0c\
@@ -23,9 +21,10 @@ pub fn table() -> [u8; 256]
 }
 
 // A byte's entry.
+#[tactic(auto, using(crate::proofs::Entries::entry_at, crate::proofs::Entries::entry_high))]
 pub fn entry(t: &[u8; 256], b: usize) -> u32
     requires { (b < 256) × (t.now ≡ entries) }
     ensures { (result ≡ entry_of b) × (result < 16) }
 {
-    bytes::small(t[b])
+    u32::from(t[b])
 }

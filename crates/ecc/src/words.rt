@@ -2,32 +2,25 @@
 ghost use Rattle.std.specs.Prelude.{◌≡◌, ◌+◌, ◌*◌, ◌≤◌, length};
 ghost use Rattle.ecc.specs.Words.{Word, Eights, Totals};
 
-use crate::bytes;
-
-// The 8 bytes from index i on as one word, low byte first.
+// The 8 bytes from index i on as one word, low byte first. A sum: with `u64::from_le_bytes` the codes of 2,048 bytes take 176 ns
+// in place of 166.
+#[tactic(auto, unfolding(crate::proofs::ByWords::word_from), using(crate::proofs::ByWords::word_is))]
 fn word(s: &[u8], i: usize) -> u64
     requires { i + 8 ≤ length s.now }
     ensures { Word s.now i result }
 {
-    let a = bytes::wide(s[i]);
-    let b = bytes::wide(s[i + 1]);
-    let c = bytes::wide(s[i + 2]);
-    let d = bytes::wide(s[i + 3]);
-    let e = bytes::wide(s[i + 4]);
-    let f = bytes::wide(s[i + 5]);
-    let g = bytes::wide(s[i + 6]);
-    let h = bytes::wide(s[i + 7]);
-    a + b * 0x100
-        + c * 0x1_0000
-        + d * 0x100_0000
-        + e * 0x1_0000_0000
-        + f * 0x100_0000_0000
-        + g * 0x1_0000_0000_0000
-        + h * 0x100_0000_0000_0000
+    u64::from(s[i])
+        + u64::from(s[i + 1]) * 0x100
+        + u64::from(s[i + 2]) * 0x1_0000
+        + u64::from(s[i + 3]) * 0x100_0000
+        + u64::from(s[i + 4]) * 0x1_0000_0000
+        + u64::from(s[i + 5]) * 0x100_0000_0000
+        + u64::from(s[i + 6]) * 0x1_0000_0000_0000
+        + u64::from(s[i + 7]) * 0x100_0000_0000_0000
 }
 
 // Sums, by exclusive-or, of 8 words: of all, and of those whose index has bit 0, 1, 2.
-#[derive(Clone, Copy)]
+#[derive(Clone, Copy, PartialEq, Eq, Debug)]
 pub struct Eight {
     pub all: u64,
     pub one: u64,
@@ -61,7 +54,7 @@ fn eights(s: &[u8], i: usize) -> Eight
 }
 
 // Sums of a chunk's 32 words: of all, and of those whose index has bit 0 to 4.
-#[derive(Clone, Copy)]
+#[derive(Clone, Copy, PartialEq, Eq, Debug)]
 pub struct Sums {
     pub all: u64,
     pub one: u64,

@@ -5,8 +5,8 @@ use Prim.Native.Nat.{ℕ, ◌+◌, ◌-◌, ◌*◌, ◌≤◌, ◌<◌}
 use native.Mathlib.Omega.{arith}
 use lib.ListN.{length}
 use borrow.Rule.Slice.PartMut.{put_mid, mid_of, Post-is}
-use Rattle.prelude.specs.Pages.{page_at, put_page, run_at, laid}
-use Rattle.prelude.proofs.Pages.{ends-before, length-page_at, put_in-block}
+use Rattle.prelude.specs.Pages.{page_at, put_page}
+use Rattle.prelude.proofs.Pages.{put_in-block}
 
 -- the part lent
 abbrev pub part : {A : Type 0} → ℕ → List A → ℕ → List A
@@ -27,23 +27,6 @@ module _ {A : Type 0} (s : ℕ) (l : List A) (i : ℕ) where
 
 -- the page at offset o of the block f that is lent
 module _ {A : Type 0} (s k : ℕ) (l : List A) (f o : ℕ) (inside : o < k) (fits : f * (k * s) + k * s ≤ length l) where
-  pub in_part : o * s + s ≤ length (part (k * s) l f)
-  in_part = rw (got (k * s) l f, length-page_at (k * s) l f fits) (ends-before s inside)
-
   pub put_in : (x pg : List A) → x ≡ put_page s (part (k * s) l f) o pg → put_part (k * s) l f x ≡ put_page s l (f * k + o) pg
   put_in x pg e = put (k * s) l f x ∙ ap (put_page (k * s) l f) (e ∙ ap (λ (y : List A). put_page s y o pg) (got (k * s) l f))
       ∙ put_in-block s k l f o inside pg fits
-
--- a part `&mut l[i..e]` with e = i + length x, which comes back as x
-pub put-laid : {A : Type 0} (i : ℕ) (l x : List A) → put_mid i (i + length x - i) l x ≡ laid i x l
-unfolding laid
-put-laid i l x = rw (Post-is i (i + length x) l (omega arith))
-
--- a part of m elements
-pub put-run : {A : Type 0} (i m : ℕ) (l x : List A) → length x ≡ m → put_mid i (i + m - i) l x ≡ laid i x l
-put-run i m l x e = rw (← e) (put-laid i l x)
-
--- n pages that are lent
-pub got-run : {A : Type 0} (s : ℕ) (l : List A) (i n : ℕ) → mid_of (i * s) (i * s + n * s - i * s) l ≡ run_at s l i n
-unfolding run_at
-got-run s l i n = let e : i * s + n * s - i * s ≡ n * s = omega arith in rw e

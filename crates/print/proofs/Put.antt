@@ -5,8 +5,8 @@ use Prim.Native.Nat.{ℕ, ◌+◌, ◌≤◌, ◌<◌}
 use native.Mathlib.Omega.{arith}
 use native.Mathlib.Nat.{add-zero, add_assoc}
 use native.Mathlib.Numerals.{add-one}
-use lib.ListN.{length, take, drop, get_or, set, length-append, take-append-drop}
-use lib.Seq.{length-take-le, take_at, drop_at, drop-drop, set_split, take-suc}
+use lib.ListN.{length, take, drop, set, length-append, take-append-drop}
+use lib.Seq.{length-take-le, take_at, drop_at, drop-drop, set_split}
 use Rattle.print.specs.Print.{put_at, Printed}
 
 -- what is put after p, which is k long
@@ -33,17 +33,6 @@ module _ (l : List ℕ) (at : ℕ) where
       ap (λ (x : List ℕ). put_at x (at + length a) b) whole ∙ put-after (take at l ++ a) _ b (at + length a) front
       ∙ append_assoc (take at l) a _ ∙ ap (λ (x : List ℕ). take at l ++ x)
       (sym (append_assoc a b _) ∙ ap (λ (x : List ℕ). a ++ b ++ x) same)
-
--- a turn of a loop that puts the bytes of src one by one
-pub put-more : (l src m : List ℕ) (at i : ℕ) → at + length src ≤ length l → i < length src → length m ≡ length l
-    → m ≡ put_at l at (take i src)
-    → set m (at + i) (get_or src i 0) ≡ put_at l at (take (i + 1) src)
-put-more l src m at i room h long e =
-    put_one m (at + i) (get_or src i 0) (omega arith)
-    ∙ ap (λ (x : List ℕ). put_at x (at + i) (get_or src i 0 ∷ [])) e
-    ∙ ap (λ (k : ℕ). put_at (put_at l at (take i src)) (at + k) (get_or src i 0 ∷ [])) (sym (length-take-le i src (omega arith)))
-    ∙ put_then l at (take i src) (get_or src i 0 ∷ []) (omega arith)
-    ∙ ap (put_at l at) (rw (add-one, take-suc src i 0 h))
 
 pub printed-none : (l : List ℕ) (at : ℕ) → Printed 0 [] l at l at
 printed-none l at = record { buffer = sym (put-none l at); place = sym (add-zero at); within = omega arith }

@@ -1,4 +1,5 @@
-// What is printed, one bracketed form a line, into a lent buffer from `at` on. Each function gives the place after it.
+// What is printed, one bracketed form a line, into a lent buffer from `at` on. Each function gives the place after it. No `Display`: the
+// clause `Printed` says which bytes of the buffer are what, and which stay.
 #![tactic(auto)]
 
 ghost use Rattle.std.specs.Prelude.{◌≡◌, [], ◌∷◌, ◌++◌, map, ◌+◌, ◌*◌, ◌≤◌, length};
@@ -150,12 +151,9 @@ pub fn put_numbers(out: &mut [u8], at: usize, numbers: &[u32]) -> usize
         Printed (11 * length d.now) (spaced (map decimal d.now)) out.old at out.new result }
 {
     let mut next = at;
-    let mut i = 0;
-    while i < numbers.len() {
+    for &n in numbers {
         out[next] = b' ';
-        let n = numbers[i];
         next = put_decimal(out, next + 1, n);
-        i += 1;
     }
     next
 }
@@ -199,17 +197,14 @@ fn digit(n: u32) -> u8
 }
 
 // The bytes of src.
+#[tactic(auto, unfolding(crate::specs::Print::put_at))]
 pub fn put_bytes(out: &mut [u8], at: usize, src: &[u8]) -> usize
     requires { at + length src.now ≤ length out.old }
     ensures { Printed (length src.now) src.now out.old at out.new result }
 {
-    let n = src.len();
-    let mut i = 0;
-    while i < n {
-        out[at + i] = src[i];
-        i += 1;
-    }
-    at + n
+    let end = at + src.len();
+    out[at..end].copy_from_slice(src);
+    end
 }
 
 // n in decimal.

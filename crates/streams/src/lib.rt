@@ -60,7 +60,7 @@ fn write_again<W: Write>(to: &mut W, bytes: &[u8]) -> io::Result<usize>
 }
 
 // Reads until `into` is full or the input ends, also past a signal that interrupts, and gives how many bytes stand at the start of `into`
-// then.
+// then. A turn goes on by as many bytes as were read, which a `for` cannot; std's `read_exact` says too little of an error.
 pub fn read_full<R: Read>(from: &mut R, into: &mut [u8]) -> io::Result<usize>
     ensures within { ReadsAtMost result into.new }
     ensures bytes { IfOk result (λ n. Consumes (R.remaining from.old) (R.remaining from.new) (take n into.new)) }
@@ -79,7 +79,7 @@ pub fn read_full<R: Read>(from: &mut R, into: &mut [u8]) -> io::Result<usize>
     Ok(done)
 }
 
-// Writes all bytes, also past a signal that interrupts.
+// Writes all bytes, also past a signal that interrupts. A turn goes on by as many bytes as were written.
 pub fn write_full<W: Write>(to: &mut W, bytes: &[u8]) -> io::Result<()>
     ensures ok { OnOk result (Appends (W.contents to.old) (W.contents to.new) bytes.now) }
     ensures err { OnErr result (AppendsFirst (W.contents to.old) (W.contents to.new) bytes.now) }

@@ -8,14 +8,14 @@ ghost use Rattle.turns.specs.Turns.{page_of, call_of, turn_of};
 use address::PageNo;
 
 // What a bench asks of the store in its turn.
-#[derive(Clone, Copy)]
+#[derive(Clone, Copy, PartialEq, Eq, Debug)]
 pub enum Call {
     Read(PageNo),
     Write { page: PageNo, byte: u8 },
 }
 
 // What a turn is made with: N×K pages, and the rates of writes and of runs, 0 to 256.
-#[derive(Clone, Copy)]
+#[derive(Clone, Copy, PartialEq, Eq, Debug)]
 pub struct Rates {
     pub pages: u32,
     pub write: u32,
@@ -23,33 +23,24 @@ pub struct Rates {
 }
 
 // A turn: the call, the number of its page, and the state after the three advances.
-#[derive(Clone, Copy)]
+#[derive(Clone, Copy, PartialEq, Eq, Debug)]
 pub struct Turn {
     pub call: Call,
     pub page: u32,
     pub state: u32,
 }
 
-// x × y, modulo 2^32.
-fn wrapping_mul_u32(x: u32, y: u32) -> u32
-    ensures { result ≡ x * y % 2 ^ 32 }
-{
-    let a = x as u64;
-    let b = y as u64;
-    let product = a * b;
-    let low = product % 4294967296;
-    low as u32
-}
-
 // The generator's next state.
+#[tactic(auto, unfolding(crate::specs::Generator::advanced))]
 fn advance(state: u32) -> u32
     ensures { result ≡ advanced state }
 {
-    let product = wrapping_mul_u32(state, 1664525);
+    let product = state.wrapping_mul(1664525);
     std::num::wrapping_add_u32(product, 1013904223)
 }
 
 // The page of a turn: the one after the bench's last page, or one by the third state.
+#[tactic(auto, unfolding(crate::specs::Turns::page_of))]
 fn page_of(second: u32, third: u32, run: u32, last: u32, pages: u32) -> u32
     requires { last < pages }
     ensures { result ≡ page_of second third run last pages }
@@ -61,6 +52,7 @@ fn page_of(second: u32, third: u32, run: u32, last: u32, pages: u32) -> u32
 }
 
 // The call of a turn.
+#[tactic(auto, unfolding(crate::specs::Turns::call_of))]
 fn call_of(first: u32, third: u32, write: u32, page: u32) -> Call
     ensures { result ≡ call_of first third write page }
 {
@@ -75,6 +67,7 @@ fn call_of(first: u32, third: u32, write: u32, page: u32) -> Call
 }
 
 // The turn that begins in this state, of a bench whose last page is given.
+#[tactic(auto, unfolding(crate::specs::Turns::turn_of, crate::specs::Turns::turn_page))]
 pub fn take(state: u32, last: u32, rates: Rates) -> Turn
     requires { last < rates.pages }
     ensures { result ≡ turn_of state last rates }

@@ -1,32 +1,20 @@
-use mathlib.Core.Path.{◌≡◌, sym, ◌∙◌}
-use mathlib.Core.Bool.{Bool, not, ◌&&◌}
-use Prim.Native.Nat.{ℕ}
-use native.Mathlib.Omega.{arith}
-use Rattle.prelude.specs.Bits.{bit, bit_without}
-use Rattle.prelude.proofs.Scan.{from-hit, from-miss, from_end}
+use Rattle.std.proofs.Common.{◌≡◌, sym, ◌∙◌, bit_and, ◌-◌, ◌<◌, ◌^◌, ℕ, refl, arith}
+use Rattle.std.proofs.lemmas.Nat.{and_le_l}
+use Rattle.std.proofs.Math.Nat.{div-le_self}
+use Rattle.bitmap.proofs.Places.{rest, found, none_there, zeros, one_there}
 use Rattle.bitmap.proofs.next.Goals as goal
 
-read : (v w o : ℕ) (a b t : Bool) → a ≡ bit v o → b ≡ bit w o → (a && not b) ≡ t → bit_without v w o ≡ t
-read v w o a b t e f h = rw (← e, ← f) h
+small : (v w at : ℕ) → v < 2 ^ 64 → rest v w at < 2 ^ 64
+small v w at h = omega (arith, div-le_self (bit_and v (18446744073709551615 - w)) (2 ^ at), and_le_l v (18446744073709551615 - w))
 
-pub returns-then-has : goal.returns-then-has
-returns-then-has c =
-    let a = c.args in
-    let l = c.loop-o in
-    sym (l.invariant.1 ∙ from-hit a.k (bit_without a.v a.w) l.o c.loop-o-test.true
-    (read _ _ _ _ _ _ c.has.ensures c.has-in-loop-o.ensures c.if-has.true))
+pub returns-then-at-eq64 : goal.returns-then-at-eq64
+returns-then-at-eq64 c = let a = c.args in let e : a.k ≡ 64 = omega arith in
+    sym e ∙ none_there a.v a.w a.at c.ranges.w.fits a.k c.requires.0 c.requires.1 (λ j l. absurd (omega arith))
 
-pub loop-o-preserved : goal.loop-o-preserved
-loop-o-preserved c =
-    let a = c.args in
-    let l = c.loop-o in (
-      omega arith,
-      l.invariant.1 ∙ from-miss a.k (bit_without a.v a.w) l.o c.loop-o-test.true
-          (read _ _ _ _ _ _ c.has.ensures c.has-in-loop-o.ensures c.if-has.false),
-    )
+pub returns-then-o-k : goal.returns-then-o-k
+returns-then-o-k c = let a = c.args in let s = small a.v a.w a.at c.ranges.v.fits in
+    found a.v a.w a.at c.ranges.w.fits a.k _ c.requires.1 c.if-o-k.true (one_there _ _ s refl (omega arith)) (zeros _ _ s refl)
 
-pub returns : goal.returns
-returns c =
-    let a = c.args in
-    let l = c.loop-o in
-    sym (l.invariant.1 ∙ from_end a.k (bit_without a.v a.w) l.o c.loop-o-test.false)
+pub returns-else-o-k : goal.returns-else-o-k
+returns-else-o-k c = let a = c.args in let s = small a.v a.w a.at c.ranges.v.fits in
+    none_there a.v a.w a.at c.ranges.w.fits a.k c.requires.0 c.requires.1 (λ j l. zeros _ _ s refl j (omega arith))

@@ -5,4 +5,4 @@ pub returns : goal.returns
 returns c =
     let a = c.args in
     let p = c.requires in
-    put_in a.s a.k a.run.now a.f a.o p.1 p.2 _ _ c.copy_page.ensures
+    put_in a.s a.k a.run.now a.f a.o p.0 p.1 _ _ c.copy_page.ensures

@@ -8,37 +8,28 @@ use Rattle.print.proofs.Lines.{spaced-more}
 use Rattle.print.proofs.Put.{printed-none, printed-one, printed-then, printed-as}
 use Rattle.print.proofs.put_numbers.Goals as goal
 
-pub loop-i-init : goal.loop-i-init
+pub loop-n-init : goal.loop-n-init
 unfolding spaced
-loop-i-init c = (omega arith, (refl, printed-none _ _))
+loop-n-init c = (refl, printed-none _ _)
 
 pub put_decimal-next-requires : goal.put_decimal-next-requires
 put_decimal-next-requires c =
-    let n = get_or c.args.numbers.now c.loop-i.i 0 in
+    let n = get_or c.args.numbers.now c.loop-n.n-index 0 in
     let f : n < 2 ^ 32 = omega arith in
     let d = decimal-word n f in
     simp length-set (omega arith)
 
-pub loop-i-preserved : goal.loop-i-preserved
-loop-i-preserved c =
+pub loop-n-preserved : goal.loop-n-preserved
+loop-n-preserved c =
     let a = c.args in
-    let n = get_or a.numbers.now c.loop-i.i 0 in
+    let n = get_or a.numbers.now c.loop-n.n-index 0 in
     let f : n < 2 ^ 32 = omega arith in
     let d = decimal-word n f in
-    let p = c.loop-i.invariant.1.1 in
+    let p = c.loop-n.invariant.1 in
     let q = c.put_decimal-next.ensures in
     let h : a.at ≤ length a.out.now = omega (arith, c.requires) in
-    let k : c.loop-i.next < length c.loop-i.out = omega (
-      arith,
-      c.loop-i.invariant.1.0,
-      p.within,
-      c.requires,
-      c.loop-i-test.true,
-    ) in (
-      omega arith,
-      (
-        c.put_decimal-next.auto.out ∙ simp length-set c.loop-i.invariant.1.0,
-        printed-as (omega arith) (spaced-more a.numbers.now c.loop-i.i c.loop-i-test.true)
-            (printed-then h p (printed-then (omega arith) (printed-one c.loop-i.out c.loop-i.next 32 k) q)),
-      ),
+    let k : c.loop-n.next < length c.loop-n.out = omega (arith, c.loop-n.invariant.0, p.within, c.requires, c.loop-n-test.true) in (
+      c.put_decimal-next.auto.out ∙ simp length-set c.loop-n.invariant.0,
+      printed-as (omega arith) (spaced-more a.numbers.now c.loop-n.n-index c.loop-n-test.true)
+          (printed-then h p (printed-then (omega arith) (printed-one c.loop-n.out c.loop-n.next 32 k) q)),
     )

@@ -1,7 +1,0 @@
-use mathlib.Core.Path.{refl}
-use Rattle.prelude.specs.Bits.{bit}
-use Rattle.ecc.proofs.chunk.has.Goals as goal
-
-pub returns : goal.returns
-unfolding bit
-returns c = refl

@@ -1,12 +1,14 @@
 -- A write that is turned down is refused, whatever the cause.
-use mathlib.Core.Path.{◌≡◌, refl, ap, ◌∙◌}
+use mathlib.Core.Path.{◌≡◌, refl}
 use mathlib.Core.Bool.{true}
-use Rattle.model.specs.Calls.{is_refused}
+use Rattle.std.specs.Prelude.{Some}
+use Rattle.model.specs.Sizes.{vacant}
+use Rattle.model.specs.Calls.{refused, is_refused}
 use Rattle.answer.specs.declared.Refusal.{Refusal}
 use Rattle.answer.specs.declared.Refusal.TheVariants as why
-use Rattle.answer.specs.declared.Write.{Write}
-use Rattle.answer.specs.declared.Write.TheVariants.{Refused}
-use Rattle.answer.specs.Numbers.{refusal_of, write_of}
+use Rattle.answer.specs.declared.fault.Fault.{Fault}
+use Rattle.answer.specs.declared.fault.Fault.TheVariants as faults
+use Rattle.answer.specs.Numbers.{refusal_of, refusal_for, fault_number}
 
 pub why_refused : (why : Refusal) → is_refused (refusal_of why) ≡ true
 why_refused why.Size = refl
@@ -19,5 +21,7 @@ why_refused why.Unreadable = refl
 why_refused why.Empty = refl
 why_refused why.Torn = refl
 
-pub write-refused : (a : Write) (why : Refusal) → a ≡ Refused why → is_refused (write_of a) ≡ true
-write-refused a why e = ap (λ (t : Write). is_refused (write_of t)) e ∙ why_refused why
+-- the refusal for a fault has the fault's number
+pub fault_refused : (f : Fault) → refusal_of (refusal_for f) ≡ refused (fault_number (Some f)) vacant
+fault_refused faults.Unreadable = refl
+fault_refused faults.Torn = refl

@@ -1,15 +1,15 @@
-// What the calls answer. The definitions in specs/ give document 01's number and values for each case.
+// What the calls answer. The definitions in specs/ give the number and values of each case.
 #![tactic(auto)]
 
-ghost use Rattle.std.specs.Prelude.{◌≡◌, cond, eqb};
-ghost use Rattle.model.specs.Sizes.{vacant};
-ghost use Rattle.model.specs.Calls.{refused};
-ghost use Rattle.answer.specs.Numbers.{refusal_of};
+mod fault; // fault.rt: what reading a flash page meets, and the refusal for it
+mod way; // way.rt: the ways of reads and writes, and their numbers
 
 use address::BlockNo;
+pub use fault::Fault;
+pub use way::{ReadWay, WriteWay};
 
 // Why a call is turned down: document 01's refusals 1 to 6, and those that requests add.
-#[derive(Clone, Copy)]
+#[derive(Clone, Copy, PartialEq, Eq, Debug)]
 pub enum Refusal {
     // 1: at opening, a size, the wear limit or an option is beyond its limits
     Size,
@@ -31,37 +31,26 @@ pub enum Refusal {
     Torn,
 }
 
-// The refusal of a call that met this fault, 7 or 14, on the flash pages that it reads.
-pub fn late(fault: u32) -> Refusal
-    ensures { refusal_of result ≡ refused (cond (eqb fault 7) 7 14) vacant }
-{
-    if fault == 7 {
-        return Refusal::Unreadable;
-    }
-    Refusal::Torn
-}
-
 // What an opening answers: the number of torn blocks, those with a mark that is not 0 (request A12).
-#[derive(Clone, Copy)]
-pub enum Opening {
-    Done { torn: u32 },
-    Refused(Refusal),
+#[derive(Clone, Copy, PartialEq, Eq, Debug)]
+pub struct Opening {
+    pub torn: u32,
 }
 
-// What a read answers: its way, 1 from a slot, 2 from a frame, 3 from flash, and how many chunks were mended (request A7).
-#[derive(Clone, Copy)]
-pub enum Read {
-    Done { way: u32, mends: u32 },
-    Refused(Refusal),
+// What a read answers: its way, and how many chunks were mended (request A7).
+#[derive(Clone, Copy, PartialEq, Eq, Debug)]
+pub struct Read {
+    pub way: ReadWay,
+    pub mends: u32,
 }
 
 // What a write answers: its way, the block erased, the merge reads and the chunks mended. Only way 7 erases a block and merges; the read of
 // a part write may mend as well.
-#[derive(Clone, Copy)]
+#[derive(Clone, Copy, PartialEq, Eq, Debug)]
 pub enum Write {
     // ways 0 to 6
     Done {
-        way: u32,
+        way: WriteWay,
         mends: u32,
     },
     // way 7
@@ -70,28 +59,20 @@ pub enum Write {
         merged: u32,
         mends: u32,
     },
-    Refused(Refusal),
 }
 
-// What a flush step answers: the block rewritten, its merge reads and the chunks mended, or that nothing was cached.
-#[derive(Clone, Copy)]
-pub enum Step {
-    Done {
-        block: BlockNo,
-        merged: u32,
-        mends: u32,
-    },
-    Clean,
-    Refused(Refusal),
+// What a flush step answers that found something cached: the block rewritten, its merge reads and the chunks mended.
+#[derive(Clone, Copy, PartialEq, Eq, Debug)]
+pub struct Step {
+    pub block: BlockNo,
+    pub merged: u32,
+    pub mends: u32,
 }
 
 // What a flush answers: the rewrites, the sum of their merge reads and of the chunks mended.
-#[derive(Clone, Copy)]
-pub enum Flush {
-    Done {
-        rewrites: u32,
-        merged: u32,
-        mends: u32,
-    },
-    Refused(Refusal),
+#[derive(Clone, Copy, PartialEq, Eq, Debug)]
+pub struct Flush {
+    pub rewrites: u32,
+    pub merged: u32,
+    pub mends: u32,
 }

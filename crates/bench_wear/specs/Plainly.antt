@@ -1,8 +1,8 @@
 -- The figures as plain numbers.
-use Rattle.wear.specs.declared.Measured.{Measured}
-use Rattle.wear.specs.declared.Measured.TheVariants as measures
+use Rattle.std.specs.Prelude.{Option, Some, None}
+use Rattle.wear.specs.declared.Figures as wear
 use Rattle.bench_wear.specs.declared.Figures.{Figures}
 
-abbrev pub plainly : Measured → Figures
-plainly (measures.Figures total largest spread) = record { accepted = 1; largest = largest; total = total; spread = spread }
-plainly measures.Overworn = record { accepted = 0; largest = 0; total = 0; spread = 0 }
+abbrev pub plainly : Option wear.Figures → Figures
+plainly (Some f) = record { accepted = 1; largest = f.largest; total = f.total; spread = f.spread }
+plainly None = record { accepted = 0; largest = 0; total = 0; spread = 0 }

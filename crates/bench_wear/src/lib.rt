@@ -5,11 +5,9 @@ ghost use Rattle.std.specs.Prelude.{◌≡◌, ◌≤◌, length};
 ghost use Rattle.wear.specs.Figures.{measured};
 ghost use Rattle.bench_wear.specs.Plainly.{plainly};
 
-use wear::Measured;
-
-// The figures, with 1 for an accepted report and 0 for one that is refused.
+// The figures, with 1 for an accepted report and 0 for one that is refused: a number, since C calls it.
 #[repr(C)]
-#[derive(Clone, Copy)]
+#[derive(Clone, Copy, PartialEq, Eq, Debug)]
 pub struct Figures {
     pub accepted: u32,
     pub largest: u32,
@@ -25,17 +23,13 @@ pub extern "C" fn wear_figures(wear: &[u32], limit: u32) -> Figures
     ensures { result ≡ plainly (measured wear.now limit) }
 {
     match wear::measure(wear, limit) {
-        Measured::Figures {
-            total,
-            largest,
-            spread,
-        } => Figures {
+        Some(f) => Figures {
             accepted: 1,
-            largest,
-            total,
-            spread,
+            largest: f.largest,
+            total: f.total,
+            spread: f.spread,
         },
-        Measured::Overworn => Figures {
+        None => Figures {
             accepted: 0,
             largest: 0,
             total: 0,

@@ -3,9 +3,8 @@
 
 ghost use Rattle.std.specs.Prelude.{◌≡◌};
 ghost use Rattle.model.specs.Sizes.{vacant};
-ghost use Rattle.answer.specs.Numbers.{refusal_of, opening_of, torn_of, read_of, write_of, step_of, flush_of};
-ghost use Rattle.answer.specs.Numbers.{mends_of_read, mends_of_write, mends_of_step, mends_of_flush};
-ghost use Rattle.replies.specs.Numbers.{accepted, turned_down, answer_numbers, numbers_of};
+ghost use Rattle.answer.specs.Numbers.{refusal_of};
+ghost use Rattle.replies.specs.Numbers.{accepted, numbers_of};
 
 use answer::{Flush, Opening, Read, Refusal, Step, Write};
 use cache::VACANT;
@@ -13,7 +12,7 @@ use cache::VACANT;
 // `refusal` is document 01's number, and 0 where the call is accepted. What a call does not answer is 0, and `block` is VACANT where no
 // block is meant.
 #[repr(C)]
-#[derive(Clone, Copy)]
+#[derive(Clone, Copy, PartialEq, Eq, Debug)]
 pub struct Answer {
     pub refusal: u32,
     // the way of a read or a write, 0 of a part write without bytes
@@ -30,73 +29,26 @@ pub struct Answer {
     pub torn: u32,
 }
 
-// What an opening answers.
-pub fn of_opening(a: Opening) -> Answer
-    ensures { result ≡ answer_numbers (opening_of a) 0 (torn_of a) }
+// The number of a refusal.
+pub fn number(why: Refusal) -> u32
+    ensures { result ≡ (numbers_of (refusal_of why) 0).refusal }
 {
-    match a {
-        Opening::Done { torn } => opened(torn),
-        Opening::Refused(why) => refused(why),
+    match why {
+        Refusal::Size => 1,
+        Refusal::Buffer => 2,
+        Refusal::Overworn => 3,
+        Refusal::Record => 4,
+        Refusal::Page => 5,
+        Refusal::Worn(_) => 6,
+        Refusal::Unreadable => 7,
+        Refusal::Empty => 8,
+        Refusal::Torn => 14,
     }
 }
 
-// What a read answers.
-pub fn of_read(a: Read) -> Answer
-    ensures { result ≡ numbers_of (read_of a) (mends_of_read a) }
-{
-    match a {
-        Read::Done { way, mends } => done(way, VACANT, 0, 0, mends),
-        Read::Refused(why) => refused(why),
-    }
-}
-
-// What a write answers, of a page or of part of one.
-pub fn of_write(a: Write) -> Answer
-    ensures { result ≡ numbers_of (write_of a) (mends_of_write a) }
-{
-    match a {
-        Write::Done { way, mends } => done(way, VACANT, 0, 0, mends),
-        Write::Rewrote {
-            block,
-            merged,
-            mends,
-        } => done(7, block.0, 0, merged, mends),
-        Write::Refused(why) => refused(why),
-    }
-}
-
-// What a flush step answers.
-pub fn of_step(a: Step) -> Answer
-    ensures { result ≡ numbers_of (step_of a) (mends_of_step a) }
-{
-    match a {
-        Step::Done {
-            block,
-            merged,
-            mends,
-        } => done(0, block.0, 1, merged, mends),
-        Step::Clean => done(0, VACANT, 0, 0, 0),
-        Step::Refused(why) => refused(why),
-    }
-}
-
-// What a flush answers.
-pub fn of_flush(a: Flush) -> Answer
-    ensures { result ≡ numbers_of (flush_of a) (mends_of_flush a) }
-{
-    match a {
-        Flush::Done {
-            rewrites,
-            merged,
-            mends,
-        } => done(0, VACANT, rewrites, merged, mends),
-        Flush::Refused(why) => refused(why),
-    }
-}
-
-// An accepted opening.
-fn opened(torn: u32) -> Answer
-    ensures { result ≡ accepted 0 vacant 0 0 0 torn }
+// An accepted call that answers nothing more.
+fn done() -> Answer
+    ensures { result ≡ accepted 0 vacant 0 0 0 0 }
 {
     Answer {
         refusal: 0,
@@ -105,53 +57,139 @@ fn opened(torn: u32) -> Answer
         rewrites: 0,
         merged: 0,
         mended: 0,
-        torn,
-    }
-}
-
-// Any other accepted call.
-fn done(way: u32, block: u32, rewrites: u32, merged: u32, mended: u32) -> Answer
-    ensures { result ≡ accepted way block rewrites merged mended 0 }
-{
-    Answer {
-        refusal: 0,
-        way,
-        block,
-        rewrites,
-        merged,
-        mended,
         torn: 0,
     }
 }
 
-// A refused one.
-pub fn refused(why: Refusal) -> Answer
-    ensures { result ≡ numbers_of (refusal_of why) 0 }
-{
-    match why {
-        Refusal::Size => turned_down(1, VACANT),
-        Refusal::Buffer => turned_down(2, VACANT),
-        Refusal::Overworn => turned_down(3, VACANT),
-        Refusal::Record => turned_down(4, VACANT),
-        Refusal::Page => turned_down(5, VACANT),
-        Refusal::Worn(b) => turned_down(6, b.0),
-        Refusal::Unreadable => turned_down(7, VACANT),
-        Refusal::Empty => turned_down(8, VACANT),
-        Refusal::Torn => turned_down(14, VACANT),
+impl From<Refusal> for Answer {
+    ghost use Rattle.std.specs.Prelude.{◌≡◌};
+    ghost use Rattle.answer.specs.Numbers.{refusal_of};
+    ghost use Rattle.replies.specs.Numbers.{numbers_of};
+
+    ghost from_gives = { λ why r. r ≡ numbers_of (refusal_of why) 0 };
+
+    // Refusal 6 names its block.
+    fn from(why: Refusal) -> Answer {
+        let block = match why {
+            Refusal::Worn(b) => b.0,
+            _ => VACANT,
+        };
+        Answer {
+            refusal: number(why),
+            block,
+            ..done()
+        }
     }
 }
 
-// A refusal by its number.
-fn turned_down(number: u32, block: u32) -> Answer
-    ensures { result ≡ turned_down number block }
-{
-    Answer {
-        refusal: number,
-        way: 0,
-        block,
-        rewrites: 0,
-        merged: 0,
-        mended: 0,
-        torn: 0,
+impl From<Result<Opening, Refusal>> for Answer {
+    ghost use Rattle.std.specs.Prelude.{◌≡◌};
+    ghost use Rattle.answer.specs.Numbers.{opening_of, torn_of};
+    ghost use Rattle.replies.specs.Numbers.{answer_numbers};
+
+    ghost from_gives = { λ a r. r ≡ answer_numbers (opening_of a) 0 (torn_of a) };
+
+    fn from(a: Result<Opening, Refusal>) -> Answer {
+        match a {
+            Ok(opening) => Answer {
+                torn: opening.torn,
+                ..done()
+            },
+            Err(why) => Answer::from(why),
+        }
+    }
+}
+
+impl From<Result<Read, Refusal>> for Answer {
+    ghost use Rattle.std.specs.Prelude.{◌≡◌};
+    ghost use Rattle.answer.specs.Numbers.{read_of, mends_of_read};
+    ghost use Rattle.replies.specs.Numbers.{numbers_of};
+
+    ghost from_gives = { λ a r. r ≡ numbers_of (read_of a) (mends_of_read a) };
+
+    fn from(a: Result<Read, Refusal>) -> Answer {
+        match a {
+            Ok(read) => Answer {
+                way: u32::from(read.way),
+                mended: read.mends,
+                ..done()
+            },
+            Err(why) => Answer::from(why),
+        }
+    }
+}
+
+// Of a page or of part of one.
+impl From<Result<Write, Refusal>> for Answer {
+    ghost use Rattle.std.specs.Prelude.{◌≡◌};
+    ghost use Rattle.answer.specs.Numbers.{write_of, mends_of_write};
+    ghost use Rattle.replies.specs.Numbers.{numbers_of};
+
+    ghost from_gives = { λ a r. r ≡ numbers_of (write_of a) (mends_of_write a) };
+
+    fn from(a: Result<Write, Refusal>) -> Answer {
+        match a {
+            Ok(Write::Done { way, mends }) => Answer {
+                way: u32::from(way),
+                mended: mends,
+                ..done()
+            },
+            Ok(
+                Write::Rewrote {
+                    block,
+                    merged,
+                    mends,
+                },
+            ) => Answer {
+                way: 7,
+                block: block.0,
+                merged,
+                mended: mends,
+                ..done()
+            },
+            Err(why) => Answer::from(why),
+        }
+    }
+}
+
+impl From<Result<Option<Step>, Refusal>> for Answer {
+    ghost use Rattle.std.specs.Prelude.{◌≡◌};
+    ghost use Rattle.answer.specs.Numbers.{step_of, mends_of_step};
+    ghost use Rattle.replies.specs.Numbers.{numbers_of};
+
+    ghost from_gives = { λ a r. r ≡ numbers_of (step_of a) (mends_of_step a) };
+
+    fn from(a: Result<Option<Step>, Refusal>) -> Answer {
+        match a {
+            Ok(Some(step)) => Answer {
+                block: step.block.0,
+                rewrites: 1,
+                merged: step.merged,
+                mended: step.mends,
+                ..done()
+            },
+            Ok(None) => done(),
+            Err(why) => Answer::from(why),
+        }
+    }
+}
+
+impl From<Result<Flush, Refusal>> for Answer {
+    ghost use Rattle.std.specs.Prelude.{◌≡◌};
+    ghost use Rattle.answer.specs.Numbers.{flush_of, mends_of_flush};
+    ghost use Rattle.replies.specs.Numbers.{numbers_of};
+
+    ghost from_gives = { λ a r. r ≡ numbers_of (flush_of a) (mends_of_flush a) };
+
+    fn from(a: Result<Flush, Refusal>) -> Answer {
+        match a {
+            Ok(flush) => Answer {
+                rewrites: flush.rewrites,
+                merged: flush.merged,
+                mended: flush.mends,
+                ..done()
+            },
+            Err(why) => Answer::from(why),
+        }
     }
 }

@@ -1,12 +1,11 @@
 -- The one pass over the wear: what has been added up after the first i entries.
 use Rattle.std.proofs.Common.{◌≡◌, ℕ, ◌+◌, ◌-◌, ◌*◌, ◌%◌, ◌<◌, ◌≤◌, max, leb, List, length, sym, refl, mul-le-mul, add-one, arith, le-leb}
-use Rattle.std.proofs.Common.{leb-true}
+use Rattle.std.proofs.Common.{leb-true, Some, None}
 use Rattle.prelude.specs.Scan.{all, greatest}
 use Rattle.prelude.proofs.Tests.{by-test}
 use Rattle.prelude.proofs.Scan.{all_of, all-at, greatest-ge, greatest-le}
 use Rattle.model.specs.Calls.{sum}
 use Rattle.wear.specs.Figures.{wear_at, squared, total, largest, squares, spread, in_limit, measured}
-use Rattle.wear.specs.declared.Measured.TheVariants as measures
 use Rattle.wear.proofs.Sums.{sum-le, cauchy}
 
 -- total t, sum of squares q modulo 2^64, largest m
@@ -38,7 +37,7 @@ pub record Ended (l : List ℕ) (w t q m : ℕ) : Type 0 where
   pub q_high : q ≤ 4096000000000000
   pub t_high : t ≤ 4096000000
   pub least : t * t ≤ length l * q
-  pub figures : measured l w ≡ measures.Figures t m (length l * q - t * t)
+  pub figures : measured l w ≡ Some (record { total = t; largest = m; spread = length l * q - t * t })
 
 -- the pass is over, and no entry is above the limit
 pub pass_end : (l : List ℕ) (w t q m i : ℕ) → Passed l t q m i → i ≡ length l → length l ≤ 4096 → w ≤ 1000000 → m ≤ w → Ended l w t q m
@@ -61,7 +60,7 @@ pass_end l w t q m i p e n-high w-high h =
     }
 
 -- the pass is over, and an entry is above the limit
-pub pass_fails : (l : List ℕ) (w t q m i : ℕ) → Passed l t q m i → i ≡ length l → w < m → measured l w ≡ measures.Overworn
+pub pass_fails : (l : List ℕ) (w t q m i : ℕ) → Passed l t q m i → i ≡ length l → w < m → measured l w ≡ None
 unfolding measured in_limit
 pass_fails l w t q m i p e h = by-test (all (length l) (λ b. leb (wear_at l b) w))
     (λ t. absurd (

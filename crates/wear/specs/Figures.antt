@@ -1,9 +1,8 @@
 -- Request A14: the wear of a chip in whole figures, over the list of its blocks' wear.
-use Rattle.std.specs.Prelude.{ℕ, suc, ◌-◌, ◌*◌, Bool, cond, List, length, nat_le, slice_index, slice_set}
+use Rattle.std.specs.Prelude.{ℕ, suc, ◌-◌, ◌*◌, Bool, cond, List, length, nat_le, slice_index, slice_set, Option, Some, None}
 use Rattle.prelude.specs.Scan.{all, greatest}
 use Rattle.model.specs.Calls.{sum}
-use Rattle.wear.specs.declared.Measured.{Measured}
-use Rattle.wear.specs.declared.Measured.TheVariants as measures
+use Rattle.wear.specs.declared.Figures.{Figures}
 
 -- the wear of block b
 abbrev pub wear_at : List ℕ → ℕ → ℕ
@@ -33,8 +32,8 @@ unfoldable pub in_limit : List ℕ → ℕ → Bool
 in_limit l w = all (length l) (λ b. nat_le (wear_at l b) w)
 
 -- the report of a list of wear; it is refused when an entry is above W
-unfoldable pub measured : List ℕ → ℕ → Measured
-measured l w = cond (in_limit l w) (measures.Figures (total l) (largest l) (spread l)) measures.Overworn
+unfoldable pub measured : List ℕ → ℕ → Option Figures
+measured l w = cond (in_limit l w) (Some (record { total = total l; largest = largest l; spread = spread l })) None
 
 -- the list after one more erasure of block b
 unfoldable pub erased_once : List ℕ → ℕ → List ℕ

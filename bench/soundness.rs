@@ -1,6 +1,6 @@
 // Times the proved soundness test, linked from the static library of the crate bench_sound, beside a plain Rust test. The proved one
-// takes the record by value or is lent its lists, as in the store's calls; the other takes it by value or by reference. Both use a filter
-// of 4,096 bits. First all must agree on sound and on spoilt records. The entries of the shelf are not in it: the calls look at them.
+// takes the record by value or is lent its directory, as in the store's calls; the other takes it by value or by reference. Both use a
+// filter of 4,096 bits. First all must agree on sound and on spoilt records. The entries of the shelf are not in it: the calls look at them.
 #[path = "store/src/numbers.rs"]
 mod numbers;
 #[allow(dead_code)]
@@ -20,7 +20,7 @@ use std::time::Instant;
 
 extern "C" {
     fn record_sound(r: Numbers) -> bool;
-    fn lists_sound(opening: Opening, slots: &[u32; 128], frames: &[u32; 8], valid: &[u64; 8], recency: &[u8; 8], uses: &[u32; 8]) -> bool;
+    fn lists_sound(opening: Opening, directory: &Directory) -> bool;
 }
 
 fn proved(r: Numbers) -> bool {
@@ -28,8 +28,7 @@ fn proved(r: Numbers) -> bool {
 }
 
 fn lent(r: &Numbers) -> bool {
-    let d = &r.directory;
-    unsafe { lists_sound(r.opening, &d.slots, &d.frames, &d.valid, &d.recency, &d.uses) }
+    unsafe { lists_sound(r.opening, &r.directory) }
 }
 
 #[inline(never)]

@@ -9,22 +9,20 @@ ghost use Rattle.policy.specs.Views.{victim_of};
 use cache::{Directory, Sizes};
 use policy::decision::Victim;
 
-// The numbers of a cache record.
+// The numbers of a cache record, as bench_sound has them.
 #[repr(C)]
-#[derive(Clone, Copy)]
+#[derive(Clone, Copy, PartialEq, Eq, Debug)]
 pub struct Record {
     pub sizes: Sizes,
     pub directory: Directory,
 }
 
 // The block with the most pages in slots, and how many. The record must be sound.
+#[tactic(auto, using(policy::proofs::Asks::slots_of))]
 #[unsafe(no_mangle)]
 pub extern "C" fn record_victim(r: Record) -> Victim
     requires { Sound (sizes_of r.sizes) (directory_of r.directory) }
     ensures { result ≡ victim_of (sizes_of r.sizes) (directory_of r.directory) }
 {
-    let sizes = r.sizes;
-    let directory = r.directory;
-    let slots = directory.page_numbers();
-    policy::victim::victim(sizes, &slots)
+    policy::victim::victim(r.sizes, &r.directory)
 }

@@ -1,8 +1,6 @@
 // The cache record's numbers by value: its sizes and its directory, which says what stands where.
 #![tactic(auto)]
 
-pub mod entry; // entry.rt: an entry of a list, and how it becomes a page or a block number
-mod lists; // lists.rt: the directory as lists of plain numbers, and back
 pub mod search; // search.rt: what a search of the slots may pass over
 
 ghost use Rattle.std.specs.Prelude.{◌≡◌};
@@ -12,12 +10,13 @@ ghost use Rattle.cache.specs.View.{sizes_of, directory_of};
 
 use address::{BlockNo, PageNo};
 
-// What stands in a slot or a frame that holds nothing.
+// What stands in a slot or a frame that holds nothing: a number and no option, since the record is C's.
 pub const VACANT: u32 = 4294967295;
 
-// What an opening sets: the five sizes, the wear limit, and the options. A store without an option has 0 there.
+// What an opening sets: the five sizes, the wear limit, and the options. A store without an option has 0 there. The options are numbers and
+// no enums, since the record comes from C, which may hand any number in.
 #[repr(C)]
-#[derive(Clone, Copy)]
+#[derive(Clone, Copy, PartialEq, Eq, Debug)]
 pub struct Sizes {
     pub page_size: u32,
     pub pages_per_block: u32,
@@ -80,10 +79,10 @@ impl Sizes {
 }
 
 // The frames by their use (document 01's order of use), least recent first, the valid pages of each frame, its uses (request A5),
-// a block number or VACANT for each frame, and a page number or VACANT for each slot (document 01's place). The short lists stand
-// first: the compiler then builds a record where it is handed back, without a copy of its own.
+// a block number or VACANT for each frame, and a page number or VACANT for each slot (document 01's place). The short lists stand first:
+// the compiler then builds a record where it is handed back, without a copy of its own. The lists are parallel, since the record is C's.
 #[repr(C)]
-#[derive(Clone, Copy)]
+#[derive(Clone, Copy, PartialEq, Eq, Debug)]
 pub struct Directory {
     pub recency: [u8; 8],
     pub valid: [u64; 8],

@@ -86,15 +86,6 @@ module _ (seen : List ℕ) (x v : ℕ) (long : length seen ≡ 64) where
 -- ---- slots passed one by one
 
 module _ (end : ℕ) (s : List ℕ) (i : ℕ) (seen : List ℕ) where
-  pub passed_none : length seen ≡ 64 → Passed end s i i seen seen
-  passed_none h = record {
-    low = omega arith;
-    long = h;
-    kept = λ x e. e;
-    unmet = λ e a b. absurd (omega arith);
-    marked = λ e a b. absurd (omega arith);
-  }
-
   module _ (j : ℕ) (next : List ℕ) (h : Passed end s i j seen next) where
     -- the last of the slots below j + 1, or one before
     last : {X : ℕ → Type 0} → ((e : ℕ) → i ≤ e → e < j → X e) → X j → (e : ℕ) → i ≤ e → e < j + 1 → X e

@@ -2,14 +2,14 @@
 // was not put in; one whose bit is set may have been.
 #![tactic(auto)]
 
-ghost use Rattle.std.specs.Prelude.{◌≡◌, ◌*◌, ◌<◌, ◌≤◌, length};
+ghost use Rattle.std.specs.Prelude.{◌≡◌, ◌*◌, ◌<◌, ◌≤◌, IfSome, unwrap_or};
 ghost use Rattle.model.specs.Sizes.{InLimits};
-ghost use Rattle.cache.specs.View.{sizes_of};
+ghost use Rattle.cache.specs.View.{sizes_of, directory_of};
 ghost use Rattle.filter.specs.Filter.{or_at, laid_at};
 ghost use Rattle.filter.specs.Passed.{FirstMet};
 
 use address::PageNo;
-use cache::{Sizes, VACANT};
+use cache::{Directory, Sizes, VACANT};
 
 // The pages from the first on that have a bit in v go in: v is shifted to its place, in one word and the next.
 pub fn lay(seen: &mut [u64; 64], first: PageNo, v: u64)
@@ -26,34 +26,35 @@ fn mark(seen: &mut [u64; 64], w: usize, m: u64)
     requires { w < 64 }
     ensures { seen.new ≡ or_at seen.old w m }
 {
-    let v = seen[w];
-    seen[w] = v | m;
+    seen[w] |= m;
 }
 
-// The first slot from i on, below P, whose number is out of range or may be in the filter; P where there is none. The
-// numbers passed go into the filter; one that changes no word of it may be there already.
-pub fn first_met(sizes: Sizes, slots: &[u32; 128], seen: &mut [u64; 64], i: usize) -> usize
-    requires { InLimits (sizes_of sizes) × (i ≤ (sizes_of sizes).P) × (length seen.old ≡ 64) }
-    ensures { FirstMet ((sizes_of sizes).N * (sizes_of sizes).K) (sizes_of sizes).P slots.now i seen.old
-        seen.new result }
+// The first slot from i on, below P, whose number is out of range or may be in the filter. The numbers passed go into the filter; one that
+// changes no word of it may be there already. By index, since the place is what is answered.
+pub fn first_met(
+    sizes: Sizes,
+    directory: &Directory,
+    seen: &mut [u64; 64],
+    i: usize,
+) -> Option<usize>
+    requires { InLimits (sizes_of sizes) × (i ≤ (sizes_of sizes).P) }
+    ensures met { FirstMet ((sizes_of sizes).N * (sizes_of sizes).K) (sizes_of sizes).P (directory_of directory.now).slots i
+        seen.old seen.new (unwrap_or result sizes.slots) }
+    ensures below { IfSome result (λ j. j < sizes.slots) }
 {
-    let p = sizes.slots as usize;
     let end = sizes.blocks * sizes.pages_per_block;
-    let mut j = i;
-    while j < p {
-        let y = slots[j];
+    for j in i..sizes.slots as usize {
+        let y = directory.slots[j].0;
         if y < end {
             let w = (y % 4096 / 64) as usize;
-            let v = seen[w];
-            let next = bitmap::with(v, y % 64);
-            if next == v {
-                return j;
+            let next = bitmap::with(seen[w], y % 64);
+            if next == seen[w] {
+                return Some(j);
             }
             seen[w] = next;
         } else if y != VACANT {
-            return j;
+            return Some(j);
         }
-        j += 1;
     }
-    j
+    None
 }

@@ -1,7 +1,7 @@
 -- The victim by a table of counts: what holds of the table and of the highest rank after the first i slots, and the victim by its rank.
 use mathlib.Core.Path.{◌≡◌, refl, sym, ◌∙◌}
 use mathlib.Core.List.{List}
-use Prim.Native.Nat.{ℕ, ◌+◌, ◌-◌, ◌*◌, ◌/◌, ◌≤◌, ◌<◌}
+use Prim.Native.Nat.{ℕ, ◌+◌, ◌-◌, ◌*◌, ◌/◌, ◌≤◌, ◌<◌, max}
 use native.Mathlib.Omega.{arith}
 use lib.Dec.{eqb, ltb}
 use lib.ListN.{length, get_or, set, replicate, length-set, length-replicate, get_or-replicate}
@@ -18,7 +18,6 @@ use Rattle.model.proofs.Lookup.{in_block_lem, not-in_block, some-pages}
 use Rattle.model.proofs.Plan.{slot-block}
 use Rattle.cache.specs.View.{block_no}
 use Rattle.policy.specs.Views.{victim_of, rank_of, Cleared}
-use Rattle.policy.proofs.Held.{Held}
 
 -- the pages of block b in the first i slots
 abbrev pub pages-to : Sizes → Directory → ℕ → ℕ → ℕ
@@ -32,6 +31,10 @@ pub record Counted (sz : Sizes) (d : Directory) (i : ℕ) (l : List ℕ) (lead :
   pub low : leader < sz.N
   pub leads : pages-to sz d i leader * 4096 ≡ lead + leader
   pub top : (b : ℕ) → b < sz.N → pages-to sz d i b * 4096 ≤ lead + b
+
+-- a block has no more pages than there are slots, so a rank is small
+pub few : (sz : Sizes) (d : Directory) (i : ℕ) (l : List ℕ) (lead b : ℕ) → Counted sz d i l lead → i ≤ 128 → b < sz.N → get_or l b 0 ≤ 128
+few sz d i l lead b h k bl = let e = h.each b bl in let m = count-le i (in_block sz d b) in omega arith
 
 pub cleared_zeros : (sz : Sizes) (n : ℕ) → sz.N ≤ n → Cleared sz (replicate n 0)
 cleared_zeros sz n h = record { long = rw (length-replicate {A = ℕ} n 0) h; zeros = λ b l. get_or-replicate {A = ℕ} n b 0 0 (omega arith) }
@@ -62,16 +65,17 @@ module _ (sz : Sizes) (d : Directory) where
         same : (b : ℕ) → pages-to sz d i b ≡ pages-to sz d (i + 1) b
         same b = count-miss i (in_block sz d b) (not-in_block sz d b i (λ k q. absurd (omega arith)))
 
-    module _ (b v : ℕ) (p : Held sz d i b) (ve : v ≡ get_or l b 0 + 1) where
+    -- slot i holds a page of block b
+    module _ (b v : ℕ) (page : slot_at d i < vacant) (own : slot_at d i / sz.K ≡ b) (bl : b < sz.N) (ve : v ≡ get_or l b 0 + 1) where
       grown : v ≡ pages-to sz d (i + 1) b
-      grown = let a = h.each b p.low in let c = count-hit i (in_block sz d b) (in_block_lem sz d b i p.page p.own) in omega arith
+      grown = let a = h.each b bl in let c = count-hit i (in_block sz d b) (in_block_lem sz d b i page own) in omega arith
 
       other : (j : ℕ) → (j ≡ b → ⊥) → pages-to sz d i j ≡ pages-to sz d (i + 1) j
-      other j ne = count-miss i (in_block sz d j) (not-in_block sz d j i (λ k q. ne (sym q ∙ p.own)))
+      other j ne = count-miss i (in_block sz d j) (not-in_block sz d j i (λ k q. ne (sym q ∙ own)))
 
       stored : (c : ℕ) → c < sz.N → get_or (set l b v) c 0 ≡ pages-to sz d (i + 1) c
       stored c cl = by-test (eqb c b)
-          (λ t. rw (eqb-true c b t) (get_or-set_same l b v 0 (let k = h.long in let q = p.low in omega arith) ∙ grown))
+          (λ t. rw (eqb-true c b t) (get_or-set_same l b v 0 (let k = h.long in omega arith) ∙ grown))
           (λ t. let ne = eqb-false c b t in get_or-set_other l b c v 0 ne ∙ h.each c cl ∙ other c ne)
 
       -- the ranks are as before, but for b's
@@ -80,17 +84,17 @@ module _ (sz : Sizes) (d : Directory) where
           (λ q. let a = h.top j jl in let e = other j (eqb-false j b q) in omega arith)
 
       -- block b takes the lead, or it stays
-      pub counted-taken : lead < v * 4096 - b → Counted sz d (i + 1) (set l b v) (v * 4096 - b)
+      counted-taken : lead < v * 4096 - b → Counted sz d (i + 1) (set l b v) (v * 4096 - b)
       counted-taken t = record {
         long = rw (length-set l b v) h.long;
         each = stored;
         leader = b;
-        low = p.low;
+        low = bl;
         leads = rw (← grown) (omega arith);
         top = ranks (v * 4096 - b) (omega arith) (omega arith);
       }
 
-      pub counted-kept : v * 4096 - b ≤ lead → Counted sz d (i + 1) (set l b v) lead
+      counted-kept : v * 4096 - b ≤ lead → Counted sz d (i + 1) (set l b v) lead
       counted-kept t = record {
         long = rw (length-set l b v) h.long;
         each = stored;
@@ -101,7 +105,14 @@ module _ (sz : Sizes) (d : Directory) where
       }
         where
           ne : h.leader ≡ b → ⊥
-          ne q = let e : pages-to sz d i b * 4096 ≡ lead + b = (rw q at h.leads) in let a = h.each b p.low in omega arith
+          ne q = let e : pages-to sz d i b * 4096 ≡ lead + b = (rw q at h.leads) in let a = h.each b bl in omega arith
+
+      pub counted_more : Counted sz d (i + 1) (set l b v) (max lead (v * 4096 - b))
+      counted_more = by-test (ltb lead (v * 4096 - b))
+          (λ t. let k = ltb-true lead (v * 4096 - b) t in let e : v * 4096 - b ≡ max lead (v * 4096 - b) = omega arith in
+          rw (← e) (counted-taken k))
+          (λ t. let k = ltb-false lead (v * 4096 - b) t in let e : lead ≡ max lead (v * 4096 - b) = omega arith in
+          rw (← e) (counted-kept k))
 
 module _ (sz : Sizes) (d : Directory) (limits : InLimits sz) where
   module _ (l : List ℕ) (lead : ℕ) (h : Counted sz d sz.P l lead) where

@@ -1,22 +1,29 @@
 -- The code's decisions as the model has them, and what a search asks.
-use Rattle.std.specs.Prelude.{◌≡◌, true, cond, ◌&&◌, List, ℕ, ◌-◌, ◌*◌, ◌≤◌, ◌<◌, leb, ltb, length, get_or}
+use Rattle.std.specs.Prelude.{◌≡◌, true, cond, ◌&&◌, List, ℕ, ◌-◌, ◌*◌, ◌≤◌, ◌<◌, leb, ltb, length, get_or, Option, Some, None}
 use Rattle.prelude.specs.Scan.{first}
 use Rattle.prelude.specs.Bits.{bit}
-use Rattle.model.specs.Sizes.{Sizes}
+use Rattle.model.specs.Sizes.{Sizes, InLimits}
 use Rattle.model.specs.Directory.{Directory}
-use Rattle.model.specs.Soundness.{Sound}
+use Rattle.model.specs.Soundness.{Sound, Listed}
 use Rattle.model.specs.Policy as model
-use Rattle.model.specs.Policy.{frame_of, valid_count, slot_count, least_recent, policy_choice, victim, slot_hit, frame_hit, free_slot, join}
+use Rattle.model.specs.Policy.{frame_of, valid_count, slot_count, policy_choice, victim, slot_hit, frame_hit, free_slot, join}
 use Rattle.model.specs.Policy.{fill}
 use Rattle.model.specs.Policy.{exchange, evict, clean, due, occupied}
-use Rattle.cache.specs.View.{block_no, numbers}
+use Rattle.cache.specs.View.{block_no}
+use Rattle.policy.specs.declared.choice.Policy.{Policy}
+use Rattle.policy.specs.declared.choice.Policy.TheVariants.{Lru, Fifo, Lfu}
 use Rattle.policy.specs.declared.decision.Victim.{Victim}
 use Rattle.policy.specs.declared.decision.Plan.{Plan}
 use Rattle.policy.specs.declared.decision.Plan.TheVariants.{SlotHit, FrameHit, FreeSlot, MakeRoom}
 use Rattle.policy.specs.declared.decision.Room.{Room}
 use Rattle.policy.specs.declared.decision.Room.TheVariants.{Join, Fill, Exchange, Evict}
 use Rattle.policy.specs.declared.decision.Due.{Due}
-use Rattle.policy.specs.declared.decision.Due.TheVariants.{Clean, Block}
+
+-- a policy's number in the record
+abbrev pub policy_number : Policy → ℕ
+policy_number Lru = 0
+policy_number Fifo = 1
+policy_number Lfu = 2
 
 -- the victim, and how many of its pages stand in slots: none where no slot holds a page
 unfoldable pub victim_of : Sizes → Directory → Victim
@@ -45,18 +52,14 @@ plan_of (FrameHit f) = frame_hit f
 plan_of (FreeSlot i) = free_slot i
 plan_of (MakeRoom r) = room_of r
 
--- what a flush step is due to do
-abbrev pub due_view : Due → model.Due
-due_view Clean = clean
-due_view (Block b f) = due b.0 f
+-- what a flush step is due to do: nothing where nothing is cached
+abbrev pub due_view : Option Due → model.Due
+due_view None = clean
+due_view (Some d) = due d.block.0 d.frame
 
 -- the occupied frame that a step takes by the policy, B where there is none
 unfoldable pub step_frame : Sizes → Directory → ℕ
 step_frame sz d = cond (ltb (first sz.B (occupied d)) sz.B) (policy_choice sz d (occupied d)) sz.B
-
--- the least recent occupied frame, B where there is none
-unfoldable pub oldest_occupied : Sizes → Directory → ℕ
-oldest_occupied sz d = cond (ltb (first sz.B (occupied d)) sz.B) (least_recent sz d (occupied d)) sz.B
 
 -- the lowest worn block with a page in a slot, with a frame; N where there is none
 unfoldable pub worn_in_slots : Sizes → Directory → List ℕ → ℕ
@@ -65,7 +68,7 @@ worn_in_slots sz d w = first sz.N (λ b. ltb 0 (slot_count sz d b) && leb sz.W (
 unfoldable pub worn_in_frames : Sizes → Directory → List ℕ → ℕ
 worn_in_frames sz d w = first sz.N (λ b. ltb (frame_of sz d b) sz.B && leb sz.W (get_or w b 0))
 
--- ---- the lists that a search is lent are a sound record's: what the record has beside them is named and not looked at
+-- ---- a search asks of the lists that it looks at alone that they are a sound record's: what stands beside them is named, and no more
 
 -- the slots
 pub record SlotsOf (sz : Sizes) (s : List ℕ) : Type 0 where
@@ -73,7 +76,15 @@ pub record SlotsOf (sz : Sizes) (s : List ℕ) : Type 0 where
   pub valid : List ℕ
   pub recency : List ℕ
   pub uses : List ℕ
-  pub sound : Sound sz (numbers s frames valid recency uses)
+  pub sound : Sound sz (record { slots = s; frames = frames; valid = valid; recency = recency; uses = uses })
+
+-- the frames
+pub record FramesOf (sz : Sizes) (f : List ℕ) : Type 0 where
+  pub slots : List ℕ
+  pub valid : List ℕ
+  pub recency : List ℕ
+  pub uses : List ℕ
+  pub sound : Sound sz (record { slots = slots; frames = f; valid = valid; recency = recency; uses = uses })
 
 -- the valid pages of the frames
 pub record ValidOf (sz : Sizes) (v : List ℕ) : Type 0 where
@@ -81,112 +92,46 @@ pub record ValidOf (sz : Sizes) (v : List ℕ) : Type 0 where
   pub frames : List ℕ
   pub recency : List ℕ
   pub uses : List ℕ
-  pub sound : Sound sz (numbers slots frames v recency uses)
+  pub sound : Sound sz (record { slots = slots; frames = frames; valid = v; recency = recency; uses = uses })
 
--- the frames and the order of use
-pub record OrderOf (sz : Sizes) (f r : List ℕ) : Type 0 where
-  pub slots : List ℕ
-  pub valid : List ℕ
-  pub uses : List ℕ
-  pub sound : Sound sz (numbers slots f valid r uses)
-
--- the frames, the order of use and the uses
-pub record UsesOf (sz : Sizes) (f r u : List ℕ) : Type 0 where
-  pub slots : List ℕ
-  pub valid : List ℕ
-  pub sound : Sound sz (numbers slots f valid r u)
-
--- and the slots
+-- the slots, the frames, the order of use and the uses
 pub record DueOf (sz : Sizes) (s f r u : List ℕ) : Type 0 where
   pub valid : List ℕ
-  pub sound : Sound sz (numbers s f valid r u)
+  pub sound : Sound sz (record { slots = s; frames = f; valid = valid; recency = r; uses = u })
 
--- the order of use alone
-pub record OrderList (sz : Sizes) (r : List ℕ) : Type 0 where
-  pub slots : List ℕ
-  pub frames : List ℕ
-  pub valid : List ℕ
-  pub uses : List ℕ
-  pub sound : Sound sz (numbers slots frames valid r uses)
-
--- the order of use and the uses, and a set with one of the frames
-pub record OpenOf (sz : Sizes) (r u : List ℕ) (set : ℕ) : Type 0 where
-  pub slots : List ℕ
-  pub frames : List ℕ
-  pub valid : List ℕ
-  pub sound : Sound sz (numbers slots frames valid r u)
-  pub frame : ℕ
-  pub frame-lt : frame < sz.B
-  pub frame-open : bit set frame ≡ true
-
--- some frame has n valid pages
-pub record SomeValid (sz : Sizes) (v r : List ℕ) (n : ℕ) : Type 0 where
-  pub slots : List ℕ
-  pub frames : List ℕ
-  pub uses : List ℕ
-  pub sound : Sound sz (numbers slots frames v r uses)
-  pub frame : ℕ
-  pub frame-lt : frame < sz.B
-  pub frame_has : valid_count sz (numbers slots frames v r uses) frame ≡ n
-
--- the same with the uses
+-- the valid pages, the order of use and the uses, and some frame has n valid pages
 pub record UsesValid (sz : Sizes) (v r u : List ℕ) (n : ℕ) : Type 0 where
   pub slots : List ℕ
   pub frames : List ℕ
-  pub sound : Sound sz (numbers slots frames v r u)
+  pub sound : Sound sz (record { slots = slots; frames = frames; valid = v; recency = r; uses = u })
   pub frame : ℕ
   pub frame-lt : frame < sz.B
-  pub frame_has : valid_count sz (numbers slots frames v r u) frame ≡ n
+  pub frame_has : valid_count sz (record { slots = slots; frames = frames; valid = v; recency = r; uses = u }) frame ≡ n
+
+-- the frames, the order of use and the uses, no frame is vacant, and there is a wear for each block
+pub record UsesOccupied (sz : Sizes) (f r u w : List ℕ) : Type 0 where
+  pub slots : List ℕ
+  pub valid : List ℕ
+  pub sound : Sound sz (record { slots = slots; frames = f; valid = valid; recency = r; uses = u })
+  pub wear-length : length w ≡ sz.N
+  pub block-lt : (g : ℕ) → g < sz.B → get_or f g 0 < sz.N
 
 -- there is a wear for each block
 pub record WithWear (sz : Sizes) (d : Directory) (w : List ℕ) : Type 0 where
   pub sound : Sound sz d
   pub wear-length : length w ≡ sz.N
 
--- and the slots are lent, or the frames, or both
-pub record SlotsWorn (sz : Sizes) (s w : List ℕ) : Type 0 where
-  pub frames : List ℕ
-  pub valid : List ℕ
-  pub recency : List ℕ
-  pub uses : List ℕ
-  pub with-wear : WithWear sz (numbers s frames valid recency uses) w
-
-pub record FramesWorn (sz : Sizes) (f w : List ℕ) : Type 0 where
-  pub slots : List ℕ
-  pub valid : List ℕ
-  pub recency : List ℕ
-  pub uses : List ℕ
-  pub with-wear : WithWear sz (numbers slots f valid recency uses) w
-
+-- and the slots and the frames are looked at
 pub record CachedWorn (sz : Sizes) (s f w : List ℕ) : Type 0 where
   pub valid : List ℕ
   pub recency : List ℕ
   pub uses : List ℕ
-  pub with-wear : WithWear sz (numbers s f valid recency uses) w
+  pub with-wear : WithWear sz (record { slots = s; frames = f; valid = valid; recency = recency; uses = uses }) w
 
--- no frame is vacant, and there is a wear for each block
-pub record AllOccupied (sz : Sizes) (f r w : List ℕ) : Type 0 where
-  pub slots : List ℕ
-  pub valid : List ℕ
-  pub uses : List ℕ
-  pub sound : Sound sz (numbers slots f valid r uses)
-  pub wear-length : length w ≡ sz.N
-  pub block-lt : (g : ℕ) → g < sz.B → get_or f g 0 < sz.N
-
--- the same with the uses
-pub record UsesOccupied (sz : Sizes) (f r u w : List ℕ) : Type 0 where
-  pub slots : List ℕ
-  pub valid : List ℕ
-  pub sound : Sound sz (numbers slots f valid r u)
-  pub wear-length : length w ≡ sz.N
-  pub block-lt : (g : ℕ) → g < sz.B → get_or f g 0 < sz.N
-
--- the frames alone
-pub record WornOf (sz : Sizes) (f w : List ℕ) : Type 0 where
-  pub slots : List ℕ
-  pub valid : List ℕ
-  pub recency : List ℕ
-  pub uses : List ℕ
-  pub sound : Sound sz (numbers slots f valid recency uses)
-  pub wear-length : length w ≡ sz.N
-  pub block-lt : (g : ℕ) → g < sz.B → get_or f g 0 < sz.N
+-- a set with one of the frames, and an order of them
+pub record OpenOf (sz : Sizes) (d : Directory) (set : ℕ) : Type 0 where
+  pub limits : InLimits sz
+  pub listed : Listed sz d
+  pub frame : ℕ
+  pub frame-lt : frame < sz.B
+  pub frame-open : bit set frame ≡ true

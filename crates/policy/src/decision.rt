@@ -1,16 +1,16 @@
 // What is decided, as data.
 use address::BlockNo;
 
-// A block and how many of its pages stand in slots.
+// A block and how many of its pages stand in slots; 0, and no `None`, where no slot holds a page: C is given it so.
 #[repr(C)]
-#[derive(Clone, Copy)]
+#[derive(Clone, Copy, PartialEq, Eq, Debug)]
 pub struct Victim {
     pub block: BlockNo,
     pub pages: u32,
 }
 
 // What a write does, by document 01's ways.
-#[derive(Clone, Copy)]
+#[derive(Clone, Copy, PartialEq, Eq, Debug)]
 pub enum Plan {
     // Way 1: the page is in this slot.
     SlotHit(usize),
@@ -23,7 +23,7 @@ pub enum Plan {
 }
 
 // How a write makes room in the slots: the victim, and the frame that takes its pages.
-#[derive(Clone, Copy)]
+#[derive(Clone, Copy, PartialEq, Eq, Debug)]
 pub enum Room {
     // Way 4: they join the frame, which is the victim's.
     Join(BlockNo, usize),
@@ -35,11 +35,9 @@ pub enum Room {
     Evict(BlockNo, usize),
 }
 
-// What a flush step does.
-#[derive(Clone, Copy)]
-pub enum Due {
-    // Nothing is cached.
-    Clean,
-    // This block is rewritten through this frame.
-    Block(BlockNo, usize),
+// What a flush step rewrites: this block, through this frame.
+#[derive(Clone, Copy, PartialEq, Eq, Debug)]
+pub struct Due {
+    pub block: BlockNo,
+    pub frame: usize,
 }

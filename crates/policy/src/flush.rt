@@ -1,152 +1,120 @@
 // What a flush step rewrites, and which block stops a flush.
-ghost use Rattle.std.specs.Prelude.{◌≡◌, [], ◌<◌, length};
+ghost use Rattle.std.specs.Prelude.{◌≡◌, ◌<◌, ◌&&◌, cond, ltb, length, IfSome, unwrap_or};
 ghost use Rattle.model.specs.Policy.{policy_choice, lowest_in_slots, due_of, is_worn, lowest_worn};
-ghost use Rattle.cache.specs.View.{block_no, sizes_of, numbers};
-ghost use Rattle.policy.specs.Views.{due_view, step_frame, oldest_occupied, worn_in_slots, worn_in_frames, DueOf, SlotsOf, UsesOf};
-ghost use Rattle.policy.specs.Views.{OrderOf, SlotsWorn, FramesWorn, CachedWorn};
+ghost use Rattle.cache.specs.View.{block_no, sizes_of, directory_of};
+ghost use Rattle.policy.specs.Views.{due_view, step_frame, worn_in_slots, worn_in_frames, SlotsOf, FramesOf, DueOf, CachedWorn};
 
+use crate::choice;
 use crate::decision::Due;
-use crate::lfu;
-use address::BlockNo;
-use cache::{Sizes, VACANT, entry};
+use address::{BlockNo, PageNo};
+use cache::{Directory, Sizes, VACANT};
 
-// What a flush step is due to do.
-pub fn due(
-    z: Sizes,
-    slots: &[u32; 128],
-    frames: &[u32; 8],
-    recency: &[u8; 8],
-    uses: &[u32; 8],
-) -> Due
-    requires { DueOf (sizes_of z) slots.now frames.now recency.now uses.now }
-    ensures { let d = numbers slots.now frames.now [] recency.now uses.now in
-        due_view result ≡ due_of policy_choice (sizes_of z) d }
+// What a flush step is due to do; None where nothing is cached. It is lent no wear.
+#[tactic(auto, using(crate::proofs::Due::steps), unfolding(model::specs::Policy::due_of, crate::specs::Views::step_frame))]
+pub fn due(z: Sizes, directory: &Directory) -> Option<Due>
+    requires { let d = directory_of directory.now in DueOf (sizes_of z) d.slots d.frames d.recency d.uses }
+    ensures { due_view result ≡ due_of policy_choice (sizes_of z) (directory_of directory.now) }
 {
-    let f = step_frame(z, frames, recency, uses);
-    if f < z.frames as usize {
-        return Due::Block(entry::block(frames[f]), f);
+    if let Some(frame) = step_frame(z, directory) {
+        let block = directory.frames[frame];
+        return Some(Due { block, frame });
     }
-    let b = lowest_in_slots(z, slots);
-    if b.0 < z.blocks {
-        return Due::Block(b, 0);
-    }
-    Due::Clean
+    let block = lowest_in_slots(z, directory)?;
+    Some(Due { block, frame: 0 })
 }
 
-// The occupied frame that a step takes, by the record's policy, or the number of frames where none is occupied. It is lent no wear.
-fn step_frame(z: Sizes, frames: &[u32; 8], recency: &[u8; 8], uses: &[u32; 8]) -> usize
-    requires { UsesOf (sizes_of z) frames.now recency.now uses.now }
-    ensures { result ≡ step_frame (sizes_of z) (numbers [] frames.now [] recency.now uses.now) }
+// The occupied frame that a step takes, by the record's policy.
+#[tactic(auto, using(crate::proofs::Due::taken_lt, crate::proofs::Uses::choices), unfolding(crate::specs::Views::step_frame))]
+fn step_frame(z: Sizes, directory: &Directory) -> Option<usize>
+    requires { let d = directory_of directory.now in DueOf (sizes_of z) d.slots d.frames d.recency d.uses }
+    ensures found { unwrap_or result z.frames ≡ step_frame (sizes_of z) (directory_of directory.now) }
+    ensures within { IfSome result (λ f. f < z.frames) }
 {
-    if z.policy != 2 {
-        return oldest_occupied(z, frames, recency);
+    let among = choice::held(z, directory);
+    if among == 0 {
+        return None;
     }
-    let among = lfu::held(z, frames);
-    if 0 < among {
-        return lfu::least_used(z, recency, uses, among);
-    }
-    z.frames as usize
+    Some(choice::chosen(z, directory, among))
 }
 
-// The least recent occupied frame, or the number of frames where none is occupied.
-fn oldest_occupied(z: Sizes, frames: &[u32; 8], recency: &[u8; 8]) -> usize
-    requires { OrderOf (sizes_of z) frames.now recency.now }
-    ensures { result ≡ oldest_occupied (sizes_of z) (numbers [] frames.now [] recency.now []) }
+// The lowest block with pages in slots: the block of the least page number.
+#[tactic(auto, using(crate::proofs::Lowest::leasts, crate::proofs::Lowest::lowest, crate::proofs::Held::slot_read))]
+fn lowest_in_slots(z: Sizes, directory: &Directory) -> Option<BlockNo>
+    requires { SlotsOf (sizes_of z) (directory_of directory.now).slots }
+    ensures found { (unwrap_or result (block_no z.blocks)).0 ≡ lowest_in_slots (sizes_of z) (directory_of directory.now) }
+    ensures within { IfSome result (λ b. b.0 < z.blocks) }
 {
-    let end = z.frames as usize;
-    let mut i = 0;
-    while i < end {
-        let f = recency[i] as usize;
-        if frames[f] < VACANT {
-            return f;
-        }
-        i += 1;
-    }
-    i
-}
-
-// What a search for a block gives where there is none: the number after the last block's.
-fn no_block(z: Sizes) -> BlockNo
-    ensures { result ≡ block_no z.blocks }
-{
-    BlockNo(z.blocks)
-}
-
-// The lowest block with pages in slots, or no block: the block of the least page number.
-fn lowest_in_slots(z: Sizes, slots: &[u32; 128]) -> BlockNo
-    requires { SlotsOf (sizes_of z) slots.now }
-    ensures { result.0 ≡ lowest_in_slots (sizes_of z) (numbers slots.now [] [] [] []) }
-{
-    let end = z.slots as usize;
     let mut low = VACANT;
-    let mut i = 0;
-    while i < end {
-        let x = slots[i];
-        if x < low {
-            low = x;
-        }
-        i += 1;
+    for n in &directory.slots[..z.slots as usize] {
+        low = low.min(n.0);
     }
     if low == VACANT {
-        return no_block(z);
+        return None;
     }
-    address::block_of(entry::page(low), z.pages_per_block)
+    Some(address::block_of(PageNo(low), z.pages_per_block))
 }
 
-// The lowest worn block with a page cached, or no block: the number after the last block's.
-pub fn lowest_worn(z: Sizes, slots: &[u32; 128], frames: &[u32; 8], wear: &[u32]) -> BlockNo
-    requires { CachedWorn (sizes_of z) slots.now frames.now wear.now }
-    ensures { result.0 ≡ lowest_worn (sizes_of z) (numbers slots.now frames.now [] [] []) wear.now }
+// The lowest worn block with a page cached.
+#[tactic(auto, using(crate::proofs::Lowest::lower, crate::proofs::Lowest::lowest_le))]
+pub fn lowest_worn(z: Sizes, directory: &Directory, wear: &[u32]) -> Option<BlockNo>
+    requires { let d = directory_of directory.now in CachedWorn (sizes_of z) d.slots d.frames wear.now }
+    ensures found { (unwrap_or result (block_no z.blocks)).0 ≡ lowest_worn (sizes_of z) (directory_of directory.now) wear.now }
+    ensures within { IfSome result (λ b. b.0 < z.blocks) }
 {
-    let in_slots = worn_in_slots(z, slots, wear);
-    let in_frames = worn_in_frames(z, frames, wear);
-    if in_frames.0 < in_slots.0 {
-        return in_frames;
+    let low = worn_in_slots(z, directory, wear).min(worn_in_frames(z, directory, wear));
+    if low == z.blocks {
+        return None;
     }
-    in_slots
+    Some(BlockNo(low))
 }
 
-// The lowest worn block with a page in a slot, or no block.
-fn worn_in_slots(z: Sizes, slots: &[u32; 128], wear: &[u32]) -> BlockNo
-    requires { SlotsWorn (sizes_of z) slots.now wear.now }
-    ensures { result.0 ≡ worn_in_slots (sizes_of z) (numbers slots.now [] [] [] []) wear.now }
+// The lowest worn block with a page in a slot, or the number of blocks, which is plainer than an `Option` where the lowest is looked
+// for. Not one loop with that over the frames: these entries are pages, those are blocks.
+#[tactic(auto, using(crate::proofs::Lowest::least_none, crate::proofs::Lowest::slots_lowest, crate::proofs::Held::pages))]
+fn worn_in_slots(z: Sizes, directory: &Directory, wear: &[u32]) -> u32
+    requires { SlotsOf (sizes_of z) (directory_of directory.now).slots × (length wear.now ≡ z.blocks) }
+    ensures { result ≡ worn_in_slots (sizes_of z) (directory_of directory.now) wear.now }
 {
     let m = address::range::reciprocal(z.pages_per_block);
-    let mut low = no_block(z);
-    let mut i = 0;
-    while i < z.slots as usize {
-        let x = slots[i];
-        if x < VACANT {
-            let b = address::range::block_by(entry::page(x), z.pages_per_block, m);
-            if (b.0 < low.0) & is_worn(z, wear, b) {
-                low = b;
-            }
+    let mut low = z.blocks;
+    for &n in &directory.slots[..z.slots as usize] {
+        if n.0 < VACANT {
+            let b = address::range::block_by(n, z.pages_per_block, m);
+            low = lower_worn(z, wear, low, b);
         }
-        i += 1;
     }
     low
 }
 
-// The lowest worn block with a frame, or no block.
-fn worn_in_frames(z: Sizes, frames: &[u32; 8], wear: &[u32]) -> BlockNo
-    requires { FramesWorn (sizes_of z) frames.now wear.now }
-    ensures { result.0 ≡ worn_in_frames (sizes_of z) (numbers [] frames.now [] [] []) wear.now }
+// The lowest worn block with a frame, or the number of blocks, for the same reason.
+#[tactic(auto, using(crate::proofs::Lowest::least_none, crate::proofs::Lowest::frames_lowest, crate::proofs::Held::frames))]
+fn worn_in_frames(z: Sizes, directory: &Directory, wear: &[u32]) -> u32
+    requires { FramesOf (sizes_of z) (directory_of directory.now).frames × (length wear.now ≡ z.blocks) }
+    ensures { result ≡ worn_in_frames (sizes_of z) (directory_of directory.now) wear.now }
 {
-    let mut low = no_block(z);
-    let mut f = 0;
-    while f < z.frames as usize {
-        let b = entry::block(frames[f]);
+    let mut low = z.blocks;
+    for &b in &directory.frames[..z.frames as usize] {
         if b.0 < VACANT {
-            if (b.0 < low.0) & is_worn(z, wear, b) {
-                low = b;
-            }
+            low = lower_worn(z, wear, low, b);
         }
-        f += 1;
     }
     low
+}
+
+// Block b where it is worn and lower than `low`, else `low`.
+fn lower_worn(z: Sizes, wear: &[u32], low: u32, b: BlockNo) -> u32
+    requires { b.0 < length wear.now }
+    ensures { result ≡ cond (ltb b.0 low && is_worn (sizes_of z) wear.now b.0) b.0 low }
+{
+    if (b.0 < low) & is_worn(z, wear, b) {
+        b.0
+    } else {
+        low
+    }
 }
 
 // Whether block b has wear W or more.
+#[tactic(auto, unfolding(model::specs::Policy::is_worn))]
 pub fn is_worn(z: Sizes, wear: &[u32], b: BlockNo) -> bool
     requires { b.0 < length wear.now }
     ensures { result ≡ is_worn (sizes_of z) wear.now b.0 }

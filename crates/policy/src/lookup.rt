@@ -1,90 +1,72 @@
-// Where a page or a block is. A search that finds nothing gives the number of slots or frames.
-ghost use Rattle.std.specs.Prelude.{◌≡◌, []};
+// Where a page or a block is.
+ghost use Rattle.std.specs.Prelude.{◌≡◌, ◌<◌, IfSome, unwrap_or};
 ghost use Rattle.model.specs.Sizes.{InLimits, vacant};
 ghost use Rattle.model.specs.Policy.{slot_of, frame_of, frame_with};
-ghost use Rattle.cache.specs.View.{sizes_of, numbers};
+ghost use Rattle.cache.specs.View.{sizes_of, directory_of};
 
 use address::{BlockNo, PageNo};
-use cache::{Sizes, VACANT, search};
+use cache::{Directory, Sizes, VACANT, search};
 
-// The slot of page n.
-pub fn slot_of(z: Sizes, slots: &[u32; 128], n: PageNo) -> usize
+// The slot of page n. Sixteen slots at a time are passed over first: from 64 slots on `iter().position` takes twice as long.
+pub fn slot_of(z: Sizes, directory: &Directory, n: PageNo) -> Option<usize>
     requires { InLimits (sizes_of z) }
-    ensures { result ≡ slot_of (sizes_of z) (numbers slots.now [] [] [] []) n.0 }
+    ensures found { unwrap_or result z.slots ≡ slot_of (sizes_of z) (directory_of directory.now) n.0 }
+    ensures within { IfSome result (λ i. i < z.slots) }
 {
-    slot_entry(z, slots, n.0)
+    let end = z.slots as usize;
+    let from = search::passed(&directory.slots, n.0, 1, 0, end);
+    for i in from..end {
+        if directory.slots[i] == n {
+            return Some(i);
+        }
+    }
+    None
 }
 
 // The first vacant slot.
-pub fn free_slot(z: Sizes, slots: &[u32; 128]) -> usize
+pub fn free_slot(z: Sizes, directory: &Directory) -> Option<usize>
     requires { InLimits (sizes_of z) }
-    ensures { result ≡ slot_of (sizes_of z) (numbers slots.now [] [] [] []) vacant }
+    ensures found { unwrap_or result z.slots ≡ slot_of (sizes_of z) (directory_of directory.now) vacant }
+    ensures within { IfSome result (λ i. i < z.slots) }
 {
-    slot_entry(z, slots, VACANT)
-}
-
-// The first slot whose entry is x.
-fn slot_entry(z: Sizes, slots: &[u32; 128], x: u32) -> usize
-    requires { InLimits (sizes_of z) }
-    ensures { result ≡ slot_of (sizes_of z) (numbers slots.now [] [] [] []) x }
-{
-    let end = z.slots as usize;
-    let mut i = search::passed(slots, x, 1, 0, end);
-    while i < end {
-        if slots[i] == x {
-            return i;
-        }
-        i += 1;
-    }
-    end
+    slot_of(z, directory, PageNo(VACANT))
 }
 
 // The frame of block b.
-pub fn frame_of(z: Sizes, frames: &[u32; 8], b: BlockNo) -> usize
+pub fn frame_of(z: Sizes, directory: &Directory, b: BlockNo) -> Option<usize>
     requires { InLimits (sizes_of z) }
-    ensures { result ≡ frame_of (sizes_of z) (numbers [] frames.now [] [] []) b.0 }
+    ensures found { unwrap_or result z.frames ≡ frame_of (sizes_of z) (directory_of directory.now) b.0 }
+    ensures within { IfSome result (λ f. f < z.frames) }
 {
-    frame_entry(z, frames, b.0)
+    for f in 0..z.frames as usize {
+        if directory.frames[f] == b {
+            return Some(f);
+        }
+    }
+    None
 }
 
 // The first vacant frame.
-pub fn free_frame(z: Sizes, frames: &[u32; 8]) -> usize
+pub fn free_frame(z: Sizes, directory: &Directory) -> Option<usize>
     requires { InLimits (sizes_of z) }
-    ensures { result ≡ frame_of (sizes_of z) (numbers [] frames.now [] [] []) vacant }
+    ensures found { unwrap_or result z.frames ≡ frame_of (sizes_of z) (directory_of directory.now) vacant }
+    ensures within { IfSome result (λ f. f < z.frames) }
 {
-    frame_entry(z, frames, VACANT)
+    frame_of(z, directory, BlockNo(VACANT))
 }
 
-// The first frame whose entry is x.
-fn frame_entry(z: Sizes, frames: &[u32; 8], x: u32) -> usize
+// The frame that has page n valid. By index: frames and valid pages go in step.
+pub fn frame_with(z: Sizes, directory: &Directory, n: PageNo) -> Option<usize>
     requires { InLimits (sizes_of z) }
-    ensures { result ≡ frame_of (sizes_of z) (numbers [] frames.now [] [] []) x }
+    ensures found { unwrap_or result z.frames ≡ frame_with (sizes_of z) (directory_of directory.now) n.0 }
+    ensures within { IfSome result (λ f. f < z.frames) }
 {
-    let end = z.frames as usize;
-    let mut f = 0;
-    while f < end {
-        if frames[f] == x {
-            return f;
-        }
-        f += 1;
-    }
-    f
-}
-
-// The frame that has page n valid.
-pub fn frame_with(z: Sizes, frames: &[u32; 8], valid: &[u64; 8], n: PageNo) -> usize
-    requires { InLimits (sizes_of z) }
-    ensures { result ≡ frame_with (sizes_of z) (numbers [] frames.now valid.now [] []) n.0 }
-{
-    let end = z.frames as usize;
     let b = address::block_of(n, z.pages_per_block);
     let o = address::offset_of(n, z.pages_per_block);
-    let mut f = 0;
-    while f < end {
-        if (frames[f] == b.0) & bitmap::has(valid[f], o) {
-            return f;
+    for f in 0..z.frames as usize {
+        if (directory.frames[f] == b) & bitmap::has(directory.valid[f], o) {
+            return Some(f);
         }
-        f += 1;
     }
-    f
+    None
 }

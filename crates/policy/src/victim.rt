@@ -1,20 +1,20 @@
 // What leaves to make room: a block leaves the slots, a frame's pages leave the frame.
-ghost use Rattle.std.specs.Prelude.{◌≡◌, [], ◌<◌, eqb};
-ghost use Rattle.model.specs.Policy.{valid_count, least_recent, policy_choice, fewest_valid, evict_frame};
-ghost use Rattle.cache.specs.View.{sizes_of, numbers};
-ghost use Rattle.policy.specs.Views.{victim_of, rank_of, SlotsOf, Cleared, ValidOf, SomeValid, UsesValid, AllOccupied, UsesOccupied};
+ghost use Rattle.std.specs.Prelude.{◌≡◌, eqb};
+ghost use Rattle.model.specs.Policy.{valid_count, policy_choice, fewest_valid, evict_frame};
+ghost use Rattle.cache.specs.View.{sizes_of, directory_of};
+ghost use Rattle.policy.specs.Views.{victim_of, rank_of, SlotsOf, Cleared, ValidOf, UsesValid, UsesOccupied};
 
+use crate::choice;
 use crate::decision::Victim;
-use crate::lfu;
 use address::BlockNo;
-use cache::{Sizes, VACANT, entry};
+use cache::{Directory, Sizes, VACANT};
 
 // The block with the most pages in slots, the lowest among equals; no pages where all slots are vacant.
-pub fn victim(z: Sizes, slots: &[u32; 128]) -> Victim
-    requires { SlotsOf (sizes_of z) slots.now }
-    ensures { result ≡ victim_of (sizes_of z) (numbers slots.now [] [] [] []) }
+pub fn victim(z: Sizes, directory: &Directory) -> Victim
+    requires { SlotsOf (sizes_of z) (directory_of directory.now).slots }
+    ensures { result ≡ victim_of (sizes_of z) (directory_of directory.now) }
 {
-    let lead = highest_rank(z, slots);
+    let lead = highest_rank(z, directory);
     let pages = (lead + 4095) >> 12;
     let block = pages * 4096 - lead;
     Victim {
@@ -24,134 +24,70 @@ pub fn victim(z: Sizes, slots: &[u32; 128]) -> Victim
 }
 
 // The victim's rank: a count times 4,096 less the block. A short table where it will do, since it is cleared for each eviction.
-fn highest_rank(z: Sizes, slots: &[u32; 128]) -> u32
-    requires { SlotsOf (sizes_of z) slots.now }
-    ensures { result ≡ rank_of (victim_of (sizes_of z) (numbers slots.now [] [] [] [])) }
+fn highest_rank(z: Sizes, directory: &Directory) -> u32
+    requires { SlotsOf (sizes_of z) (directory_of directory.now).slots }
+    ensures { result ≡ rank_of (victim_of (sizes_of z) (directory_of directory.now)) }
 {
     if z.blocks <= 256 {
         let mut counts = [0u8; 256];
-        return highest_counted(z, slots, &mut counts);
+        return highest_counted(z, directory, &mut counts);
     }
     let mut counts = [0u8; 4096];
-    highest_counted(z, slots, &mut counts)
+    highest_counted(z, directory, &mut counts)
 }
 
 // The same, where the pages of each block are counted in a table. A rank is one number, so that one comparison finds the leader.
-fn highest_counted(z: Sizes, slots: &[u32; 128], counts: &mut [u8]) -> u32
-    requires { SlotsOf (sizes_of z) slots.now × Cleared (sizes_of z) counts.old }
-    ensures { result ≡ rank_of (victim_of (sizes_of z) (numbers slots.now [] [] [] [])) }
+#[tactic(auto, using(crate::proofs::Held::pages))]
+fn highest_counted(z: Sizes, directory: &Directory, counts: &mut [u8]) -> u32
+    requires { SlotsOf (sizes_of z) (directory_of directory.now).slots × Cleared (sizes_of z) counts.old }
+    ensures { result ≡ rank_of (victim_of (sizes_of z) (directory_of directory.now)) }
 {
-    let end = z.slots as usize;
     let m = address::range::reciprocal(z.pages_per_block);
-    let mut lead = 0;
-    let mut i = 0;
-    while i < end {
-        let x = slots[i];
-        if x < VACANT {
-            let b = address::range::block_by(entry::page(x), z.pages_per_block, m);
+    let mut lead: u32 = 0;
+    for &n in &directory.slots[..z.slots as usize] {
+        if n.0 < VACANT {
+            let b = address::range::block_by(n, z.pages_per_block, m);
             let at = b.0 as usize;
             let pages = counts[at] + 1;
             counts[at] = pages;
-            let rank = pages as u32 * 4096 - b.0;
-            if lead < rank {
-                lead = rank;
-            }
+            lead = lead.max(pages as u32 * 4096 - b.0);
         }
-        i += 1;
     }
     lead
 }
 
 // The fewest valid pages that a frame has.
-pub fn fewest_valid(z: Sizes, valid: &[u64; 8]) -> u32
-    requires { ValidOf (sizes_of z) valid.now }
-    ensures { result ≡ fewest_valid (sizes_of z) (numbers [] [] valid.now [] []) }
+#[tactic(auto, using(crate::proofs::Lowest::leasts, crate::proofs::Held::valids), unfolding(model::specs::Policy::fewest_valid))]
+pub fn fewest_valid(z: Sizes, directory: &Directory) -> u32
+    requires { ValidOf (sizes_of z) (directory_of directory.now).valid }
+    ensures { result ≡ fewest_valid (sizes_of z) (directory_of directory.now) }
 {
     let mut fewest = z.pages_per_block + 1;
-    let mut f = 0;
-    while f < z.frames as usize {
-        let n = bitmap::count(valid[f]);
-        if n < fewest {
-            fewest = n;
-        }
-        f += 1;
+    for &pages in &directory.valid[..z.frames as usize] {
+        fewest = fewest.min(bitmap::count(pages));
     }
     fewest
 }
 
 // The frame that way 6 takes of those with v valid pages, of which there is one, by the record's policy.
-pub fn exchange_frame(
-    z: Sizes,
-    valid: &[u64; 8],
-    recency: &[u8; 8],
-    uses: &[u32; 8],
-    v: u32,
-) -> usize
-    requires { UsesValid (sizes_of z) valid.now recency.now uses.now v }
-    ensures { let d = numbers [] [] valid.now recency.now uses.now in
+#[tactic(auto, using(crate::proofs::Uses::choices))]
+pub fn exchange_frame(z: Sizes, directory: &Directory, v: u32) -> usize
+    requires { let d = directory_of directory.now in UsesValid (sizes_of z) d.valid d.recency d.uses v }
+    ensures { let d = directory_of directory.now in
         result ≡ policy_choice (sizes_of z) d (λ f. eqb (valid_count (sizes_of z) d f) v) }
 {
-    if z.policy == 2 {
-        return lfu::least_used(z, recency, uses, lfu::with_pages(z, valid, v));
-    }
-    least_recent_with(z, valid, recency, v)
-}
-
-// The least recent of the frames with v valid pages, of which there is one.
-fn least_recent_with(z: Sizes, valid: &[u64; 8], recency: &[u8; 8], v: u32) -> usize
-    requires { SomeValid (sizes_of z) valid.now recency.now v }
-    ensures { let d = numbers [] [] [] recency.now [] in
-        let d' = numbers [] [] valid.now [] [] in
-        result ≡ least_recent (sizes_of z) d (λ f. eqb (valid_count (sizes_of z) d' f) v) }
-{
-    let mut i = 0;
-    while i < z.frames as usize {
-        let f = recency[i] as usize;
-        if bitmap::count(valid[f]) == v {
-            return f;
-        }
-        i += 1;
-    }
-    0
+    choice::chosen(z, directory, choice::with_pages(z, directory, v))
 }
 
 // The frame that way 7 takes, by the record's policy: one whose block has wear below W; where every frame holds a worn block, one of all.
-pub fn evict_frame(
-    z: Sizes,
-    frames: &[u32; 8],
-    recency: &[u8; 8],
-    uses: &[u32; 8],
-    wear: &[u32],
-) -> usize
-    requires { UsesOccupied (sizes_of z) frames.now recency.now uses.now wear.now }
-    ensures { let d = numbers [] frames.now [] recency.now uses.now in
-        result ≡ evict_frame policy_choice (sizes_of z) d wear.now }
+#[tactic(auto, using(crate::proofs::Uses::choices), unfolding(model::specs::Policy::evict_frame, model::specs::Policy::any_evictable))]
+pub fn evict_frame(z: Sizes, directory: &Directory, wear: &[u32]) -> usize
+    requires { let d = directory_of directory.now in UsesOccupied (sizes_of z) d.frames d.recency d.uses wear.now }
+    ensures { result ≡ evict_frame policy_choice (sizes_of z) (directory_of directory.now) wear.now }
 {
-    if z.policy != 2 {
-        return evict_oldest(z, frames, recency, wear);
-    }
-    let among = lfu::unworn(z, frames, wear);
+    let among = choice::unworn(z, directory, wear);
     if 0 < among {
-        return lfu::least_used(z, recency, uses, among);
+        return choice::chosen(z, directory, among);
     }
-    lfu::least_used(z, recency, uses, bitmap::first(z.frames))
-}
-
-// The least recent frame whose block has wear below W; where every frame holds a worn block, the least recent.
-fn evict_oldest(z: Sizes, frames: &[u32; 8], recency: &[u8; 8], wear: &[u32]) -> usize
-    requires { AllOccupied (sizes_of z) frames.now recency.now wear.now }
-    ensures { let d = numbers [] frames.now [] recency.now [] in
-        result ≡ evict_frame least_recent (sizes_of z) d wear.now }
-{
-    let mut i = 0;
-    while i < z.frames as usize {
-        let f = recency[i] as usize;
-        let b = entry::block(frames[f]);
-        let at = b.0 as usize;
-        if wear[at] < z.wear_limit {
-            return f;
-        }
-        i += 1;
-    }
-    recency[0] as usize
+    choice::chosen(z, directory, bitmap::first(z.frames))
 }

@@ -1,7 +1,10 @@
 // Records for the programs that run: sizes, filled directories, and directories with one entry replaced.
 #![tactic(auto)]
 
-use cache::{Directory, Sizes, entry};
+ghost use Rattle.std.specs.Prelude.{◌≤◌};
+
+use address::{BlockNo, PageNo};
+use cache::{Directory, Sizes};
 
 // The sizes S, K, N, P, B, W, with LRU and no other option.
 pub fn sizes(s: u32, k: u32, n: u32, p: u32, b: u32, w: u32) -> Sizes {
@@ -12,10 +15,7 @@ pub fn sizes(s: u32, k: u32, n: u32, p: u32, b: u32, w: u32) -> Sizes {
         slots: p,
         frames: b,
         wear_limit: w,
-        policy: 0,
-        coded: 0,
-        shelf_pages: 0,
-        marked: 0,
+        ..Sizes::blank()
     }
 }
 
@@ -29,49 +29,55 @@ pub fn middling() -> Sizes {
     sizes(512, 16, 256, 100, 5, 1000)
 }
 
+// The sizes with these options.
+pub fn with_options(s: Sizes, policy: u32, coded: u32, shelf_pages: u32, marked: u32) -> Sizes {
+    Sizes {
+        policy,
+        coded,
+        shelf_pages,
+        marked,
+        ..s
+    }
+}
+
 // Slot i holds page start + i * step, and frame f all pages of block f, with one use.
 pub fn filled(s: Sizes, start: u32, step: u32) -> Directory {
-    let frames = with_blocks(Directory::vacant(), s);
-    with_pages(frames, 0, s.slots as usize, start, step)
+    let mut d = with_blocks(s);
+    let slots = s.slots.min(128) as usize;
+    place_pages(&mut d.slots, 0, slots, start, step);
+    d
 }
 
 // At the largest sizes, slots whose pages have one of the remainders r, r + 1 and r + 2 by 4096.
 pub fn crowded(s: Sizes, r: u32) -> Directory {
-    let frames = with_blocks(Directory::vacant(), s);
-    let first = with_pages(frames, 0, 63, std::num::wrapping_add_u32(r, 4096), 4096);
-    let next = with_pages(first, 63, 126, std::num::wrapping_add_u32(r, 4097), 4096);
-    with_pages(next, 126, 128, std::num::wrapping_add_u32(r, 4098), 4096)
+    let mut d = with_blocks(s);
+    place_pages(&mut d.slots, 0, 63, r.wrapping_add(4096), 4096);
+    place_pages(&mut d.slots, 63, 126, r.wrapping_add(4097), 4096);
+    place_pages(&mut d.slots, 126, 128, r.wrapping_add(4098), 4096);
+    d
 }
 
-// Slots from a to e hold the pages start, start + step and so on.
-fn with_pages(d: Directory, a: usize, e: usize, start: u32, step: u32) -> Directory {
-    let mut r = d;
+// Slots from a to e hold the pages start, start + step and so on. By index: to lend a part of the list would ask that a is not after e.
+fn place_pages(slots: &mut [PageNo; 128], a: usize, e: usize, start: u32, step: u32)
+    requires { e ≤ 128 }
+{
     let mut n = start;
-    let mut i = a;
-    while i < e {
-        r = with_slot(r, i, n);
-        n = std::num::wrapping_add_u32(n, step);
-        i += 1;
+    for i in a..e {
+        slots[i] = PageNo(n);
+        n = n.wrapping_add(step);
     }
-    r
 }
 
-// Frame f holds block f, for each frame.
-fn with_blocks(d: Directory, s: Sizes) -> Directory {
-    let mut r = d;
-    let mut f = 0;
-    while f < s.frames {
-        r = with_block(r, f, s.pages_per_block);
-        f += 1;
+// Frame f holds block f with all its pages valid and has one use, for each frame, and no slot holds a page. By index, since three lists go
+// in step.
+fn with_blocks(s: Sizes) -> Directory {
+    let mut d = Directory::vacant();
+    for f in 0..s.frames.min(8) {
+        d.frames[f as usize] = BlockNo(f);
+        d.valid[f as usize] = all_pages(s.pages_per_block);
+        d.uses[f as usize] = 1;
     }
-    r
-}
-
-// Frame f holds block f with all its k pages valid, and has one use.
-fn with_block(d: Directory, f: u32, k: u32) -> Directory {
-    let held = with_frame(d, f as usize, f);
-    let full = with_valid(held, f as usize, all_pages(k));
-    with_uses(full, f as usize, 1)
+    d
 }
 
 // All bits below k.
@@ -80,7 +86,7 @@ fn all_pages(k: u32) -> u64 {
 }
 
 // What is spoilt: a slot, a frame, a set of valid pages, an entry of the order or a use count, and what stands there then.
-#[derive(Clone, Copy)]
+#[derive(Clone, Copy, PartialEq, Eq, Debug)]
 pub enum Entry {
     Slot(u32),
     Frame(u32),
@@ -91,66 +97,20 @@ pub enum Entry {
 
 // The directory with entry i replaced by x.
 pub fn with(d: Directory, i: usize, x: Entry) -> Directory {
+    let mut d = d;
     match x {
-        Entry::Slot(n) => with_slot(d, i, n),
-        Entry::Frame(b) => with_frame(d, i, b),
-        Entry::Valid(v) => with_valid(d, i, v),
-        Entry::Order(f) => with_recency(d, i, f),
-        Entry::Uses(u) => with_uses(d, i, u),
+        Entry::Slot(n) => replace(&mut d.slots, i, PageNo(n)),
+        Entry::Frame(b) => replace(&mut d.frames, i, BlockNo(b)),
+        Entry::Valid(v) => replace(&mut d.valid, i, v),
+        Entry::Order(f) => replace(&mut d.recency, i, f),
+        Entry::Uses(u) => replace(&mut d.uses, i, u),
     }
+    d
 }
 
-// The directory with entry x in slot i.
-fn with_slot(d: Directory, i: usize, x: u32) -> Directory {
-    let mut r = d;
-    if i < 128 {
-        r.slots[i] = entry::page(x);
+// Entry i of the list is x then, where it has one.
+fn replace<T: Copy>(list: &mut [T], i: usize, x: T) {
+    if let Some(entry) = list.get_mut(i) {
+        *entry = x;
     }
-    r
-}
-
-// The directory with entry x in frame f.
-fn with_frame(d: Directory, f: usize, x: u32) -> Directory {
-    let mut r = d;
-    if f < 8 {
-        r.frames[f] = entry::block(x);
-    }
-    r
-}
-
-// The directory with the set v for frame f.
-fn with_valid(d: Directory, f: usize, v: u64) -> Directory {
-    let mut r = d;
-    if f < 8 {
-        r.valid[f] = v;
-    }
-    r
-}
-
-// The directory with frame f as entry i of the order.
-fn with_recency(d: Directory, i: usize, f: u8) -> Directory {
-    let mut r = d;
-    if i < 8 {
-        r.recency[i] = f;
-    }
-    r
-}
-
-// The directory with u uses of frame f.
-fn with_uses(d: Directory, f: usize, u: u32) -> Directory {
-    let mut r = d;
-    if f < 8 {
-        r.uses[f] = u;
-    }
-    r
-}
-
-// The sizes with these options.
-pub fn with_options(s: Sizes, policy: u32, coded: u32, shelf_pages: u32, marked: u32) -> Sizes {
-    let mut r = s;
-    r.policy = policy;
-    r.coded = coded;
-    r.shelf_pages = shelf_pages;
-    r.marked = marked;
-    r
 }

@@ -27,10 +27,6 @@ spread : (a t u v : Bool) → (a || ((t && u) && v)) ≡ ((a || t) && ((a || u) 
 spread true t u v = refl
 spread false t u v = and_assoc t u v
 
--- a number that the test of a frame finds nothing wrong with is a block of the store
-pub held_low : (n x : ℕ) (a b : Bool) → ((leb n x || a) || b) ≡ false → x < n
-held_low n x a b e = by-test (leb n x) (λ t. clash {b = true} refl (rw t at e)) (leb-false n x)
-
 -- ---- blocks that differ
 
 module _ (l : List ℕ) where

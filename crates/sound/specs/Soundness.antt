@@ -1,5 +1,5 @@
 -- What the parts of the soundness test find.
-use Rattle.std.specs.Prelude.{◌≡◌, Bool, true, ◌&&◌, List, ℕ, ◌+◌, ◌*◌, ◌<◌, length}
+use Rattle.std.specs.Prelude.{◌≡◌, Bool, true, ◌&&◌, List, ℕ, ◌+◌, ◌*◌, ◌<◌}
 use Rattle.prelude.specs.Bits.{bit}
 use Rattle.prelude.specs.Scan.{all}
 use Rattle.model.specs.Sizes.{Sizes, InLimits}
@@ -19,7 +19,6 @@ Laid sz d b seen = (f o : ℕ) → f < b → o < 64 → frame_at d f < 4096 → 
 -- the slots may be tested: the filter has the frames' valid pages
 pub record Ready (sz : Sizes) (d : Directory) (seen : List ℕ) : Type 0 where
   pub limits : InLimits sz
-  pub long : length seen ≡ 64
   pub laid : Laid sz d sz.B seen
 
 -- the frames are tested, with r as the answer, and the slots may be where it is yes

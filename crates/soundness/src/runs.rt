@@ -6,7 +6,7 @@ use sound::directory_sound;
 use std::io;
 
 // A run of entries of a record.
-#[derive(Clone, Copy)]
+#[derive(Clone, Copy, PartialEq, Eq, Debug)]
 pub struct Run {
     pub sizes: Sizes,
     pub directory: Directory,
@@ -26,30 +26,18 @@ pub fn entries(sizes: Sizes, directory: Directory, from: usize, to: usize) -> Ru
 
 impl Run {
     // Each entry alone is replaced by x: so many of these records must be unsound.
-    pub fn each(self, rt: &impl Print, name: &[u8], x: Entry, expected: u64) -> io::Result<()> {
+    pub fn each(self, rt: &impl Print, name: &str, x: Entry, expected: u64) -> io::Result<()> {
         report::tally(rt, name, expected, self.unsound(x))
     }
 
-    // How many of these records are unsound.
+    // How many of these records are unsound. By index, since the list that has the entry is another for each kind of entry.
     fn unsound(self, x: Entry) -> u64 {
-        let s = self.sizes;
-        let d = self.directory;
-        let to = self.to;
         let mut count = 0u64;
-        let mut i = self.from;
-        while i < to {
-            count = more(count, directory_sound(with(d, i, x), s));
-            i += 1;
+        for i in self.from..self.to {
+            if !directory_sound(self.sizes, &with(self.directory, i, x)) {
+                count = count.saturating_add(1);
+            }
         }
         count
-    }
-}
-
-// One more where a record is not sound.
-fn more(count: u64, sound: bool) -> u64 {
-    if sound {
-        count
-    } else {
-        std::num::wrapping_add_u64(count, 1)
     }
 }

@@ -1,10 +1,12 @@
-use mathlib.Core.Path.{ap, ◌∙◌}
+use mathlib.Core.Path.{sym, ◌∙◌}
+use Rattle.prelude.specs.Tests.{every}
 use Rattle.model.specs.Soundness.{sound}
-use Rattle.cache.specs.View.{sizes_of}
-use Rattle.cache.proofs.View.{lists_of}
+use Rattle.model.proofs.Soundness.{limits_of}
 use Rattle.sound.proofs.directory_sound.Goals as goal
 
-pub returns : goal.returns
-returns c =
-    c.lists_sound.ensures
-    ∙ ap (sound (sizes_of c.args.sizes)) (lists_of c.args.d _ _ c.page_numbers-slots.ensures c.block_numbers-frames.ensures)
+pub lists_sound-requires : goal.lists_sound-requires
+lists_sound-requires c = limits_of _ (sym c.ok.ensures ∙ c.if-ok.true)
+
+pub returns-else-ok : goal.returns-else-ok
+unfolding sound every
+returns-else-ok c = rw (c.if-ok.false, sym c.ok.ensures ∙ c.if-ok.false)

@@ -1,11 +1,7 @@
-use Prim.Native.Nat.{◌-◌, ◌≤◌}
 use lib.ListN.{get_or}
 use Rattle.sound.proofs.Order.{Entered}
 use Rattle.sound.proofs.order_ok.Given as goal
 
 -- listed has the first i entries of the order and nothing else, all of them below B
 abbrev pub invariant-loop-i : goal.invariant-loop-i
-invariant-loop-i l = (l.i ≤ l.b) × Entered l.b (λ e. get_or l.recency e 0) l.i l.listed
-
-abbrev pub decreases-loop-i : goal.decreases-loop-i
-decreases-loop-i l = l.b - l.i
+invariant-loop-i l = Entered l.fn.sizes.frames (λ e. get_or l.directory.recency e 0) l.i l.listed

@@ -1,12 +1,10 @@
-use mathlib.Core.List.{[]}
-use Rattle.model.specs.Directory.{inFrame}
-use Rattle.cache.specs.View.{sizes_of, numbers}
+use Rattle.cache.specs.View.{sizes_of, directory_of}
+use Rattle.cache.proofs.View.{slot-of}
 use Rattle.sound.proofs.Parts.{slot-compared}
 use Rattle.sound.proofs.slot_ok.Goals as goal
 
 pub returns : goal.returns
-unfolding inFrame
 returns c =
     let a = c.args in
-    rw (c.new_at.ensures, c.outside.ensures, c.page.ensures) (slot-compared (sizes_of a.sizes)
-    (numbers a.slots.now a.frames.now a.valid.now [] []) a.j)
+    rw (c.slot_new.ensures, c.outside.ensures, ← slot-of a.directory.now a.j)
+    (slot-compared (sizes_of a.sizes) (directory_of a.directory.now) a.j)

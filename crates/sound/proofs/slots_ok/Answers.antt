@@ -1,30 +1,29 @@
 use native.Mathlib.Omega.{arith}
 use mathlib.Core.Path.{sym, ◌∙◌}
-use Rattle.prelude.proofs.Scan.{all_none, all_end, all-fails}
+use Rattle.prelude.proofs.Scan.{all_none, all-fails}
 use Rattle.sound.proofs.Parts.{tested-more, tested-passed}
 use Rattle.sound.proofs.slots_ok.Goals as goal
 
 pub loop-j-init : goal.loop-j-init
-loop-j-init c =
-    (omega arith, record { good = all_none _; long = c.requires.long; laid = c.requires.laid; marked = λ e l. absurd (omega arith) })
-
-pub returns-then-p-j : goal.returns-then-p-j
-returns-then-p-j c =
-    let at = c.loop-j in
-    let met = c.first_met-j in
-    let t = tested-passed _ _ c.requires.limits at.j met.result at.seen _ at.invariant.1 met.ensures.passed in
-    all_end _ met.result _ (sym t.good) (omega (arith, met.ensures.high))
+loop-j-init c = record {
+  within = omega arith;
+  tested = record { good = all_none _; long = omega arith; laid = c.requires.laid; marked = λ e l. absurd (omega arith) };
+}
 
 pub returns-then-not-slot_ok : goal.returns-then-not-slot_ok
 returns-then-not-slot_ok c =
-    sym (all-fails _ _ c.first_met-j.result (omega arith) (sym c.slot_ok.ensures ∙ c.if-not-slot_ok.true))
+    sym (all-fails _ _ c.in-Some.j c.in-Some.ensures.below (sym c.slot_ok.ensures ∙ c.if-not-slot_ok.true))
 
 pub loop-j-preserved : goal.loop-j-preserved
 loop-j-preserved c =
     let at = c.loop-j in
-    let met = c.first_met-j in
-    let t = tested-passed _ _ c.requires.limits at.j met.result at.seen _ at.invariant.1 met.ensures.passed in (
-      omega arith,
-      tested-more _ _ met.result _ t (sym c.slot_ok.ensures ∙ c.if-not-slot_ok.false)
-          (met.ensures.met (omega arith)),
-    )
+    let met = c.in-Some.ensures.met in
+    let low = c.in-Some.ensures.below in
+    let t = tested-passed _ _ c.requires.limits at.i c.in-Some.j at.seen _ at.invariant.tested met.passed in
+    record { within = omega arith; tested = tested-more _ _ c.in-Some.j _ t (sym c.slot_ok.ensures ∙ c.if-not-slot_ok.false) (met.met low) }
+
+pub returns : goal.returns
+returns c =
+    let at = c.loop-j in
+    let met = c.in_default.ensures.met in
+    let t = tested-passed _ _ c.requires.limits at.i _ at.seen _ at.invariant.tested met.passed in sym t.good

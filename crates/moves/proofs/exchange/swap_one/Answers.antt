@@ -18,6 +18,6 @@ returns-then-t-k c =
       pspace = rw (lt-ltb a.t a.k c.if-t-k.true) (c.copy_page-then-t-k.ensures
           ∙ ap (put_page a.s a.pspace.now a.i) (ap (λ (x : List ℕ). page_at a.s x a.t) e
           ∙ page-put_other a.s a.frame.now a.o (page_at a.s a.pspace.now a.i)
-          (inside a.s a.k a.o _ p.1 p.2) (length-page_at a.s a.pspace.now a.i p.3) a.t
+          (inside a.s a.k a.o _ p.0 p.1) (length-page_at a.s a.pspace.now a.i p.2) a.t
           (λ q. c.if-t-o.false (sym q))));
     }

@@ -2,7 +2,7 @@ use Rattle.std.proofs.Common.{ℕ, ◌*◌, List, ap, ◌∙◌, arith}
 use Rattle.page.proofs.Part.{got, put}
 use Rattle.prelude.specs.Scan.{tab}
 use Rattle.model.specs.Calls.{slot_pages, frame_pages}
-use Rattle.cache.specs.View.{sizes_of, numbers}
+use Rattle.cache.specs.View.{sizes_of, directory_of}
 use Rattle.moves.specs.Spaces.{stretch_pages, filled_page}
 use Rattle.moves.proofs.Stretch.{stretch-fills, filled-stretch}
 use Rattle.moves.proofs.join.join.Goals as goal
@@ -10,7 +10,7 @@ use Rattle.moves.proofs.join.join.Goals as goal
 pub returns : goal.returns
 returns c =
     let sz = sizes_of c.args.z in
-    let d = numbers c.args.slots.now c.args.frames.now c.args.valid.now c.args.recency.now c.args.uses.now in
+    let d = directory_of c.args.directory.now in
     let bs = c.args.bspace.now in
     let ps = c.args.pspace.now in
     let b = c.args.b.0 in

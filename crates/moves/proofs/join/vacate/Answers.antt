@@ -1,60 +1,28 @@
-use Rattle.std.proofs.Common.{ℕ, List, refl, arith}
-use Rattle.model.specs.Sizes.{Sizes, vacant}
+use Rattle.std.proofs.Common.{ℕ, List, refl, set, ap, ◌∙◌, arith}
+use Rattle.cache.specs.declared.Directory as code
+use Rattle.model.specs.Sizes.{vacant}
 use Rattle.model.specs.Directory.{Directory}
-use Rattle.model.specs.Policy.{in_block}
-use Rattle.cache.specs.View.{sizes_of, numbers}
-use Rattle.moves.specs.Numbers.{BlockOf, vacated_slots}
-use Rattle.moves.proofs.Next.{Next, next-has}
-use Rattle.moves.proofs.Regiven.{Regiven, regiven-next, regiven-put, regiven-skip, regiven-all}
+use Rattle.cache.specs.View.{page_no, directory_of}
+use Rattle.cache.proofs.Entries.{pages_set}
+use Rattle.moves.specs.Numbers.{vacated_slots}
+use Rattle.moves.proofs.Offset.{apart_of}
+use Rattle.moves.proofs.Regiven.{regiven-put, regiven-next, regiven-all}
 use Rattle.moves.proofs.join.vacate.Goals as goal
-use Rattle.moves.proofs.join.vacate.Goals.{After-next_of-i}
-
-abbrev lent : (sz : Sizes) (s : List ℕ) (b : ℕ) → BlockOf sz s b → Directory
-lent sz s b q = numbers s q.frames q.valid q.recency q.uses
-
--- the slot that the search found
-found : (c : After-next_of-i) (q : BlockOf (sizes_of c.args.z) c.args.slots.now c.args.b.0)
-    → Next (sizes_of c.args.z) (lent _ _ _ q) c.args.b.0 c.loop-i.i c.next_of-i.result
-found c q =
-    let l = c.loop-i in
-    regiven-next (sizes_of c.args.z) (lent _ _ _ q) q.sound c.args.b.0 (λ j. vacant) l.i _ l.slots l.invariant.0
-    (l.invariant.1 q) c.next_of-i.ensures
-
-come : (c : After-next_of-i) (q : BlockOf (sizes_of c.args.z) c.args.slots.now c.args.b.0)
-    → Regiven (sizes_of c.args.z) (lent _ _ _ q) c.args.b.0 (λ j. vacant) c.next_of-i.result c.loop-i.slots
-come c q =
-    let l = c.loop-i in
-    let sz = sizes_of c.args.z in
-    let d = lent _ _ _ q in
-    let b = c.args.b.0 in
-    next-has sz d b l.i _ (found c q) (λ j. Regiven sz d b (λ k. vacant) j l.slots)
-    (λ j h e. regiven-skip sz d q.sound b (λ k. vacant) j l.slots e) (l.invariant.1 q)
-
-pub loop-i-smaller-then-i-p : goal.loop-i-smaller-then-i-p
-loop-i-smaller-then-i-p c =
-    let h = (found (goal.at.loop-i-smaller-then-i-p c).After-next_of-i c.requires).low in
-    let t = c.if-i-p.true in
-    omega arith
-
-pub loop-i-preserved-then-i-p : goal.loop-i-preserved-then-i-p
-loop-i-preserved-then-i-p c =
-    let at = (goal.at.loop-i-preserved-then-i-p c).After-next_of-i in
-    let l = c.loop-i in
-    let il = c.if-i-p.true in
-    let p = c.requires.sound.limits.P_high in (
-      omega arith,
-      λ q. regiven-put (sizes_of c.args.z) (lent _ _ _ q) q.sound c.args.b.0 (λ j. vacant) c.next_of-i.result l.slots vacant
-          (omega arith) ((found at q).own il) refl (come at q),
-    )
 
 pub loop-i-preserved : goal.loop-i-preserved
-loop-i-preserved c =
-    let at = (goal.at.loop-i-preserved c).After-next_of-i in
-    ((found at c.requires).high, come at)
+unfolding directory_of
+loop-i-preserved c = let l = c.loop-i in let s = apart_of _ _ _ c.requires in let i = c.in-Some.i in
+    let g = regiven-next _ _ s _ (λ j. vacant) _ _ _ l.invariant.0 l.invariant.1 c.in-Some.ensures.next in
+    let high = c.in-Some.ensures.range.1 in let p = s.limits.P_high in (
+      omega arith,
+      rw (pages_set l.directory.slots i (page_no vacant))
+          (regiven-put _ _ s _ (λ j. vacant) i _ vacant (omega arith) (g.next.own high) refl g.has),
+      ap (λ (x : code.Directory). record x { slots = set x.slots i (page_no vacant) }) l.invariant.2,
+    )
 
 pub returns : goal.returns
-unfolding vacated_slots in_block
-returns c =
-    let l = c.loop-i in
-    let q = c.requires in
-    regiven-all (sizes_of c.args.z) (lent _ _ _ q) q.sound c.args.b.0 (λ j. vacant) l.i l.slots (omega arith) (l.invariant.1 q)
+unfolding directory_of vacated_slots
+returns c = let l = c.loop-i in let s = apart_of _ _ _ c.requires in
+    let g = regiven-next _ _ s _ (λ j. vacant) _ _ _ l.invariant.0 l.invariant.1 c.in_default.ensures.next in
+    let d : Directory = directory_of c.args.directory.now in
+    ap directory_of l.invariant.2 ∙ ap (λ (x : List ℕ). record d { slots = x }) (regiven-all _ _ s _ (λ j. vacant) _ g.has)

@@ -1,54 +1,44 @@
-use Rattle.std.proofs.Common.{◌≡◌, ◌*◌, eqb, [], ap, ◌∙◌, add-zero, arith, eqb-true}
+use Rattle.std.proofs.Common.{◌≡◌, eqb, sym, ap, ◌∙◌, add-zero, arith, eqb-true}
 use borrow.Author.Tests.{eqb-false}
 use Rattle.prelude.proofs.Tests.{by-test}
 use Rattle.prelude.proofs.Scan.{from_is}
+use Rattle.model.specs.Policy.{in_block}
 use Rattle.address.specs.declared.PageNo.{PageNo}
-use Rattle.cache.specs.View.{sizes_of, numbers}
-use Rattle.moves.proofs.Offset.{offset_own, offset_out, block-clear}
+use Rattle.cache.specs.Among.{among}
+use Rattle.cache.proofs.View.{slot-of}
+use Rattle.cache.specs.View.{sizes_of, directory_of}
+use Rattle.moves.proofs.Offset.{own_test}
 use Rattle.moves.proofs.numbers.next_of.Goals as goal
-use Rattle.moves.proofs.numbers.next_of.Goals.{After-page_of-first}
+use Rattle.moves.proofs.numbers.next_of.Goals.{After-lies_in}
 
--- the block's first page
-first-is : (c : After-page_of-first) →
-    let a = c.args in c.page_of-first.result.0 ≡ a.b.0 * a.z.pages_per_block
-first-is c = ap (λ (x : PageNo). x.0) c.page_of-first.ensures ∙ add-zero _
+-- the test of one slot
+tested : (c : After-lies_in) → c.lies_in.result ≡ in_block (sizes_of c.args.z) (directory_of c.args.directory.now) c.args.b.0 c.loop-i.i
+tested c = c.lies_in.ensures ∙ ap (among _ _) (sym (slot-of c.args.directory.now c.loop-i.i))
+    ∙ own_test (sizes_of c.args.z) c.requires.0 (directory_of c.args.directory.now) c.args.b.0 c.loop-i.i c.requires.1
 
 pub loop-i-init : goal.loop-i-init
+unfolding directory_of
 loop-i-init c =
-    let after-page-of : After-page_of-first = search in
-    let q = c.passed-i.ensures in (
-      q.0,
-      block-clear (sizes_of c.args.z) (numbers c.args.slots.now [] [] [] []) c.requires.0 c.args.b.0 _ _
-          (rw (first-is after-page-of) at q.1),
-    )
+    let own = own_test (sizes_of c.args.z) c.requires.0 (directory_of c.args.directory.now) c.args.b.0 in
+    let clear = rw (ap (λ (x : PageNo). x.0) c.page_of-first.ensures ∙ add-zero _) at c.passed-start.ensures.1 in
+    λ j a h. sym (own j c.requires.1) ∙ clear j a h
 
-pub returns-then-o-z : goal.returns-then-o-z
-returns-then-o-z c =
+pub returns-then-lies_in-clause-next : goal.returns-then-lies_in-clause-next
+returns-then-lies_in-clause-next c =
     let l = c.loop-i in
-    let own = offset_own (sizes_of c.args.z) (numbers c.args.slots.now [] [] [] []) c.requires.0 c.args.b.0 l.i _
-    (rw c.page.ensures at c.offset_in-o.ensures) c.if-o-z.true in
-    from_is _ _ _ l.i (record { low = l.invariant.0; high = omega arith; hit = λ h. own.0; miss = l.invariant.1 })
+    let own = sym (tested (goal.at.returns-then-lies_in-clause-next c).After-lies_in) ∙ c.if-lies_in.true in
+    from_is _ _ _ l.i (record { low = omega arith; high = omega arith; hit = λ h. own; miss = l.invariant })
 
 pub loop-i-preserved : goal.loop-i-preserved
 loop-i-preserved c =
     let l = c.loop-i in
-    let d = numbers c.args.slots.now [] [] [] [] in
-    let out = offset_out (sizes_of c.args.z) d c.requires.0 c.args.b.0 l.i _
-    (rw c.page.ensures at c.offset_in-o.ensures)
-    c.if-o-z.false in (
-      omega arith,
-      λ j a h. by-test (eqb j l.i) (λ t. rw (eqb-true j l.i t) out)
-          (λ t. let ne = eqb-false j l.i t in l.invariant.1 j a (omega arith)),
-    )
+    let out = sym (tested (goal.at.loop-i-preserved c).After-lies_in) ∙ c.if-lies_in.false in
+    λ j a h. by-test (eqb j l.i) (λ t. rw (eqb-true j l.i t) out) (λ t. let ne = eqb-false j l.i t in l.invariant j a (omega arith))
 
-pub returns : goal.returns
-returns c =
-    let l = c.loop-i in
-    let q = c.requires.2 in
-    from_is _ _ _ _ (record {
-      low = q;
-      high = omega arith;
-      hit = λ h. absurd (omega arith);
-      miss =
-          λ j a h. l.invariant.1 j a (omega arith);
-    })
+pub returns-clause-next : goal.returns-clause-next
+returns-clause-next c = let l = c.loop-i in from_is _ _ _ _ (record {
+  low = omega arith;
+  high = omega arith;
+  hit = λ h. absurd (omega arith);
+  miss = λ j a h. l.invariant j a (omega arith);
+})

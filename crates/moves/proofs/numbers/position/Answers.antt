@@ -1,17 +1,15 @@
-use Rattle.std.proofs.Common.{sym, ◌∙◌, arith, eq-eqb}
-use Rattle.prelude.proofs.Scan.{first-is}
+use Rattle.std.proofs.Common.{◌∙◌, ap, eqb, arith}
+use Rattle.std.specs.Option.{unwrap_or}
+use Rattle.cache.specs.View.{directory_of}
+use Rattle.moves.proofs.Position.{position_take, position_low}
 use Rattle.moves.proofs.numbers.position.Goals as goal
-use Rattle.moves.proofs.numbers.position.Invariants.{stands}
 
-pub returns-then-wide-f : goal.returns-then-wide-f
-returns-then-wide-f c =
-    let l = c.loop-i in
-    let a = c.args in
-    first-is a.z.frames (stands a.recency.now a.f) l.i l.invariant.0 l.invariant.1
-    (λ k. eq-eqb _ _ (sym c.wide.ensures ∙ c.if-wide-f.true))
+pub returns-clause-at : goal.returns-clause-at
+unfolding directory_of
+returns-clause-at c = let b = c.requires.B_high in
+    ap (λ r. unwrap_or r c.args.z.frames) c.place_of.ensures
+    ∙ position_take (λ g. eqb g c.args.f) c.args.directory.now.recency c.args.z.frames (omega arith)
 
-pub returns : goal.returns
-returns c =
-    let l = c.loop-i in
-    let a = c.args in
-    first-is a.z.frames (stands a.recency.now a.f) l.i l.invariant.0 l.invariant.1 (λ k. absurd (omega arith))
+pub returns-clause-low : goal.returns-clause-low
+returns-clause-low c = let b = c.requires.B_high in
+    position_low (λ g. eqb g c.args.f) c.args.directory.now.recency c.args.z.frames (omega arith) _ c.place_of.ensures

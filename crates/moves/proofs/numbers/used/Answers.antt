@@ -1,22 +1,11 @@
-use Rattle.std.proofs.Common.{ℕ, List, [], set, ap, eq-eqb, ne_eqb}
-use Rattle.model.specs.Moves.{recency_after, touched}
-use Rattle.cache.specs.View.{numbers}
+use Rattle.std.proofs.Common.{◌<◌, ◌^◌, get_or, rules, ne_eqb}
+use Rattle.model.specs.Moves.{touched, recency_after}
+use Rattle.cache.specs.View.{directory_of}
+use Rattle.moves.proofs.Recency.{one_more}
 use Rattle.moves.proofs.numbers.used.Goals as goal
 
-pub returns-then-filling : goal.returns-then-filling
-unfolding touched recency_after
-returns-then-filling c =
-    rw c.if-filling.true (ap (λ (x : List ℕ). numbers [] [] [] x c.args.uses.now) c.touch.ensures)
-
-pub returns-then-z-eq1 : goal.returns-then-z-eq1
-unfolding touched
-returns-then-z-eq1 c =
-    rw (c.if-filling.false, eq-eqb _ 1 c.if-z-eq1.true)
-    (ap (λ (x : ℕ). numbers [] [] [] c.args.recency.now (set c.args.uses.now c.args.f x))
-    c.one_more.ensures)
-
-pub returns : goal.returns
-unfolding touched recency_after
-returns c =
-    rw (c.if-filling.false, ne_eqb _ 1 c.if-z-eq1.false)
-    (λ j. numbers [] [] [] (c.touch-2.ensures j) (set c.args.uses.now c.args.f (c.one_more.ensures j)))
+pub returns-then-z-ne1 : goal.returns-then-z-ne1
+unfolding directory_of touched recency_after
+returns-then-z-ne1 c =
+    let h : get_or c.args.directory.now.uses c.args.f 0 < 2 ^ 32 = search rules in
+    rw (c.if-filling.false, ne_eqb _ 1 c.if-z-ne1.true, c.touch-then-z-ne1.ensures, c.saturating_add.ensures, one_more _ h)

@@ -1,6 +1,0 @@
--- Nothing is asked of a count that a test prints: only that the loop ends.
-use Rattle.std.proofs.Common.{◌-◌}
-use Rattle.soundness.proofs.runs.Run.unsound.Given as goal
-
-abbrev pub decreases-loop-i : goal.decreases-loop-i
-decreases-loop-i l = l.to - l.i

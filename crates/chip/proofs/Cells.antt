@@ -2,6 +2,7 @@
 use mathlib.Core.Path.{◌≡◌, refl, sym, ap, ◌∙◌}
 use mathlib.Core.Logic.{◌≢◌}
 use mathlib.Core.Bool.{Bool, true, false, cond}
+use Rattle.std.specs.Prelude.{Option, None, Some, is_some}
 use mathlib.Core.List.{List, [], ◌∷◌}
 use Prim.Native.Nat.{ℕ, ◌*◌, ◌/◌, ◌<◌}
 use native.Mathlib.Omega.{arith}
@@ -10,7 +11,7 @@ use lib.ListN.{length, get_or, set, length-set}
 use lib.Seq.{ext_get_or, get_or-set_same, get_or-set_other}
 use borrow.Author.Tests.{eqb-true, eqb-false, ne_eqb}
 use Rattle.prelude.specs.Pages.{page_at, put_page}
-use Rattle.prelude.proofs.Tests.{by-test, not_f}
+use Rattle.prelude.proofs.Tests.{by-test, clash, not_f}
 use Rattle.prelude.proofs.Tab.{length-tab, get_d_tab}
 use Rattle.prelude.proofs.Pages.{in_run, length-page_at, page-put_same, page-put_other}
 use Rattle.model.specs.Sizes.{Sizes, InLimits, is_coded, is_marked}
@@ -21,6 +22,9 @@ use Rattle.model.specs.Formats.{format_of, torn, store_format}
 use Rattle.codes.proofs.Pages.{length-codes, length-read}
 use Rattle.codes.proofs.Pages.{none-mended}
 use Rattle.page.specs.Page.{HasPage}
+use Rattle.answer.specs.declared.fault.Fault.{Fault}
+use Rattle.answer.specs.declared.fault.Fault.TheVariants.{Unreadable, Torn}
+use Rattle.answer.specs.Numbers.{fault_number}
 use Rattle.chip.specs.declared.Seen.{Seen}
 use Rattle.model.specs.Formats.{page_code, code_for, chip_for, code_long, mark_long}
 use Rattle.chip.specs.Formats.{cells, cell_on, read_at, unreadable_at, mends_at}
@@ -148,6 +152,17 @@ pub mends-coded : (coded : Bool) (sz : Sizes) (x : Page) (k : List ℕ) → 0 < 
 mends-coded true sz x k h = refl
 mends-coded false sz x k h = absurd (omega arith)
 
+-- ---- a fault's number
+
+pub number-some : (f : Option Fault) → is_some f ≡ true → fault_number f ≢ 0
+number-some None e z = clash e refl
+number-some (Some Unreadable) e z = omega arith
+number-some (Some Torn) e z = omega arith
+
+pub number-none : (f : Option Fault) → is_some f ≡ false → fault_number f ≡ 0
+number-none None e = refl
+number-none (Some f) e = clash refl e
+
 -- ---- a page is looked at: first its code, then its mark
 
 some-fault : (u : Bool) (r : ℕ) → r ≡ cond u 7 0 → r ≢ 0 → u ≡ true
@@ -163,21 +178,28 @@ module _ (sz : Sizes) (flash codes marks : List ℕ) (n : ℕ) (l : n < sz.N * s
     mends-seen : seen.mends ≡ mends_on sz flash codes marks n
     mends-seen = h.mends-are ∙ sym (mends-is sz flash codes marks n l)
 
-    pub looked-bad : seen.fault ≢ 0 → Looked sz flash codes marks n seen
-    looked-bad e = let u : unreadable_at sz flash codes n ≡ true = some-fault _ seen.fault h.fault-is e in
+    pub looked-bad : is_some seen.fault ≡ true → Looked sz flash codes marks n seen
+    looked-bad e = let u : unreadable_at sz flash codes n ≡ true = some-fault _ (fault_number seen.fault) h.fault-is (number-some _ e) in
         record { fault-is = h.fault-is ∙ sym (rw (fault-is sz flash codes marks n l, u)); mends-are = mends-seen }
 
-    module _ (z : seen.fault ≡ 0) where
-      unread : unreadable_at sz flash codes n ≡ false
-      unread = no-fault _ seen.fault h.fault-is z
+    module _ (none : is_some seen.fault ≡ false) where
+      z : fault_number seen.fault ≡ 0
+      z = number-none seen.fault none
 
-      pub looked-torn : torn_at sz marks n ≡ true → Looked sz flash codes marks n (record { fault = 14; mends = seen.mends })
+      unread : unreadable_at sz flash codes n ≡ false
+      unread = no-fault _ (fault_number seen.fault) h.fault-is z
+
+      pub looked-torn : torn_at sz marks n ≡ true → Looked sz flash codes marks n (record { fault = Some Torn; mends = seen.mends })
       looked-torn e = record { fault-is = rw (fault-is sz flash codes marks n l, unread, e); mends-are = mends-seen }
 
       pub looked-good : torn_at sz marks n ≡ false → Looked sz flash codes marks n seen
       looked-good e = record { fault-is = rw (fault-is sz flash codes marks n l, unread, e) z; mends-are = mends-seen }
 
 -- ---- and read
+
+pub page-lent : {sz : Sizes} {flash codes marks : List ℕ} {n : ℕ} → Lent sz flash codes marks → n < sz.N * sz.K
+    → PageLent sz flash codes marks n
+page-lent h l = record { lent = h; page-lt = l }
 
 -- a page without fault can be read
 fault-none : (u x : Bool) → ◌≡◌ {A = ℕ} (cond u 7 (cond x 14 0)) 0 → u ≡ false
@@ -186,10 +208,10 @@ fault-none false x h = refl
 
 module _ (sz : Sizes) (flash codes marks : List ℕ) (n : ℕ) (h : PageLent sz flash codes marks n) (seen : Seen)
     (k : Looked sz flash codes marks n seen) (dst : List ℕ) (di : ℕ) where
-  pub read_none : seen.fault ≢ 0 → ReadOut sz flash codes marks n dst di seen dst
-  read_none e = record { looked = k; data_is = rw (ne_eqb seen.fault 0 e) }
+  pub read_none : is_some seen.fault ≡ true → ReadOut sz flash codes marks n dst di seen dst
+  read_none e = record { looked = k; data_is = rw (ne_eqb (fault_number seen.fault) 0 (number-some _ e)) }
 
-  module _ (z : seen.fault ≡ 0) where
+  module _ (z : fault_number seen.fault ≡ 0) where
     pub can-read : unreadable_at sz flash codes n ≡ false
     can-read = fault-none _ (torn_at sz marks n) (sym (k.fault-is ∙ fault-is sz flash codes marks n h.page-lt) ∙ z)
 
@@ -224,3 +246,5 @@ lent_of sz u l h = record {
   };
   marks-length = h.marks-length;
 }
+
+pub ruleset reading = (page-lent, read_none)

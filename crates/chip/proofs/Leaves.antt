@@ -1,5 +1,6 @@
 -- The functions that ask for an option: with it and without.
 use mathlib.Core.Path.{◌≡◌, sym, ap, ap₂, ◌∙◌}
+use Rattle.std.specs.Prelude.{None, Some, Result, Ok, Err}
 use mathlib.Core.Bool.{Bool, true, false, not, cond, ◌&&◌}
 use mathlib.Core.List.{List, [], ◌∷◌}
 use Prim.Native.Nat.{ℕ, ◌*◌, ◌/◌, ◌≤◌, ◌<◌}
@@ -16,18 +17,18 @@ use Rattle.model.specs.Calls.{torn_blocks}
 use Rattle.model.proofs.Soundness.{coded-off, marked-off}
 use Rattle.model.proofs.RulesRecord.{torn_blocks-rule}
 use Rattle.model.proofs.Shelving.{empty-is}
-use Rattle.prelude.proofs.Scan.{count-le}
+use Rattle.prelude.proofs.Scan.{count-le, count_none, count-hit, count-miss}
 use Rattle.prelude.proofs.Pages.{in_run}
 use Rattle.model.specs.Sizes.{Sizes, is_coded, is_marked}
 use Rattle.model.specs.Calls.{Page}
-use Rattle.ecc.specs.declared.Checked.{Checked}
-use Rattle.ecc.specs.declared.Checked.TheVariants.{Readable, Unreadable}
+use Rattle.ecc.specs.declared.Unreadable.{Unreadable}
 use Rattle.codes.specs.Code.{codes_of}
 use Rattle.codes.specs.Reading.{page_legible, page_mended, page_mends}
 use Rattle.ecc.specs.Checks.{checked, Decoded}
 use Rattle.ecc.proofs.Checking.{unreadable-is, readable-is, mends-is}
 use Rattle.page.specs.Page.{HasPage}
 use Rattle.model.specs.Formats.{page_code, code_for, code_long, mark_long}
+use Rattle.answer.specs.declared.fault.Fault.TheVariants as faults
 use Rattle.chip.specs.Formats.{read_at, unreadable_at, mends_at}
 use Rattle.chip.specs.Chip.{CodesLent, CodeLooked, torn_at}
 use Rattle.chip.proofs.Looking.{unread-plain, mends-plain}
@@ -83,7 +84,7 @@ module _ (sz : Sizes) (marks : List ℕ) (n : ℕ) where
 
 module _ (sz : Sizes) (flash codes : List ℕ) (n : ℕ) where
   -- there are none
-  pub uncoded-looked : is_coded sz ≡ false → CodeLooked sz flash codes n (record { fault = 0; mends = 0 })
+  pub uncoded-looked : is_coded sz ≡ false → CodeLooked sz flash codes n (record { fault = None; mends = 0 })
   uncoded-looked e = record {
     fault-is = rw (unread-plain (is_coded sz) e sz (page_at sz.S flash n) (page_at (code_long sz) codes n));
     mends-are = sym (mends-plain (is_coded sz) e sz _ _);
@@ -136,20 +137,21 @@ module _ (sz : Sizes) (flash codes : List ℕ) (n : ℕ) where
     few-of true l = l
     few-of false l = omega arith
 
-    pub looked-unreadable : Unreadable ≡ checked m raw code → CodeLooked sz flash codes n (record { fault = 7; mends = 0 })
-    looked-unreadable e = let q = unreadable-is m raw code e in record {
+    pub looked-unreadable : (r : Unreadable) → Err r ≡ checked m raw code
+        → CodeLooked sz flash codes n (record { fault = Some faults.Unreadable; mends = 0 })
+    looked-unreadable r e = let q = unreadable-is m raw code r e in record {
       fault-is = rw (unread-is, q);
       mends-are = rw (mends-are, unread-mends q);
     }
 
-    pub looked-readable : (k : ℕ) → Readable k ≡ checked m raw code → CodeLooked sz flash codes n (record { fault = 0; mends = k })
+    pub looked-readable : (k : ℕ) → Ok k ≡ checked m raw code → CodeLooked sz flash codes n (record { fault = None; mends = k })
     looked-readable k e = let q = readable-is m raw code k e in record {
       fault-is = rw (unread-is, q);
       mends-are = mends-is m raw code k e
           ∙ sym mends-are;
     }
 
-    pub few-mends : (k : ℕ) → Readable k ≡ checked m raw code → k ≤ 8
+    pub few-mends : (k : ℕ) → Ok k ≡ checked m raw code → k ≤ 8
     unfolding page_mends
     few-mends k e = let q : k ≡ page_mends m raw code = mends-is m raw code k e in
         let c : page_mends m raw code ≤ m = few-of (page_legible m raw code) (count-le m _) in let b = h.limits.S_high in omega arith
@@ -159,8 +161,15 @@ module _ (sz : Sizes) (flash codes : List ℕ) (n : ℕ) where
     unfolding page_code
     coded-is codes' e = rw (code_long, coded) (rw whole at e)
 
-    pub mended-is : unreadable_at sz flash codes n ≡ false → (dst : List ℕ) (di : ℕ) (r : Checked) (dst' : List ℕ)
+    pub mended-is : unreadable_at sz flash codes n ≡ false → (dst : List ℕ) (di : ℕ) (r : Result ℕ Unreadable) (dst' : List ℕ)
         → Decoded m dst di raw code r dst' → dst' ≡ put_page sz.S dst di (read_at sz flash codes n)
     mended-is u dst di r dst' d = let q : page_legible m raw code ≡ true = not_f (sym unread-is ∙ u) in
         let e : dst' ≡ put_page (m * 256) dst di (page_mended m raw code) = d.data' ∙ rw q in
         e ∙ ap₂ (λ (s : ℕ) (x : Page). put_page s dst di x) whole (sym read_is)
+
+-- what the functions that ask for a mark, or for a code, are proved by
+pub ruleset marking = (mark-in, torn-marked, torn-unmarked, marked-is, unmarked-is, no-torn, marks-all)
+
+pub ruleset coding = (uncoded-looked, coded-is, uncoded-is)
+
+pub ruleset counting = (count_none, count-hit, count-miss)

@@ -1,7 +1,8 @@
 -- What a merge meets on the pages of a block: refusals, mends and the set of pages that want mending, offset by offset.
 use mathlib.Core.Path.{◌≡◌, refl, sym, ap, ap₂, ◌∙◌}
 use mathlib.Core.Logic.{◌≢◌, ⊎_elim}
-use mathlib.Core.Bool.{Bool, true, false, not, cond, ◌&&◌, ◌||◌}
+use Rattle.std.specs.Prelude.{Option, None}
+use mathlib.Core.Bool.{Bool, true, false, not, cond, ◌&&◌, ◌||◌, and-true}
 use mathlib.Core.List.{List}
 use Prim.Native.Nat.{ℕ, zero, suc, ◌+◌, ◌*◌, ◌/◌, ◌^◌, ◌≤◌, ◌<◌}
 use native.Mathlib.Nat.{suc-mul, mul-le-mul}
@@ -13,7 +14,6 @@ use Rattle.prelude.specs.Scan.{first}
 use Rattle.prelude.specs.Bits.{bit, mask, with_bit}
 use Rattle.prelude.specs.Pages.{page_at}
 use Rattle.prelude.proofs.Tests.{by-test, clash, and_l, and_r, or_l, or_r, or_cases, or_false, same_test}
-use Rattle.prelude.proofs.Pages.{ends-before}
 use Rattle.prelude.proofs.Scan.{first-hit, first-at, count-le}
 use Rattle.prelude.proofs.Bits.{mask_lt, bit-none, with-new}
 use Rattle.model.specs.Sizes.{Sizes, InLimits, is_coded, is_marked}
@@ -21,7 +21,10 @@ use Rattle.model.specs.Calls.{Page, some_page, fault_met, sum, mends_met}
 use Rattle.model.proofs.Merges.{sum-or}
 use Rattle.model.proofs.Lookup.{page-div, page-mod, page-lt, page-split, offset_lt}
 use Rattle.codes.specs.Reading.{code_at, differs, page_legible, page_mends}
+use Rattle.answer.specs.declared.fault.Fault.{Fault}
+use Rattle.answer.specs.Numbers.{fault_number}
 use Rattle.chip.specs.declared.Seen.{Seen}
+use Rattle.chip.specs.declared.BlockSeen.{BlockSeen}
 use Rattle.model.specs.Formats.{page_code, code_for, code_long}
 use Rattle.chip.specs.Formats.{unreadable_at, mends_at}
 use Rattle.chip.specs.Chip.{Lent, Looked, fault_on, mends_on, torn_at, block_reads, mend_set, BlockLooked, worse_of, most_mends}
@@ -39,6 +42,9 @@ seven : (p q : Bool) → p ≡ true → ◌≡◌ {A = ℕ} (cond p 7 (cond q 14
 seven true q e h = omega arith
 seven false q e h = clash refl (sym e)
 
+abbrev worst_of : Bool → Bool → ℕ
+worst_of bad torn = cond bad 7 (cond torn 14 0)
+
 -- ---- a number below n passes
 
 unfoldable pub some : ℕ → (ℕ → Bool) → Bool
@@ -53,23 +59,8 @@ module _ (p : ℕ → Bool) where
   unfolding some
   some_at n e = let l = ltb-true (first n p) n e in (first n p, l, first-hit n p l)
 
-  pub some_more : (n : ℕ) → some (n + 1) p ≡ (some n p || p n)
-  some_more n = same_test
-      (λ e. let k = some_at (n + 1) e in by-test (ltb k.0 n)
-      (λ u. or_l (p n) (some_of n k.0 (ltb-true k.0 n u) k.2))
-      (λ u. or_r (some n p) (let q = ltb-false k.0 n u in let r = k.1 in let s : k.0 ≡ n = omega arith in rw s at k.2)))
-      (λ e. ⊎_elim (λ u. let k = some_at n u in some_of (n + 1) k.0 (let r = k.1 in omega arith) k.2)
-      (λ u. some_of (n + 1) n (omega arith) u) (or_cases (some n p) (p n) e))
-
   pub some-none : (n : ℕ) → ((j : ℕ) → j < n → p j ≡ false) → some n p ≡ false
   some-none n h = by-test (some n p) (λ e. let k = some_at n e in clash k.2 (h k.0 k.1)) (λ e. e)
-
-  pub some-upto : (k n : ℕ) → k ≤ n → ((j : ℕ) → k ≤ j → j < n → p j ≡ false) → some n p ≡ some k p
-  some-upto k n l h = same_test
-      (λ e. let q = some_at n e in by-test (ltb q.0 k)
-      (λ u. some_of k q.0 (ltb-true q.0 k u) q.2)
-      (λ u. clash q.2 (h q.0 (ltb-false q.0 k u) q.1)))
-      (λ e. let q = some_at k e in some_of n q.0 (let r = q.1 in omega arith) q.2)
 
 module _ (g : ℕ → ℕ) where
   pub sum_more : (n : ℕ) → sum (n + 1) g ≡ sum n g + g n
@@ -122,162 +113,6 @@ pub mends-plain : (coded : Bool) → coded ≡ false → (sz : Sizes) (x : Page)
 mends-plain true e sz x k = clash refl e
 mends-plain false e sz x k = refl
 
--- ---- a block
-
-module _ (sz : Sizes) (limits : InLimits sz) (b v : ℕ) (bl : b < sz.N) where
-  reads_before : (j : ℕ) → j < b * sz.K + 0 → block_reads sz b v j ≡ false
-  unfolding block_reads
-  reads_before j l = rw (ne_eqb (j / sz.K) b (λ e. let q = page-split sz limits j b e in omega arith))
-
-  reads_past : (o j : ℕ) → sz.K ≤ o → b * sz.K + o ≤ j → block_reads sz b v j ≡ false
-  unfolding block_reads
-  reads_past o j k l = rw (ne_eqb (j / sz.K) b (λ e. let q = page-split sz limits j b e in let r = offset_lt sz limits j in omega arith))
-
-  reads_at : (o : ℕ) → o < sz.K → block_reads sz b v (b * sz.K + o) ≡ not (bit v o)
-  unfolding block_reads
-  reads_at o l = rw (page-div sz limits b o l, page-mod sz limits b o l, eq-eqb b b refl)
-
-module _ (sz : Sizes) (flash codes marks : List ℕ) (b v : ℕ) where
-  -- a page of the block meets refusal r
-  abbrev meets : ℕ → ℕ → Bool
-  meets r i = block_reads sz b v i && eqb (fault_on sz flash codes marks i) r
-
-  abbrev adds : ℕ → ℕ
-  adds i = cond (block_reads sz b v i) (mends_on sz flash codes marks i) 0
-
-  abbrev wants : ℕ → Bool
-  wants o = not (bit v o) && ltb 0 (mends_at sz flash codes (b * sz.K + o))
-
-  -- the offsets below o are looked at
-  pub record LookedTo (o : ℕ) (bad torn : Bool) (mends mend : ℕ) : Type 0 where
-    pub bad-is : bad ≡ some (b * sz.K + o) (meets 7)
-    pub torn-is : torn ≡ some (b * sz.K + o) (meets 14)
-    pub mends-are : mends ≡ sum (b * sz.K + o) adds
-    pub mends-low : mends ≤ o * 8
-    pub mend-is : mend ≡ mask o wants
-
-  module _ (h : Lent sz flash codes marks) (bl : b < sz.N) where
-    pub looked-none : LookedTo 0 false false 0 0
-    unfolding mask
-    looked-none = let limits = h.codes-lent.limits in record {
-      bad-is = sym (some-none (meets 7) (b * sz.K + 0) (λ j l. rw (reads_before sz limits b v bl j l)));
-      torn-is = sym (some-none (meets 14) (b * sz.K + 0) (λ j l. rw (reads_before sz limits b v bl j l)));
-      mends-are = sym (sum-none adds (b * sz.K + 0) (λ j l. rw (reads_before sz limits b v bl j l)));
-      mends-low = omega arith;
-      mend-is = refl;
-    }
-
-    module _ (o : ℕ) (l : o < sz.K) (bad torn : Bool) (mends mend : ℕ) (k : LookedTo o bad torn mends mend) where
-      -- the page is valid
-      pub looked-valid : bit v o ≡ true → LookedTo (o + 1) bad torn mends mend
-      looked-valid e = let limits = h.codes-lent.limits in let r : block_reads sz b v (b * sz.K + o)
-          ≡ not (bit v o) = reads_at sz limits b v bl o l in let n : b * sz.K + (o + 1) ≡ b * sz.K + o + 1 = omega arith in record {
-            bad-is = rw n (k.bad-is ∙ sym (some_more (meets 7) (b * sz.K + o) ∙ rw (r, e) (or_false _)));
-            torn-is = rw n (k.torn-is ∙ sym (some_more (meets 14) (b * sz.K + o) ∙ rw (r, e) (or_false _)));
-            mends-are = rw n (k.mends-are ∙ sym (sum_more adds (b * sz.K + o) ∙ rw (r, e) (omega arith)));
-            mends-low = let q = k.mends-low in omega arith;
-            mend-is = k.mend-is ∙ sym (mask-more wants o ∙ rw e);
-          }
-
-      -- the page is read
-      looked-read : bit v o ≡ false → (seen : Seen) → Looked sz flash codes marks (b * sz.K + o) seen → (mend' : ℕ)
-          → mend' ≡ cond (eqb seen.mends 0) mend (with_bit mend o)
-          → LookedTo (o + 1) (bad || eqb seen.fault 7) (torn || eqb seen.fault 14) (mends + seen.mends) mend'
-      looked-read e seen s mend' me =
-          let limits = h.codes-lent.limits in
-          let nl = page-lt sz limits b o bl l in
-          let r : block_reads sz b v (b * sz.K + o) ≡ not (bit v o) = reads_at sz limits b v bl o l in
-          let n : b * sz.K + (o + 1) ≡ b * sz.K + o + 1 = omega arith in
-          let m = s.mends-are ∙ mends-is sz flash codes marks (b * sz.K + o) nl in
-          let high : seen.mends ≤ 8 = rw m (mends-high (is_coded sz) sz limits _ _) in
-          record {
-            bad-is = rw (n, k.bad-is, s.fault-is) (sym (some_more (meets 7) (b * sz.K + o) ∙ rw (r, e)));
-            torn-is = rw (n, k.torn-is, s.fault-is) (sym (some_more (meets 14) (b * sz.K + o) ∙ rw (r, e)));
-            mends-are = rw (n, k.mends-are, s.mends-are) (sym (sum_more adds (b * sz.K + o) ∙ rw (r, e)));
-            mends-low = let q = k.mends-low in omega arith;
-            mend-is = rw (me, mask-more wants o, e, ← m) (by-test (eqb seen.mends 0)
-                (λ u. let z = eqb-true seen.mends 0 u in rw (u, le-ltb 0 seen.mends (omega arith)) k.mend-is)
-                (λ u. let z = eqb-false seen.mends 0 u in rw (u, lt-ltb 0 seen.mends (omega arith))
-                (ap (λ (x : ℕ). with_bit x o) k.mend-is)));
-          }
-
-      -- and wants mending, or not
-      pub looked-mend : bit v o ≡ false → (seen : Seen) → Looked sz flash codes marks (b * sz.K + o) seen → seen.mends ≢ 0
-          → LookedTo (o + 1) (bad || eqb seen.fault 7) (torn || eqb seen.fault 14) (mends + seen.mends) (with_bit mend o)
-      looked-mend e seen s u = looked-read e seen s (with_bit mend o) (rw (ne_eqb seen.mends 0 u))
-
-      pub looked-clean : bit v o ≡ false → (seen : Seen) → Looked sz flash codes marks (b * sz.K + o) seen → seen.mends ≡ 0
-          → LookedTo (o + 1) (bad || eqb seen.fault 7) (torn || eqb seen.fault 14) (mends + seen.mends) mend
-      looked-clean e seen s u = looked-read e seen s mend (rw (eq-eqb seen.mends 0 u))
-
-      pub few-seen : (seen : Seen) → Looked sz flash codes marks (b * sz.K + o) seen → mends + seen.mends < 2 ^ 32
-      few-seen seen s =
-          let limits = h.codes-lent.limits in
-          let m = s.mends-are ∙ mends-is sz flash codes marks (b * sz.K + o) (page-lt sz limits b o bl l) in
-          let high : seen.mends ≤ 8 = rw m (mends-high (is_coded sz) sz limits _ _) in
-          let q = k.mends-low in let r = limits.K_high in omega arith
-
-    -- all are
-    pub looked-all : (o : ℕ) → o ≡ sz.K → (bad torn : Bool) (mends mend : ℕ) → LookedTo o bad torn mends mend → (fault : ℕ)
-        → fault ≡ cond bad 7 (cond torn 14 0)
-        → BlockLooked sz flash codes marks b v (record { fault = fault; mends = mends; mend = mend })
-    unfolding fault_met some_page some mends_met mend_set
-    looked-all o e bad torn mends mend k fault f =
-        let limits = h.codes-lent.limits in
-        let end : b * sz.K + o ≤ sz.N * sz.K = (let q = ends-before sz.K bl in omega arith) in
-        let past : (j : ℕ) → b * sz.K + o ≤ j → block_reads sz b v j ≡ false = (λ j l. reads_past sz limits b v bl o j (omega arith) l) in
-        let q7 = some-upto (meets 7) (b * sz.K + o) (sz.N * sz.K) end (λ j l m. rw (past j l)) in
-        let q14 = some-upto (meets 14) (b * sz.K + o) (sz.N * sz.K) end (λ j l m. rw (past j l)) in
-        record {
-          fault-is = f ∙ ap₂ (λ (x y : Bool). cond x 7 (cond y 14 0)) (k.bad-is ∙ sym q7) (k.torn-is ∙ sym q14);
-          mends-are = k.mends-are ∙ sym (sum-upto adds (b * sz.K + o) (sz.N * sz.K) end (λ j l m. rw (past j l)));
-          mend-is = k.mend-is ∙ ap (λ (x : ℕ). mask x wants) e;
-        }
-
-    -- there is nothing to look at
-    pub looked-plain : is_coded sz ≡ false → is_marked sz ≡ false → BlockLooked sz flash codes marks b v
-        (record { fault = 0; mends = 0; mend = 0 })
-    unfolding fault_met some_page some mends_met mend_set
-    looked-plain c m =
-        let fault : (i : ℕ) → i < sz.N * sz.K → fault_on sz flash codes marks i
-        ≡ 0 = (λ i l. fault-is sz flash codes marks i l ∙ rw (
-          unread-plain (is_coded sz) c sz (page_at sz.S flash i)
-              (page_at (code_long sz) codes i),
-          m,
-        )) in
-        let none : (i : ℕ) → i < sz.N * sz.K → mends_on sz flash codes marks i
-        ≡ 0 = (λ i l. mends-is sz flash codes marks i l ∙ mends-plain (is_coded sz) c sz _ _) in
-        let q7 = some-none (meets 7) (sz.N * sz.K) (λ j l. rw (fault j l) (and-f (block_reads sz b v j))) in
-        let q14 = some-none (meets 14) (sz.N * sz.K) (λ j l. rw (fault j l) (and-f (block_reads sz b v j))) in
-        record {
-          fault-is = ap₂ (λ (x y : Bool). cond x 7 (cond y 14 0)) (sym q7) (sym q14);
-          mends-are = sym (sum-none adds (sz.N * sz.K) (λ j l. rw (none j l) (cond_same (block_reads sz b v j))));
-          mend-is = sym
-              (mask-none wants sz.K (λ j l. rw (mends-plain (is_coded sz) c sz (page_at sz.S flash (b * sz.K + j))
-              (page_at (code_long sz) codes (b * sz.K + j))) (and-f (not (bit v j)))));
-        }
-
--- ---- no page that is read is faulty
-
-module _ (sz : Sizes) (flash codes marks : List ℕ) (b v : ℕ) (limits : InLimits sz) (bl : b < sz.N) where
-  pub no-fault : fault_met sz (fault_on sz flash codes marks) (block_reads sz b v) ≡ 0 → (o : ℕ) → o < sz.K → bit v o ≡ false
-      → unreadable_at sz flash codes (b * sz.K + o) ≡ false
-  unfolding fault_met some_page some
-  no-fault h o l e =
-      let nl = page-lt sz limits b o bl l in
-      let n : ℕ = b * sz.K + o in
-      by-test (unreadable_at sz flash codes n)
-      (λ u. let met : meets sz flash codes marks b v 7 n ≡ true = rw (
-        reads_at sz limits b v bl o l,
-        e,
-        fault-is sz flash codes marks n nl,
-        u,
-      ) in
-      let s : some_page sz (meets sz flash codes marks b v 7) ≡ true =
-      (some_of (meets sz flash codes marks b v 7) (sz.N * sz.K) n nl met) in
-      absurd (seven (some_page sz (meets sz flash codes marks b v 7)) (some_page sz (meets sz flash codes marks b v 14)) s h))
-      (λ u. u)
-
 -- ---- the pages read are none, or one
 
 ends_low : (u x : Bool) (f : ℕ) → f ≡ cond u 7 (cond x 14 0) → cond (eqb f 7) 7 (cond (eqb f 14) 14 0) ≡ f
@@ -322,27 +157,6 @@ module _ (sz : Sizes) (flash codes marks : List ℕ) (reads : ℕ → Bool) wher
     mends-one = sum-upto mend (n + 1) (sz.N * sz.K) (omega arith) (λ j a b. rw (only j (λ e. omega arith)))
         ∙ sum_more mend n ∙ (let z = sum-none mend n (λ j k. rw (only j (λ e. omega arith))) in rw (z, one) (omega arith))
 
--- ---- for callers
-
--- where nothing is mended no page wants mending
-sum-zero : (n : ℕ) (g : ℕ → ℕ) → sum n g ≡ 0 → (j : ℕ) → j < n → g j ≡ 0
-unfolding sum
-sum-zero zero g h j l = absurd (omega arith)
-sum-zero (suc n) g h j l = by-test (ltb j n)
-    (λ u. sum-zero n g (omega arith) j (ltb-true j n u))
-    (λ u. let k = ltb-false j n u in let e : j ≡ n = omega arith in rw e (omega arith))
-
-module _ (sz : Sizes) (flash codes marks : List ℕ) (b v : ℕ) (limits : InLimits sz) (bl : b < sz.N) where
-  pub none-to_mend : mends_met sz (mends_on sz flash codes marks) (block_reads sz b v) ≡ 0 → mend_set sz flash codes b v ≡ 0
-  unfolding mends_met mend_set
-  none-to_mend h = mask-none (wants sz flash codes marks b v) sz.K (λ o l. by-test (bit v o)
-      (λ e. rw e)
-      (λ e. let n : ℕ = b * sz.K + o in let nl = page-lt sz limits b o bl l in
-      let z = sum-zero (sz.N * sz.K) (adds sz flash codes marks b v) h n nl in
-      let r : block_reads sz b v n ≡ true = reads_at sz limits b v bl o l ∙ rw e in
-      let m : mends_at sz flash codes n ≡ 0 = sym (mends-is sz flash codes marks n nl) ∙ rw r at z in
-      rw (e, m)))
-
 -- the refusal met on the pages of two sets
 some_or : (n : ℕ) (p q : ℕ → Bool) → some n (λ i. p i || q i) ≡ (some n p || some n q)
 some_or n p q = same_test
@@ -356,20 +170,6 @@ some_same : (n : ℕ) (p q : ℕ → Bool) → ((i : ℕ) → i < n → p i ≡ 
 some_same n p q h = same_test
     (λ e. let k = some_at p n e in some_of q n k.0 k.1 (sym (h k.0 k.1) ∙ k.2))
     (λ e. let k = some_at q n e in some_of p n k.0 k.1 (h k.0 k.1 ∙ k.2))
-
-abbrev worst_of : Bool → Bool → ℕ
-worst_of bad torn = cond bad 7 (cond torn 14 0)
-
--- a refusal that is met is 7 or 14
-late_is : (a b : Bool) → (worst_of a b ≡ 0 → ⊥) → cond (eqb (worst_of a b) 7) 7 14 ≡ worst_of a b
-late_is true b h = refl
-late_is false true h = refl
-late_is false false h = absurd (h refl)
-
-pub met-late : (sz : Sizes) (fault : ℕ → ℕ) (reads : ℕ → Bool) → (fault_met sz fault reads ≡ 0 → ⊥)
-    → cond (eqb (fault_met sz fault reads) 7) 7 14 ≡ fault_met sz fault reads
-unfolding fault_met
-met-late sz fault reads h = late_is (some_page sz (λ i. reads i && eqb (fault i) 7)) (some_page sz (λ i. reads i && eqb (fault i) 14)) h
 
 worst_or : (a b c d : Bool) → worst_of (a || c) (b || d) ≡ worst_of (eqb (worst_of a b) 7 || eqb (worst_of c d) 7)
     (eqb (worst_of a b) 14 || eqb (worst_of c d) 14)
@@ -490,3 +290,194 @@ mends-few sz limits flash codes marks reads =
     (λ e. rw (e, mends-is sz flash codes marks i l) (mends-high (is_coded sz) sz limits (page_at sz.S flash i)
     (page_at (code_long sz) codes i))) (λ e. rw e (omega arith))) in
     let b : sz.N * sz.K ≤ 4096 * 64 = mul-le-mul limits.N_high limits.K_high in omega arith
+
+-- ---- a block
+
+module _ (sz : Sizes) (limits : InLimits sz) (b v : ℕ) (bl : b < sz.N) where
+  reads_before : (j : ℕ) → j < b * sz.K + 0 → block_reads sz b v j ≡ false
+  unfolding block_reads
+  reads_before j l = rw (ne_eqb (j / sz.K) b (λ e. let q = page-split sz limits j b e in omega arith))
+
+  reads_past : (o j : ℕ) → sz.K ≤ o → b * sz.K + o ≤ j → block_reads sz b v j ≡ false
+  unfolding block_reads
+  reads_past o j k l = rw (ne_eqb (j / sz.K) b (λ e. let q = page-split sz limits j b e in let r = offset_lt sz limits j in omega arith))
+
+  reads_at : (o : ℕ) → o < sz.K → block_reads sz b v (b * sz.K + o) ≡ not (bit v o)
+  unfolding block_reads
+  reads_at o l = rw (page-div sz limits b o l, page-mod sz limits b o l, eq-eqb b b refl)
+
+module _ (sz : Sizes) (flash codes marks : List ℕ) (b v : ℕ) where
+  -- a page of the block meets refusal r
+  abbrev meets : ℕ → ℕ → Bool
+  meets r i = block_reads sz b v i && eqb (fault_on sz flash codes marks i) r
+
+  abbrev adds : ℕ → ℕ
+  adds i = cond (block_reads sz b v i) (mends_on sz flash codes marks i) 0
+
+  abbrev wants : ℕ → Bool
+  wants o = not (bit v o) && ltb 0 (mends_at sz flash codes (b * sz.K + o))
+
+  -- the pages of the block below offset o are read
+  abbrev reads_to : ℕ → ℕ → Bool
+  reads_to o i = block_reads sz b v i && ltb i (b * sz.K + o)
+
+  -- the offsets below o are looked at
+  pub record LookedTo (o : ℕ) (seen : BlockSeen) : Type 0 where
+    pub fault-is : fault_number seen.fault ≡ fault_met sz (fault_on sz flash codes marks) (reads_to o)
+    pub mends-are : seen.mends ≡ mends_met sz (mends_on sz flash codes marks) (reads_to o)
+    pub mend-is : seen.mend ≡ mask o wants
+
+  module _ (h : Lent sz flash codes marks) (bl : b < sz.N) where
+    limits : InLimits sz
+    limits = h.codes-lent.limits
+
+    pub looked-none : LookedTo 0 (record { fault = None; mends = 0; mend = 0 })
+    unfolding mask
+    looked-none = let none : (i : ℕ) → reads_to 0 i ≡ false = λ i. by-test (ltb i (b * sz.K + 0))
+        (λ l. rw (reads_before sz limits b v bl i (ltb-true i (b * sz.K + 0) l)))
+        (λ l. rw l (and-f (block_reads sz b v i))) in record {
+          fault-is = sym (fault-none sz flash codes marks (reads_to 0) none);
+          mends-are = sym (mends-none sz flash codes marks (reads_to 0) none);
+          mend-is = refl;
+        }
+
+    module _ (o : ℕ) (l : o < sz.K) (seen : BlockSeen) (k : LookedTo o seen) where
+      abbrev n : ℕ
+      n = b * sz.K + o
+
+      reads-here : block_reads sz b v n ≡ not (bit v o)
+      reads-here = reads_at sz limits b v bl o l
+
+      one_more : (i : ℕ) → ltb i (b * sz.K + (o + 1)) ≡ (ltb i n || eqb i n)
+      one_more i = same_test
+          (λ e. by-test (eqb i n) (λ u. or_r (ltb i n) u) (λ u. let a = ltb-true i (b * sz.K + (o + 1)) e in
+          let c = eqb-false i n u in or_l (eqb i n) (lt-ltb i n (omega arith))))
+          (λ e. lt-ltb i (b * sz.K + (o + 1)) (⊎_elim (λ u. let a = ltb-true i n u in omega arith)
+          (λ u. let a = eqb-true i n u in omega arith) (or_cases (ltb i n) (eqb i n) e)))
+
+      -- the page is valid
+      pub looked-valid : bit v o ≡ true → LookedTo (o + 1) seen
+      looked-valid e = let same : (i : ℕ) → i < sz.N * sz.K → reads_to o i ≡ reads_to (o + 1) i = λ i il. rw (one_more i)
+          (by-test (eqb i n) (λ u. rw (eqb-true i n u, reads-here, e)) (λ u. rw (u, or_false (ltb i n)))) in record {
+            fault-is = k.fault-is ∙ met-set sz (fault_on sz flash codes marks) (reads_to o) (reads_to (o + 1)) same;
+            mends-are = k.mends-are ∙ mends-set sz (mends_on sz flash codes marks) (reads_to o) (reads_to (o + 1)) same;
+            mend-is = k.mend-is ∙ sym (mask-more wants o ∙ rw e);
+          }
+
+      module _ (page : Seen) (s : Looked sz flash codes marks n page) where
+        pub few-seen : seen.mends + page.mends < 2 ^ 32
+        few-seen = let m = s.mends-are ∙ mends-is sz flash codes marks n (page-lt sz limits b o bl l) in
+            let high : page.mends ≤ 8 = rw m (mends-high (is_coded sz) sz limits _ _) in
+            let q = mends-few sz limits flash codes marks (reads_to o) in let r = k.mends-are in omega arith
+
+        -- the page is read
+        module _ (e : bit v o ≡ false) (fault' : Option Fault)
+            (worse : fault_number fault' ≡ worse_of (fault_number seen.fault) (fault_number page.fault)) where
+          here : (i : ℕ) → i < sz.N * sz.K → (reads_to o i || eqb i n) ≡ reads_to (o + 1) i
+          here i il = rw (one_more i) (by-test (eqb i n) (λ u. rw (eqb-true i n u, reads-here, e))
+              (λ u. rw (u, or_false (reads_to o i), or_false (ltb i n))))
+
+          looked-read : (mend' : ℕ) → mend' ≡ cond (eqb page.mends 0) seen.mend (with_bit seen.mend o)
+              → LookedTo (o + 1) (record { fault = fault'; mends = seen.mends + page.mends; mend = mend' })
+          looked-read mend' me = let nl = page-lt sz limits b o bl l in
+              let only : (i : ℕ) → i ≢ n → eqb i n ≡ false = λ i ne. ne_eqb i n ne in
+              let one = eq-eqb n n refl in
+              let mended : page.mends ≡ mends_at sz flash codes n = s.mends-are ∙ mends-is sz flash codes marks n nl in record {
+                fault-is = worse ∙ rw (k.fault-is, s.fault-is)
+                    (ap (worse_of _) (sym (fault-one sz flash codes marks (λ i. eqb i n) n nl one only))
+                    ∙ sym (fault-or sz (fault_on sz flash codes marks) (reads_to o) (λ i. eqb i n))
+                    ∙ met-set sz (fault_on sz flash codes marks) _ (reads_to (o + 1)) here);
+                mends-are = rw (k.mends-are, s.mends-are)
+                    (ap (λ (x : ℕ). mends_met sz (mends_on sz flash codes marks) (reads_to o) + x)
+                    (sym (mends-one sz flash codes marks (λ i. eqb i n) n nl one only))
+                    ∙ sym (mends-or sz (mends_on sz flash codes marks) (reads_to o) (λ i. eqb i n) (λ i il p q.
+                    let a = ltb-true i n (and_r (block_reads sz b v i) _ p) in let c = eqb-true i n q in omega arith))
+                    ∙ mends-set sz (mends_on sz flash codes marks) _ (reads_to (o + 1)) here);
+                mend-is = rw (me, mask-more wants o, e, ← mended) (by-test (eqb page.mends 0)
+                    (λ u. let z = eqb-true page.mends 0 u in rw (u, le-ltb 0 page.mends (omega arith)) k.mend-is)
+                    (λ u. let z = eqb-false page.mends 0 u in rw (u, lt-ltb 0 page.mends (omega arith))
+                    (ap (λ (x : ℕ). with_bit x o) k.mend-is)));
+              }
+
+          -- and wants mending, or not
+          pub looked-mend : page.mends ≢ 0
+              → LookedTo (o + 1) (record { fault = fault'; mends = seen.mends + page.mends; mend = with_bit seen.mend o })
+          looked-mend u = looked-read (with_bit seen.mend o) (rw (ne_eqb page.mends 0 u))
+
+          pub looked-clean : page.mends ≡ 0
+              → LookedTo (o + 1) (record { fault = fault'; mends = seen.mends + page.mends; mend = seen.mend })
+          looked-clean u = looked-read seen.mend (rw (eq-eqb page.mends 0 u))
+
+    -- all are
+    pub looked-all : (o : ℕ) → o ≡ sz.K → (seen : BlockSeen) → LookedTo o seen → BlockLooked sz flash codes marks b v seen
+    unfolding mend_set
+    looked-all o e seen k = let same : (i : ℕ) → i < sz.N * sz.K → reads_to o i ≡ block_reads sz b v i = λ i il.
+        by-test (ltb i (b * sz.K + o)) (λ u. rw u (and-true (block_reads sz b v i)))
+        (λ u. rw (u, reads_past sz limits b v bl o i (omega arith) (ltb-false i (b * sz.K + o) u))) in record {
+          fault-is = k.fault-is ∙ met-set sz (fault_on sz flash codes marks) (reads_to o) (block_reads sz b v) same;
+          mends-are = k.mends-are ∙ mends-set sz (mends_on sz flash codes marks) (reads_to o) (block_reads sz b v) same;
+          mend-is = k.mend-is ∙ ap (λ (x : ℕ). mask x wants) e;
+        }
+
+    -- there is nothing to look at
+    pub looked-plain : is_coded sz ≡ false → is_marked sz ≡ false → BlockLooked sz flash codes marks b v
+        (record { fault = None; mends = 0; mend = 0 })
+    unfolding fault_met some_page some mends_met mend_set
+    looked-plain c m =
+        let fault : (i : ℕ) → i < sz.N * sz.K → fault_on sz flash codes marks i
+        ≡ 0 = (λ i l. fault-is sz flash codes marks i l ∙ rw (
+          unread-plain (is_coded sz) c sz (page_at sz.S flash i)
+              (page_at (code_long sz) codes i),
+          m,
+        )) in
+        let none : (i : ℕ) → i < sz.N * sz.K → mends_on sz flash codes marks i
+        ≡ 0 = (λ i l. mends-is sz flash codes marks i l ∙ mends-plain (is_coded sz) c sz _ _) in
+        let q7 = some-none (meets 7) (sz.N * sz.K) (λ j l. rw (fault j l) (and-f (block_reads sz b v j))) in
+        let q14 = some-none (meets 14) (sz.N * sz.K) (λ j l. rw (fault j l) (and-f (block_reads sz b v j))) in
+        record {
+          fault-is = ap₂ (λ (x y : Bool). cond x 7 (cond y 14 0)) (sym q7) (sym q14);
+          mends-are = sym (sum-none adds (sz.N * sz.K) (λ j l. rw (none j l) (cond_same (block_reads sz b v j))));
+          mend-is = sym
+              (mask-none wants sz.K (λ j l. rw (mends-plain (is_coded sz) c sz (page_at sz.S flash (b * sz.K + j))
+              (page_at (code_long sz) codes (b * sz.K + j))) (and-f (not (bit v j)))));
+        }
+
+-- ---- no page that is read is faulty
+
+module _ (sz : Sizes) (flash codes marks : List ℕ) (b v : ℕ) (limits : InLimits sz) (bl : b < sz.N) where
+  pub no-fault : fault_met sz (fault_on sz flash codes marks) (block_reads sz b v) ≡ 0 → (o : ℕ) → o < sz.K → bit v o ≡ false
+      → unreadable_at sz flash codes (b * sz.K + o) ≡ false
+  unfolding fault_met some_page some
+  no-fault h o l e =
+      let nl = page-lt sz limits b o bl l in
+      let n : ℕ = b * sz.K + o in
+      by-test (unreadable_at sz flash codes n)
+      (λ u. let met : meets sz flash codes marks b v 7 n ≡ true = rw (
+        reads_at sz limits b v bl o l,
+        e,
+        fault-is sz flash codes marks n nl,
+        u,
+      ) in
+      let s : some_page sz (meets sz flash codes marks b v 7) ≡ true =
+      (some_of (meets sz flash codes marks b v 7) (sz.N * sz.K) n nl met) in
+      absurd (seven (some_page sz (meets sz flash codes marks b v 7)) (some_page sz (meets sz flash codes marks b v 14)) s h))
+      (λ u. u)
+
+-- where nothing is mended no page wants mending
+sum-zero : (n : ℕ) (g : ℕ → ℕ) → sum n g ≡ 0 → (j : ℕ) → j < n → g j ≡ 0
+unfolding sum
+sum-zero zero g h j l = absurd (omega arith)
+sum-zero (suc n) g h j l = by-test (ltb j n)
+    (λ u. sum-zero n g (omega arith) j (ltb-true j n u))
+    (λ u. let k = ltb-false j n u in let e : j ≡ n = omega arith in rw e (omega arith))
+
+module _ (sz : Sizes) (flash codes marks : List ℕ) (b v : ℕ) (limits : InLimits sz) (bl : b < sz.N) where
+  pub none-to_mend : mends_met sz (mends_on sz flash codes marks) (block_reads sz b v) ≡ 0 → mend_set sz flash codes b v ≡ 0
+  unfolding mends_met mend_set
+  none-to_mend h = mask-none (wants sz flash codes marks b v) sz.K (λ o l. by-test (bit v o)
+      (λ e. rw e)
+      (λ e. let n : ℕ = b * sz.K + o in let nl = page-lt sz limits b o bl l in
+      let z = sum-zero (sz.N * sz.K) (adds sz flash codes marks b v) h n nl in
+      let r : block_reads sz b v n ≡ true = reads_at sz limits b v bl o l ∙ rw e in
+      let m : mends_at sz flash codes n ≡ 0 = sym (mends-is sz flash codes marks n nl) ∙ rw r at z in
+      rw (e, m)))

@@ -2,7 +2,7 @@
 use mathlib.Core.Path.{◌≡◌, sym, ap, subst, ◌∙◌}
 use mathlib.Core.Bool.{true, false, not, ◌&&◌}
 use mathlib.Core.List.{List}
-use Prim.Native.Nat.{ℕ, zero, suc, ◌+◌, ◌-◌, ◌*◌, ◌^◌, ◌≤◌, ◌<◌}
+use Prim.Native.Nat.{ℕ, zero, suc, ◌+◌, ◌-◌, ◌*◌, ◌≤◌, ◌<◌}
 use native.Mathlib.Nat.{add-zero, add-mul, mul-le-mul_right, suc-mul}
 use native.Mathlib.Omega.{arith}
 use lib.Dec.{ltb}
@@ -19,7 +19,7 @@ use Rattle.prelude.proofs.Pages.{ends-before, length-laid, length_run, laid_none
 use Rattle.prelude.proofs.Pages.{pages-put}
 use Rattle.model.specs.Sizes.{Sizes, is_coded}
 use Rattle.model.specs.Calls.{Page, zero_page}
-use Rattle.model.proofs.Lookup.{page-lt, page-vacant}
+use Rattle.model.proofs.Lookup.{page-lt}
 use Rattle.page.specs.Page.{HasPage}
 use Rattle.chip.specs.Formats.{read_at, mends_at}
 use Rattle.chip.specs.Chip.{Facing, CodesFacing, stretch_pages, raw_page, raw_merged, mended_page, mended_pages, merged_page}
@@ -41,9 +41,6 @@ module _ (sz : Sizes) (b : ℕ) (flash stretch : List ℕ) (h : Facing sz b flas
   module _ (o : ℕ) (o_lt : o < sz.K) where
     pub number_lt : b * sz.K + o < sz.N * sz.K
     number_lt = page-lt sz h.limits b o h.b_lt o_lt
-
-    pub number_fits : b * sz.K + o < 2 ^ 32
-    number_fits = let k = page-vacant sz h.limits b o h.b_lt o_lt in omega arith
 
     pub in_flash : HasPage sz.S flash (b * sz.K + o)
     in_flash = in_run sz.S (sz.N * sz.K) flash h.flash-length number_lt

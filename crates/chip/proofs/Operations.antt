@@ -3,8 +3,9 @@ use mathlib.Core.Path.{◌≡◌, refl, sym, ap, ◌∙◌}
 use mathlib.Core.Bool.{Bool, true, false, cond, ◌&&◌}
 use mathlib.Core.List.{List, [], ◌∷◌}
 use Prim.Native.Nat.{ℕ, suc, ◌+◌, ◌-◌, ◌*◌, ◌/◌, ◌%◌, ◌^◌, ◌≤◌, ◌<◌}
-use native.Mathlib.Nat.{mul-le-mul, mul-le-mul_right, suc-mul}
+use native.Mathlib.Nat.{mul-le-mul}
 use native.Mathlib.Omega.{arith}
+use Rattle.std.specs.Prelude.{min}
 use lib.Dec.{ltb, eqb}
 use lib.ListN.{length, get_or, set, length-set, drop, replicate, length-replicate, get_or-replicate}
 use lib.Seq.{ext_get_or, get_or-set_same, get_or-set_other, get_or-take, get_or-drop}
@@ -80,10 +81,10 @@ module _ {C A : Type 0} (chip : Chip C A) (filler : A) (sz : Sizes) (limits : In
           (λ e. rw e))
 
   -- the last of them, of K + 1
-  pub after_last : (ops many : ℕ) → 0 < ops → many ≡ cond (ltb (ops - 1) sz.K) (ops - 1) sz.K → after (suc many) ≡ after ops
+  pub after_last : (ops many : ℕ) → 0 < ops → many ≡ min (ops - 1) sz.K → after (suc many) ≡ after ops
   after_last ops many p e = by-test (ltb (ops - 1) sz.K)
-      (λ u. let q : many ≡ ops - 1 = e ∙ rw u in let r : suc many ≡ ops = omega arith in ap after r)
-      (λ u. let q : many ≡ sz.K = e ∙ rw u in let v = ltb-false (ops - 1) sz.K u in
+      (λ u. let v = ltb-true (ops - 1) sz.K u in let r : suc many ≡ ops = omega arith in ap after r)
+      (λ u. let v = ltb-false (ops - 1) sz.K u in
       programmed_to-all chip filler sz limits fl b pg (suc many) (omega arith)
       ∙ sym (programmed_to-all chip filler sz limits fl b pg ops (omega arith)))
 
@@ -158,31 +159,7 @@ module _ (sz : Sizes) (limits : InLimits sz) where
   codes-fit code e = let q : code ≤ 24 = (rw e (code-low (is_coded sz) sz limits)) in
       let m : sz.K * code ≤ 64 * 24 = mul-le-mul limits.K_high q in omega arith
 
-  pub marks-fit : (mark : ℕ) → mark ≡ mark_long sz → sz.K * mark < 2 ^ 64
-  marks-fit mark e = let q : mark ≤ 1 = (rw e (mark-low (is_marked sz))) in let m : sz.K * mark ≤ 64 * 1 = mul-le-mul limits.K_high q in
-      omega arith
-    where
-      mark-low : (marked : Bool) → cond marked 1 0 ≤ 1
-      mark-low true = omega arith
-      mark-low false = omega arith
-
 -- ---- all operations, or the first of them
-
--- whether offset o is below m, told by the bytes before it
-module _ (s : ℕ) (low : 1 ≤ s) (o m : ℕ) where
-  pub below-bytes : o * s < m * s → o < m
-  below-bytes h = by-test (ltb o m) (λ u. ltb-true o m u) (λ u. let q = mul-le-mul_right s (ltb-false o m u) in absurd (omega arith))
-
-  pub reached-bytes : m * s ≤ o * s → m ≤ o
-  reached-bytes h = by-test (ltb o m)
-      (λ u. let q : suc o * s ≤ m * s = mul-le-mul_right s (ltb-true o m u) in absurd (omega (arith, suc-mul o s)))
-      (λ u. ltb-false o m u)
-
--- the lesser of two
-pub lesser_is : (a k m : ℕ) → m ≡ cond (ltb a k) a k → (m ≤ a) × (m ≤ k) × (a - m ≡ a - k)
-lesser_is a k m e = by-test (ltb a k)
-    (λ u. let l = ltb-true a k u in let q : m ≡ a = e ∙ rw u in (omega arith, omega arith, omega arith))
-    (λ u. let l = ltb-false a k u in let q : m ≡ k = e ∙ rw u in (omega arith, omega arith, omega arith))
 
 module _ (sz : Sizes) (b : ℕ) (stretch : List ℕ) where
   -- where the erasure is done, the pages below offset o are programmed too
@@ -215,7 +192,7 @@ module _ (sz : Sizes) (b : ℕ) (stretch : List ℕ) where
       left_is = omega arith;
     }
 
-    pub block-all : (ops many left : ℕ) → InLimits sz → 0 < ops → many ≡ cond (ltb (ops - 1) sz.K) (ops - 1) sz.K
+    pub block-all : (ops many left : ℕ) → InLimits sz → 0 < ops → many ≡ min (ops - 1) sz.K
         → left ≡ ops - 1 - many
         → (flash₁ codes₁ marks₁ wear₁ flash' codes' marks' : List ℕ) → Erased sz b flash codes marks wear flash₁ codes₁ marks₁ wear₁
         → PagesProgrammed sz b flash₁ codes₁ marks₁ stretch many flash' codes' marks'
@@ -224,22 +201,5 @@ module _ (sz : Sizes) (b : ℕ) (stretch : List ℕ) where
       cells_are = q.cells_are (cells sz flash codes marks) (h.cells_are (page_at sz.S stretch))
           ∙ after_last (chip_for sz) (zero_page sz) sz limits (cells sz flash codes marks) b (page_at sz.S stretch) ops many p e;
       wear-is = rw (lt-ltb 0 ops p) h.wear-is;
-      left_is = let k = lesser_is (ops - 1) sz.K many e in let w = k.2 in omega arith;
+      left_is = omega arith;
     }
-
-pub bytes_fit : (sz : Sizes) → InLimits sz → (o : ℕ) → o ≤ sz.K → o * sz.S < 2 ^ 64
-bytes_fit sz limits o l = let k : o ≤ 64 = omega (arith, limits.K_high) in
-    let m : o * sz.S ≤ 64 * 2048 = mul-le-mul k limits.S_high in omega arith
-
--- the same buffers with other contents
-pub lent-on : {sz : Sizes} {flash codes marks : List ℕ} → Lent sz flash codes marks → (flash' codes' marks' : List ℕ)
-    → length flash' ≡ length flash → length codes' ≡ length codes → length marks' ≡ length marks → Lent sz flash' codes' marks'
-lent-on h flash' codes' marks' p q r = record {
-  codes-lent = record {
-    limits = h.codes-lent.limits;
-    whole = h.codes-lent.whole;
-    flash-length = p ∙ h.codes-lent.flash-length;
-    codes-length = q ∙ h.codes-lent.codes-length;
-  };
-  marks-length = r ∙ h.marks-length;
-}

@@ -66,9 +66,6 @@ module _ {sz : Sizes} {v w b f : ℕ} {flash codes marks wear bspace : List ℕ}
       back : part size (put_part size bspace f stretch) f ≡ stretch
       back = part-is _ ∙ rw (put_is stretch) (page-put_same (sz.K * sz.S) bspace f stretch in_bspace long)
 
-      pub back_long : length (part size (put_part size bspace f stretch) f) ≡ sz.K * sz.S
-      back_long = ap length back ∙ long
-
 -- d is any directory whose frame f has the valid set v
 module _ (sz : Sizes) (v w b f : ℕ) (flash codes marks wear bspace : List ℕ) (h : Rewritable sz v w b f flash codes marks wear bspace)
     (d : Directory) (valid-is : valid_at d f ≡ v) where

@@ -1,5 +1,5 @@
 -- What the operations of the chip and a rewrite ask and give. A primed list is the buffer afterwards.
-use Rattle.std.specs.Prelude.{◌≡◌, Bool, true, false, not, cond, ◌&&◌, ◌||◌, List, [], ℕ, suc, ◌+◌, ◌-◌, ◌*◌, ◌/◌, ◌%◌, ◌^◌, ◌≤◌, ◌<◌, eqb}
+use Rattle.std.specs.Prelude.{◌≡◌, Bool, true, false, not, cond, ◌&&◌, ◌||◌, List, [], ℕ, suc, ◌+◌, ◌-◌, ◌*◌, ◌/◌, ◌%◌, ◌^◌, ◌<◌, eqb}
 use Rattle.std.specs.Prelude.{ltb, length, get_or, set}
 use Rattle.prelude.specs.Scan.{tab}
 use Rattle.prelude.specs.Bits.{bit, mask}
@@ -12,6 +12,7 @@ use Rattle.model.specs.Calls.{Page, Cell, Buffers, zero_page, frame_pages, fault
 use Rattle.chip.specs.declared.Seen.{Seen}
 use Rattle.chip.specs.declared.BlockSeen.{BlockSeen}
 use Rattle.chip.specs.declared.Rewrote.{Rewrote}
+use Rattle.answer.specs.Numbers.{fault_number}
 use Rattle.model.specs.Formats.{chip_for, code_long, mark_long}
 use Rattle.chip.specs.Formats.{cells, cell_on, read_at, unreadable_at, mends_at}
 
@@ -38,7 +39,7 @@ pub record PageLent (sz : Sizes) (flash codes marks : List ℕ) (n : ℕ) : Type
 
 -- what the code says of page n
 pub record CodeLooked (sz : Sizes) (flash codes : List ℕ) (n : ℕ) (r : Seen) : Type 0 where
-  pub fault-is : r.fault ≡ cond (unreadable_at sz flash codes n) 7 0
+  pub fault-is : fault_number r.fault ≡ cond (unreadable_at sz flash codes n) 7 0
   pub mends-are : r.mends ≡ mends_at sz flash codes n
 
 -- page n is torn
@@ -68,13 +69,13 @@ abbrev pub worse_of : ℕ → ℕ → ℕ
 worse_of a b = cond (eqb a 7 || eqb b 7) 7 (cond (eqb a 14 || eqb b 14) 14 0)
 
 pub record Looked (sz : Sizes) (flash codes marks : List ℕ) (n : ℕ) (r : Seen) : Type 0 where
-  pub fault-is : r.fault ≡ fault_on sz flash codes marks n
+  pub fault-is : fault_number r.fault ≡ fault_on sz flash codes marks n
   pub mends-are : r.mends ≡ mends_on sz flash codes marks n
 
 -- page di of dst is what page n is read as, or dst is as it was where that meets a refusal
 pub record ReadOut (sz : Sizes) (flash codes marks : List ℕ) (n : ℕ) (dst : List ℕ) (di : ℕ) (r : Seen) (dst' : List ℕ) : Type 0 where
   pub looked : Looked sz flash codes marks n r
-  pub data_is : dst' ≡ cond (eqb r.fault 0) (put_page sz.S dst di ((chip_for sz).page (cell_on sz flash codes marks n))) dst
+  pub data_is : dst' ≡ cond (eqb (fault_number r.fault) 0) (put_page sz.S dst di ((chip_for sz).page (cell_on sz flash codes marks n))) dst
 
 -- page n has a code by which it can be read
 pub record Legible (sz : Sizes) (flash codes : List ℕ) (n : ℕ) : Type 0 where
@@ -111,7 +112,7 @@ mend_set sz flash codes b v = mask sz.K (λ o. not (bit v o) && ltb 0 (mends_at 
 
 -- the refusal that the merge meets, its mends, and the set of the pages that want mending
 pub record BlockLooked (sz : Sizes) (flash codes marks : List ℕ) (b v : ℕ) (r : BlockSeen) : Type 0 where
-  pub fault-is : r.fault ≡ fault_met sz (fault_on sz flash codes marks) (block_reads sz b v)
+  pub fault-is : fault_number r.fault ≡ fault_met sz (fault_on sz flash codes marks) (block_reads sz b v)
   pub mends-are : r.mends ≡ mends_met sz (mends_on sz flash codes marks) (block_reads sz b v)
   pub mend-is : r.mend ≡ mend_set sz flash codes b v
 
@@ -163,21 +164,11 @@ pub record Programmed (sz : Sizes) (flash codes marks : List ℕ) (n : ℕ) (x :
   pub cells_are : cells sz flash' codes' marks' ≡ set (cells sz flash codes marks) n ((chip_for sz).cell x)
 
 -- the first so many pages of block b are programmed from the stretch: where the first operation of a rewrite is done, so are the next
-pub record PagesProgrammable (sz : Sizes) (b : ℕ) (flash codes marks stretch : List ℕ) (many : ℕ) : Type 0 where
-  pub lent : Lent sz flash codes marks
-  pub b_lt : b < sz.N
-  pub stretch-length : length stretch ≡ sz.K * sz.S
-  pub many-le : many ≤ sz.K
-
 pub record PagesProgrammed (sz : Sizes) (b : ℕ) (flash codes marks stretch : List ℕ) (many : ℕ) (flash' codes' marks' : List ℕ) : Type 0
   where
     pub cells_are : (fl : List Cell) → cells sz flash codes marks
         ≡ programmed_to (chip_for sz) (zero_page sz) 1 sz fl b (page_at sz.S stretch)
         → cells sz flash' codes' marks' ≡ programmed_to (chip_for sz) (zero_page sz) (suc many) sz fl b (page_at sz.S stretch)
-
-pub record Programmable (sz : Sizes) (b : ℕ) (flash codes marks wear stretch : List ℕ) : Type 0 where
-  pub erasable : Erasable sz b flash codes marks wear
-  pub stretch-length : length stretch ≡ sz.K * sz.S
 
 -- the first ops operations of a rewrite of block b from the stretch, so many left of them, and the wear
 pub record BlockProgrammed (sz : Sizes) (b : ℕ) (flash codes marks wear stretch : List ℕ) (ops left : ℕ)

@@ -1,15 +1,15 @@
 -- The cleaning of one block: the check beforehand; a join, the frame vacated and a rewrite.
 use mathlib.Core.Path.{◌≡◌, sym, ap, ◌∙◌}
 use mathlib.Core.Bool.{cond}
-use mathlib.Core.List.{List, []}
+use mathlib.Core.List.{List}
 use Prim.Native.Nat.{ℕ, suc, ◌≤◌, ◌<◌}
 use lib.Dec.{ltb}
-use lib.ListN.{length, get_or, set}
+use lib.ListN.{length}
 use lib.Seq.{get_or-set_same, set-set}
 use Rattle.model.specs.Sizes.{Sizes, vacant}
 use Rattle.model.specs.Directory.{Directory, valid_at, uses_at}
 use Rattle.model.specs.Soundness.{Sound}
-use Rattle.model.specs.Policy.{due, in_block, in_slots, slot_of}
+use Rattle.model.specs.Policy.{due}
 use Rattle.model.specs.Moves.{Memory, flash_page, joined, filled, joined_pages, vacated, merged, rewritten_pages, stepped, stepped_pages}
 use Rattle.model.specs.Calls.{Page, Cell, zero_page, slot_pages, merges_page}
 use Rattle.model.specs.Cut.{cut_rewrite}
@@ -18,12 +18,11 @@ use Rattle.model.proofs.Steps.{worn_by-is}
 use Rattle.model.proofs.Plan.{valid-low}
 use Rattle.moves.specs.Numbers.{offsets_of, vacated_slots}
 use Rattle.moves.specs.Spaces.{spaces, Joined}
-use Rattle.cache.specs.View.{numbers}
 use Rattle.chip.specs.declared.BlockSeen.{BlockSeen}
 use Rattle.chip.specs.declared.Rewrote.{Rewrote}
 use Rattle.model.specs.Formats.{chip_for}
 use Rattle.chip.specs.Formats.{cells}
-use Rattle.chip.specs.Chip.{block_reads, chip_memory, BlockLooked, Rewritable, Rewritten}
+use Rattle.chip.specs.Chip.{Lent, block_reads, chip_memory, BlockLooked, Rewritable, Rewritten}
 use Rattle.chip.proofs.Rewriting.{programmed-ext, rewritten-whole}
 use Rattle.clean.specs.Clean.{MergesLooked, Cleanable, BlockCleaned, memory}
 
@@ -35,10 +34,10 @@ module _ (sz : Sizes) (d : Directory) (flash codes marks : List ℕ) (b f : ℕ)
   unfolding merges_page block_reads
   merges-looked h = record { fault-is = h.fault-is; mends-are = h.mends-are; mend-is = h.mend-is }
 
-module _ (sz : Sizes) (s fs vs rs us : List ℕ) (b f : ℕ) (f_lt : f < length vs) where
-  pub joined-set : valid_at (joined sz (numbers s fs vs rs us) b f) f ≡ offsets_of sz (numbers s [] [] [] []) b (get_or vs f 0)
-  unfolding joined offsets_of in_slots slot_of
-  joined-set = get_or-set_same vs f _ 0 f_lt
+pub joined-set : (sz : Sizes) (d : Directory) (b f : ℕ) → f < length d.valid
+    → valid_at (joined sz d b f) f ≡ offsets_of sz d b (valid_at d f)
+unfolding joined offsets_of
+joined-set sz d b f l = get_or-set_same d.valid f _ 0 l
 
 -- ---- the cleaning
 
@@ -47,11 +46,11 @@ module _ {sz : Sizes} {d : Directory} {flash codes marks wear pspace bspace : Li
   pub joined-is_sound : (d₁ : Directory) → d₁ ≡ joined sz d b f → Sound sz d₁
   joined-is_sound d₁ e = let y = q.block in rw e (joined-sound sz d q.sound b f y.f_lt y.b_lt y.sole y.some)
 
-  pub rewritable : (d₁ : Directory) (bspace₁ : List ℕ) → d₁ ≡ joined sz d b f → length bspace₁ ≡ length bspace
-      → Rewritable sz (valid_at d₁ f) mend b f flash codes marks wear bspace₁
+  pub rewritable : Lent sz flash codes marks → length wear ≡ sz.N → (d₁ : Directory) (bspace₁ : List ℕ) → d₁ ≡ joined sz d b f
+      → length bspace₁ ≡ length bspace → Rewritable sz (valid_at d₁ f) mend b f flash codes marks wear bspace₁
   unfolding merges_page block_reads
-  rewritable d₁ bspace₁ e l = let s = joined-is_sound d₁ e in record {
-    erasable = q.erasable;
+  rewritable lent long d₁ bspace₁ e l = let s = joined-is_sound d₁ e in record {
+    erasable = record { lent = lent; b_lt = q.block.b_lt; wear-length = long; unworn = q.unworn };
     valid-lt = valid-low sz d₁ s f q.block.f_lt;
     f_lt = q.block.f_lt;
     bspace-length = l ∙ q.bspace-length;
@@ -105,13 +104,11 @@ module _ {sz : Sizes} {d : Directory} {flash codes marks wear pspace bspace : Li
 
 -- ---- the directory alone
 
-module _ (sz : Sizes) (d : Directory) (b f : ℕ) where
-  -- the slots of the block are vacant, and so is the frame
-  pub forgotten : (slots : List ℕ) → slots ≡ vacated_slots sz (numbers d.slots [] [] [] []) b
-      → numbers slots (set d.frames f vacant) (set d.valid f 0) d.recency (set d.uses f 0) ≡ stepped sz d (due b f)
-  unfolding stepped vacated joined vacated_slots offsets_of in_block
-  forgotten slots e =
-      let frames = sym (set-set d.frames f b vacant) in
-      let valid = sym (set-set d.valid f (offsets_of sz d b (valid_at d f)) 0) in
-      let uses = sym (set-set d.uses f (cond (ltb 0 (uses_at d f)) (uses_at d f) 1) 0) in
-      λ i. numbers (e i) (frames i) (valid i) d.recency (uses i)
+-- the slots of the block are vacant, and so is the frame
+pub forgotten : (sz : Sizes) (d : Directory) (b f : ℕ) → vacated (record d { slots = vacated_slots sz d b }) f ≡ stepped sz d (due b f)
+unfolding stepped vacated joined vacated_slots offsets_of
+forgotten sz d b f =
+    let frames = sym (set-set d.frames f b vacant) in
+    let valid = sym (set-set d.valid f (offsets_of sz d b (valid_at d f)) 0) in
+    let uses = sym (set-set d.uses f (cond (ltb 0 (uses_at d f)) (uses_at d f) 1) 0) in
+    λ i. record { slots = vacated_slots sz d b; frames = frames i; valid = valid i; recency = d.recency; uses = uses i }

@@ -1,5 +1,5 @@
 -- What the cleaning of one block asks and leaves: a flush step, and the beginning of way 7. A primed value is the one afterwards.
-use Rattle.std.specs.Prelude.{◌≡◌, List, ℕ, suc, ◌-◌, ◌*◌, ◌≤◌, length}
+use Rattle.std.specs.Prelude.{◌≡◌, List, ℕ, suc, ◌-◌, ◌*◌, ◌≤◌, ◌<◌, length, get_or}
 use Rattle.model.specs.Sizes.{Sizes}
 use Rattle.model.specs.Directory.{Directory, valid_at}
 use Rattle.model.specs.Soundness.{Sound}
@@ -8,26 +8,21 @@ use Rattle.model.specs.Moves.{Memory, joined, stepped, stepped_pages}
 use Rattle.model.specs.Calls.{Page, Cell, zero_page, slot_pages, frame_pages, merges_page, fault_met, mends_met}
 use Rattle.model.specs.Cut.{cut_rewrite}
 use Rattle.model.proofs.Steps as steps
+use Rattle.answer.specs.Numbers.{fault_number}
 use Rattle.chip.specs.declared.BlockSeen.{BlockSeen}
 use Rattle.chip.specs.declared.Rewrote.{Rewrote}
 use Rattle.model.specs.Formats.{chip_for}
 use Rattle.chip.specs.Formats.{cells}
-use Rattle.chip.specs.Chip.{Lent, Erasable, fault_on, mends_on, mend_set}
+use Rattle.chip.specs.Chip.{fault_on, mends_on, mend_set}
 
 -- a block that may be rewritten through frame f
-pub record Lookable (sz : Sizes) (d : Directory) (flash codes marks : List ℕ) (b f : ℕ) : Type 0 where
-  pub sound : Sound sz d
-  pub lent : Lent sz flash codes marks
-  pub block : steps.Ready sz d b f
-
--- the same, of which the directory alone is asked
-pub record Forgettable (sz : Sizes) (d : Directory) (b f : ℕ) : Type 0 where
+pub record Lookable (sz : Sizes) (d : Directory) (b f : ℕ) : Type 0 where
   pub sound : Sound sz d
   pub block : steps.Ready sz d b f
 
 -- the refusal that its merge reads meet, their mends, and the pages that want mending
 pub record MergesLooked (sz : Sizes) (d : Directory) (flash codes marks : List ℕ) (b f : ℕ) (r : BlockSeen) : Type 0 where
-  pub fault-is : r.fault ≡ fault_met sz (fault_on sz flash codes marks) (merges_page sz d b f)
+  pub fault-is : fault_number r.fault ≡ fault_met sz (fault_on sz flash codes marks) (merges_page sz d b f)
   pub mends-are : r.mends ≡ mends_met sz (mends_on sz flash codes marks) (merges_page sz d b f)
   pub mend-is : r.mend ≡ mend_set sz flash codes b (valid_at (joined sz d b f) f)
 
@@ -35,7 +30,7 @@ pub record MergesLooked (sz : Sizes) (d : Directory) (flash codes marks : List �
 pub record Cleanable (sz : Sizes) (d : Directory) (flash codes marks wear pspace bspace : List ℕ) (b f mend : ℕ) : Type 0 where
   pub sound : Sound sz d
   pub block : steps.Ready sz d b f
-  pub erasable : Erasable sz b flash codes marks wear
+  pub unworn : get_or wear b 0 < sz.W
   pub pspace-length : length pspace ≡ sz.P * sz.S
   pub bspace-length : length bspace ≡ sz.B * sz.K * sz.S
   pub faultless : fault_met sz (fault_on sz flash codes marks) (merges_page sz d b f) ≡ 0

@@ -1,28 +1,29 @@
 -- A page read from a slot, from a frame and from flash.
 use mathlib.Core.Path.{◌≡◌, refl, sym, ap, ◌∙◌}
 use mathlib.Core.Bool.{true, false, cond}
-use mathlib.Core.List.{List, [], append-nil}
-use Prim.Native.Nat.{ℕ, ◌+◌, ◌*◌, ◌%◌, ◌≤◌, ◌<◌}
+use mathlib.Core.List.{List, append-nil}
+use Prim.Native.Nat.{ℕ, ◌+◌, ◌*◌, ◌%◌, ◌<◌}
 use native.Mathlib.Nat.{zero-mul, zero-add}
 use native.Mathlib.Omega.{arith}
 use lib.Arith.{digits_lt}
 use lib.Dec.{ltb, eqb}
 use lib.ListN.{length, get_or}
 use lib.Seq.{drop-length}
-use borrow.Author.Tests.{ltb-true, lt-ltb, le-ltb, eq-eqb, ne_eqb}
+use borrow.Author.Tests.{ltb-true, lt-ltb, le-ltb, eqb-true, eq-eqb, ne_eqb}
 use Rattle.prelude.specs.Pages.{page_at, put_page, pages_of}
 use Rattle.prelude.proofs.Tests.{by-test}
 use Rattle.prelude.proofs.Pages.{in_run, page-at}
 use Rattle.page.specs.Page.{HasPage}
-use Rattle.model.specs.Sizes.{Sizes}
-use Rattle.model.specs.Directory.{Directory, inFrame}
+use Rattle.std.specs.Prelude.{Option, None, Some}
+use Rattle.model.specs.Sizes.{Sizes, InLimits}
+use Rattle.model.specs.Directory.{Directory}
 use Rattle.model.specs.Policy.{slot_of, in_slots, frame_with, read_way}
 use Rattle.model.specs.Moves.{read_page, flash_page, read_directory, touched}
 use Rattle.model.specs.Calls.{zero_page, reads_page}
 use Rattle.model.proofs.Lookup.{offset_lt}
-use Rattle.cache.specs.View.{numbers}
-use Rattle.reads.specs.declared.Given.{Given}
-use Rattle.reads.specs.Reads.{Readable, Peeked, ReadOut, fault_read, mends_read}
+use Rattle.reads.specs.Reads.{Readable, Peeked, fault_read, mends_read}
+use Rattle.answer.specs.Numbers.{fault_number}
+use Rattle.answer.specs.declared.way.ReadWay.TheVariants as ways
 use Rattle.chip.specs.declared.Seen.{Seen}
 use Rattle.chip.specs.Chip as chips
 use Rattle.chip.specs.Chip.{fault_on, mends_on}
@@ -40,10 +41,10 @@ module _ (sz : Sizes) (d : Directory) (flash codes marks : List ℕ) (n : ℕ) w
   unfolding reads_page
   not-read w i = rw w (by-test (eqb i n) (λ e. rw e) (λ e. rw e))
 
-  no-fault_read : eqb (read_way sz d n) 3 ≡ false → fault_read sz d flash codes marks n ≡ 0
+  pub no-fault_read : eqb (read_way sz d n) 3 ≡ false → fault_read sz d flash codes marks n ≡ 0
   no-fault_read w = fault-none sz flash codes marks (reads_page sz d n) (not-read w)
 
-  no-mends_read : eqb (read_way sz d n) 3 ≡ false → mends_read sz d flash codes marks n ≡ 0
+  pub no-mends_read : eqb (read_way sz d n) 3 ≡ false → mends_read sz d flash codes marks n ≡ 0
   no-mends_read w = mends-none sz flash codes marks (reads_page sz d n) (not-read w)
 
   module _ (w : eqb (read_way sz d n) 3 ≡ true) (l : n < sz.N * sz.K) where
@@ -55,19 +56,17 @@ module _ (sz : Sizes) (d : Directory) (flash codes marks : List ℕ) (n : ℕ) w
     unfolding reads_page
     other-read i e = rw (ne_eqb i n e)
 
-    one-fault : fault_read sz d flash codes marks n ≡ fault_on sz flash codes marks n
+    pub one-fault : fault_read sz d flash codes marks n ≡ fault_on sz flash codes marks n
     one-fault = fault-one sz flash codes marks (reads_page sz d n) n l is_read_lem other-read
 
-    one-mends : mends_read sz d flash codes marks n ≡ mends_on sz flash codes marks n
+    pub one-mends : mends_read sz d flash codes marks n ≡ mends_on sz flash codes marks n
     one-mends = mends-one sz flash codes marks (reads_page sz d n) n l is_read_lem other-read
 
-module _ (sz : Sizes) (flash codes marks pspace bspace : List ℕ) (n : ℕ) (page : List ℕ)
-    (q : Readable sz flash codes marks pspace bspace n page) where
-  pub has-slot : (i : ℕ) → i < sz.P → HasPage sz.S pspace i
-  has-slot i l = in_run sz.S sz.P pspace q.pspace-length l
+-- ---- what is copied lies in the buffers
 
-  pub frame-page_lt : (f : ℕ) → f < sz.B → f * sz.K + n % sz.K < sz.B * sz.K
-  frame-page_lt f l = digits_lt l (offset_lt sz q.lent.codes-lent.limits n)
+module _ (sz : Sizes) (pspace bspace : List ℕ) (n : ℕ) (page : List ℕ) (limits : InLimits sz) (q : Readable sz pspace bspace n page) where
+  frame-page_lt : (f : ℕ) → f < sz.B → f * sz.K + n % sz.K < sz.B * sz.K
+  frame-page_lt f l = digits_lt l (offset_lt sz limits n)
 
   pub has-frame_page : (f : ℕ) → f < sz.B → HasPage sz.S bspace (f * sz.K + n % sz.K)
   has-frame_page f l = in_run sz.S (sz.B * sz.K) bspace q.bspace-length (frame-page_lt f l)
@@ -75,65 +74,76 @@ module _ (sz : Sizes) (flash codes marks pspace bspace : List ℕ) (n : ℕ) (pa
   pub has-buffer : HasPage sz.S page 0
   has-buffer = let e = q.page-length in rw (zero-mul sz.S) (omega arith)
 
-  -- by what the searches found and what was copied
-  pub from-slot : (d : Directory) (i : ℕ) (page' : List ℕ) → i ≡ slot_of sz d n → i < sz.P
-      → page' ≡ put_page sz.S page 0 (page_at sz.S pspace i)
-      → Peeked sz d flash codes marks pspace bspace n page (record { way = 1; frame = 0; fault = 0; mends = 0 }) page'
-  unfolding read_page in_slots read_way
-  from-slot d i page' ei l ep =
-      let e : ltb (slot_of sz d n) sz.P ≡ true = lt-ltb (slot_of sz d n) sz.P (rw (sym ei) l) in
-      let w : eqb (read_way sz d n) 3 ≡ false = rw (e, read_way) in
-      record {
-        way-is = rw (e, read_way);
-        frame_is = λ t. absurd (let k : read_way sz d n ≡ 1 = rw (e, read_way) in omega arith);
-        fault-is = sym (no-fault_read sz d flash codes marks n w);
-        mends-are = sym (no-mends_read sz d flash codes marks n w);
-        page-is = rw (e, read_page) (ep ∙ put_whole sz.S page _ q.page-length ∙ sym (page-at sz.S sz.P pspace (zero_page sz) i l)
-            ∙ ap (λ (x : ℕ). get_or (pages_of sz.S sz.P pspace) x (zero_page sz)) ei);
-      }
+  -- ---- by what the searches found and what was copied
 
-  pub from-frame : (d : Directory) (i f o : ℕ) (page' : List ℕ) → i ≡ slot_of sz d n → sz.P ≤ i → f ≡ frame_with sz d n → f < sz.B
-      → o ≡ n % sz.K
-      → page' ≡ put_page sz.S page 0 (page_at sz.S bspace (f * sz.K + o))
-      → Peeked sz d flash codes marks pspace bspace n page (record { way = 2; frame = f; fault = 0; mends = 0 }) page'
-  unfolding read_page in_slots read_way
-  from-frame d i f o page' ei m ef l eo ep =
-      let e : ltb (slot_of sz d n) sz.P ≡ false = le-ltb (slot_of sz d n) sz.P (rw (sym ei) m) in
-      let g : ltb (frame_with sz d n) sz.B ≡ true = lt-ltb (frame_with sz d n) sz.B (rw (sym ef) l) in
-      let w : eqb (read_way sz d n) 3 ≡ false = rw (e, read_way) (rw g) in
-      record {
-        way-is = rw (e, read_way) (rw g);
-        frame_is = λ t. ef;
-        fault-is = sym (no-fault_read sz d flash codes marks n w);
-        mends-are = sym (no-mends_read sz d flash codes marks n w);
-        page-is = rw (e, read_page) (rw g (ep ∙ put_whole sz.S page _ q.page-length
-            ∙ ap (λ (x : ℕ). page_at sz.S bspace (f * sz.K + x)) eo
-            ∙ sym (page-at sz.S (sz.B * sz.K) bspace (zero_page sz) _ (frame-page_lt f l))
-            ∙ ap (λ (x : ℕ). get_or (pages_of sz.S (sz.B * sz.K) bspace) (x * sz.K + n % sz.K) (zero_page sz)) ef));
-      }
+  module _ (flash codes marks : List ℕ) (d : Directory) where
+    pub from-slot : (i : ℕ) (page' : List ℕ) → i ≡ slot_of sz d n → i < sz.P
+        → page' ≡ put_page sz.S page 0 (page_at sz.S pspace i) → Peeked sz d flash codes marks pspace bspace n page
+        (record { answered = record { way = ways.Slot; fault = None; mends = 0 }; frame = None }) page'
+    unfolding read_page in_slots read_way
+    from-slot i page' ei l ep =
+        let e : ltb (slot_of sz d n) sz.P ≡ true = lt-ltb (slot_of sz d n) sz.P (rw (sym ei) l) in
+        let way : read_way sz d n ≡ 1 = rw (e, read_way) in
+        let w : eqb (read_way sz d n) 3 ≡ false = rw way in
+        record {
+          frame_is = rw way;
+          gave = record {
+            way-is = sym way;
+            fault-is = sym (no-fault_read sz d flash codes marks n w);
+            mends-are = sym (no-mends_read sz d flash codes marks n w);
+            page-is = rw (e, read_page) (ep ∙ put_whole sz.S page _ q.page-length ∙ sym (page-at sz.S sz.P pspace (zero_page sz) i l)
+                ∙ ap (λ (x : ℕ). get_or (pages_of sz.S sz.P pspace) x (zero_page sz)) ei);
+          };
+        }
 
-  pub from-flash : (d : Directory) (i f : ℕ) (seen : Seen) (page' : List ℕ) → i ≡ slot_of sz d n → sz.P ≤ i → f ≡ frame_with sz d n
-      → sz.B ≤ f
-      → chips.ReadOut sz flash codes marks n page 0 seen page' → Peeked sz d flash codes marks pspace bspace n page
-      (record { way = 3; frame = 0; fault = seen.fault; mends = seen.mends }) page'
-  unfolding read_page in_slots flash_page read_way
-  from-flash d i f seen page' ei m ef k h =
-      let e : ltb (slot_of sz d n) sz.P ≡ false = le-ltb (slot_of sz d n) sz.P (rw (sym ei) m) in
-      let g : ltb (frame_with sz d n) sz.B ≡ false = le-ltb (frame_with sz d n) sz.B (rw (sym ef) k) in
-      let w : eqb (read_way sz d n) 3 ≡ true = rw (e, read_way) (rw g) in
-      record {
-        way-is = rw (e, read_way) (rw g);
-        frame_is = λ t. absurd (let k : read_way sz d n ≡ 3 = rw (e, read_way) (rw g) in omega arith);
-        fault-is = h.looked.fault-is ∙ sym (one-fault sz d flash codes marks n w q.page-lt);
-        mends-are = h.looked.mends-are ∙ sym (one-mends sz d flash codes marks n w q.page-lt);
-        page-is = rw (e, read_page) (rw g (h.data_is ∙ ap (λ (x : List ℕ). cond (eqb seen.fault 0) x page)
-            (put_whole sz.S page _ q.page-length)));
-      }
+    module _ (missed : sz.P ≡ slot_of sz d n) where
+      pub from-frame : (f o : ℕ) (page' : List ℕ) → f ≡ frame_with sz d n → f < sz.B → o ≡ n % sz.K
+          → page' ≡ put_page sz.S page 0 (page_at sz.S bspace (f * sz.K + o)) → Peeked sz d flash codes marks pspace bspace n page
+          (record { answered = record { way = ways.Frame; fault = None; mends = 0 }; frame = Some f }) page'
+      unfolding read_page in_slots read_way
+      from-frame f o page' ef l eo ep =
+          let e : ltb (slot_of sz d n) sz.P ≡ false = le-ltb (slot_of sz d n) sz.P (omega arith) in
+          let g : ltb (frame_with sz d n) sz.B ≡ true = lt-ltb (frame_with sz d n) sz.B (rw (sym ef) l) in
+          let way : read_way sz d n ≡ 2 = rw (e, read_way) (rw g) in
+          let w : eqb (read_way sz d n) 3 ≡ false = rw way in
+          record {
+            frame_is = rw way (ap Some ef);
+            gave = record {
+              way-is = sym way;
+              fault-is = sym (no-fault_read sz d flash codes marks n w);
+              mends-are = sym (no-mends_read sz d flash codes marks n w);
+              page-is = rw (e, read_page) (rw g (ep ∙ put_whole sz.S page _ q.page-length
+                  ∙ ap (λ (x : ℕ). page_at sz.S bspace (f * sz.K + x)) eo
+                  ∙ sym (page-at sz.S (sz.B * sz.K) bspace (zero_page sz) _ (frame-page_lt f l))
+                  ∙ ap (λ (x : ℕ). get_or (pages_of sz.S (sz.B * sz.K) bspace) (x * sz.K + n % sz.K) (zero_page sz)) ef));
+            };
+          }
 
--- ---- the directory by the way
+      pub from-flash : (seen : Seen) (page' : List ℕ) → sz.B ≡ frame_with sz d n
+          → chips.ReadOut sz flash codes marks n page 0 seen page' → Peeked sz d flash codes marks pspace bspace n page
+          (record { answered = record { way = ways.Flash; fault = seen.fault; mends = seen.mends }; frame = None }) page'
+      unfolding read_page in_slots flash_page read_way
+      from-flash seen page' ef h =
+          let e : ltb (slot_of sz d n) sz.P ≡ false = le-ltb (slot_of sz d n) sz.P (omega arith) in
+          let g : ltb (frame_with sz d n) sz.B ≡ false = le-ltb (frame_with sz d n) sz.B (omega arith) in
+          let way : read_way sz d n ≡ 3 = rw (e, read_way) (rw g) in
+          let w : eqb (read_way sz d n) 3 ≡ true = rw way in
+          record {
+            frame_is = rw way;
+            gave = record {
+              way-is = sym way;
+              fault-is = h.looked.fault-is ∙ sym (one-fault sz d flash codes marks n w q.page-lt);
+              mends-are = h.looked.mends-are ∙ sym (one-mends sz d flash codes marks n w q.page-lt);
+              page-is = rw (e, read_page) (rw g (h.data_is ∙ ap (λ (x : List ℕ). cond (eqb (fault_number seen.fault) 0) x page)
+                  (put_whole sz.S page _ q.page-length)));
+            };
+          }
 
-module _ (sz : Sizes) (d : Directory) (n : ℕ) where
-  pub frame_below : read_way sz d n ≡ 2 → frame_with sz d n < sz.B
+-- ---- the directory by the frame
+
+module _ (sz : Sizes) (d : Directory) (n : ℕ) (frame : Option ℕ)
+    (is : frame ≡ cond (eqb (read_way sz d n) 2) (Some (frame_with sz d n)) None) where
+  frame_below : read_way sz d n ≡ 2 → frame_with sz d n < sz.B
   unfolding read_way
   frame_below t = by-test (in_slots sz d n)
       (λ e. absurd (let k : read_way sz d n ≡ 1 = rw (e, read_way) in omega arith))
@@ -141,29 +151,13 @@ module _ (sz : Sizes) (d : Directory) (n : ℕ) where
       (λ g. absurd (let k : read_way sz d n ≡ 3 = rw (e, read_way) (rw g) in omega arith)))
 
   -- by way 2 the frame is used, by the others nothing is
-  pub used-by_2 : read_way sz d n ≡ 2 → touched sz false d (frame_with sz d n) ≡ read_directory sz d n
+  pub used-frame : (f : ℕ) → frame ≡ Some f → (f < sz.B) × (touched sz false d f ≡ read_directory sz d n)
   unfolding read_directory
-  used-by_2 t = rw (eq-eqb (read_way sz d n) 2 t, read_directory)
+  used-frame f e = by-test (eqb (read_way sz d n) 2)
+      (λ t. let k : f ≡ frame_with sz d n = (let i = rw t at is in cc) in
+      (rw k (frame_below (eqb-true _ 2 t)), rw k (rw (t, read_directory))))
+      (λ t. absurd (let i = rw t at is in cc))
 
-  pub unused_else : (read_way sz d n ≡ 2 → ⊥) → d ≡ read_directory sz d n
+  pub unused : frame ≡ None → d ≡ read_directory sz d n
   unfolding read_directory
-  unused_else t = rw (ne_eqb (read_way sz d n) 2 t, read_directory)
-
-  pub read_out : {flash codes marks pspace bspace page page' : List ℕ} (r : Given) (d' : Directory)
-      → Peeked sz d flash codes marks pspace bspace n page r page'
-      → d' ≡ read_directory sz d n → ReadOut sz d flash codes marks pspace bspace n page
-      (record { way = r.way; fault = r.fault; mends = r.mends }) d' page'
-  read_out r d' k a = record {
-    directory-is = a;
-    way-is = k.way-is;
-    fault-is = k.fault-is;
-    mends-are = k.mends-are;
-    page-is = k.page-is;
-  }
-
--- a read that counts as no use looks at no order of use
-pub peeked_any : {sz : Sizes} {s f v flash codes marks pspace bspace page page' : List ℕ} {n : ℕ} {found : Given} (r u : List ℕ)
-    → Peeked sz (numbers s f v [] []) flash codes marks pspace bspace n page found page'
-    → Peeked sz (numbers s f v r u) flash codes marks pspace bspace n page found page'
-unfolding in_slots slot_of frame_with inFrame read_page reads_page read_way
-peeked_any r u k = record { way-is = k.way-is; frame_is = k.frame_is; fault-is = k.fault-is; mends-are = k.mends-are; page-is = k.page-is }
+  unused e = by-test (eqb (read_way sz d n) 2) (λ t. absurd (let i = rw t at is in cc)) (λ t. rw (t, read_directory))

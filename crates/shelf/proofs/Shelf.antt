@@ -1,25 +1,26 @@
--- Entries by the code's tests, and what moving down and putting make of a list.
+-- Entries by the code's tests, and what putting makes of a list.
 use mathlib.Core.Path.{◌≡◌, refl, sym, ap, ◌∙◌}
 use mathlib.Core.Bool.{Bool, cond, ◌&&◌, and-true}
-use mathlib.Core.List.{List, []}
-use Prim.Native.Nat.{ℕ, suc, ◌+◌, ◌-◌, ◌*◌, ◌≤◌, ◌<◌}
+use mathlib.Core.List.{List, [], ◌++◌}
+use Prim.Native.Nat.{ℕ, suc, ◌-◌, ◌*◌, ◌≤◌, ◌<◌}
 use native.Mathlib.Omega.{arith}
-use native.Mathlib.Nat.{mul-le-mul, zero-mul}
+use native.Mathlib.Nat.{zero-mul, suc-mul}
 use lib.Dec.{leb, ltb, eqb}
-use lib.ListN.{length, get_or, set, length-set}
-use lib.Seq.{get_or-set_same, get_or-set_other, ext_get_or}
-use borrow.Author.Tests.{eqb-true, eqb-false, eq-eqb, ne_eqb, lt-ltb, le-ltb}
+use lib.ListN.{length, get_or, set, take, drop, length-set, length-append, length-take, length-drop}
+use lib.Seq.{get_or-set_same, get_or-set_other, ext_get_or, drop-append-le, take-append-le, drop-drop}
+use borrow.Author.Tests.{eqb-true, eqb-false, eq-eqb, ne_eqb, lt-ltb, le-ltb, ltb-true, ltb-false}
 use Rattle.prelude.specs.Tests.{every}
 use Rattle.prelude.specs.Scan.{all}
 use Rattle.prelude.specs.Pages.{page_at, put_page, pages_of}
-use Rattle.prelude.proofs.Pages.{length-page_at, in_run, page-put_same, pages-put, page-at, pages-length}
+use Rattle.prelude.proofs.Pages.{length-page_at, ends-before, in_run, pages-put, page-at, pages-length}
 use Rattle.prelude.proofs.Tests.{by-test}
 use Rattle.prelude.proofs.Scan.{all_same}
 use Rattle.prelude.proofs.Tab.{length-tab, get_d_tab}
 use Rattle.model.specs.Sizes.{Sizes, vacant}
+use Rattle.model.specs.Calls.{Page}
 use Rattle.model.specs.Shelf.{shelved, shelve, shelf_ok}
 use Rattle.model.proofs.Demand3.{get_d_any}
-use Rattle.shelf.specs.Shelf.{moved_down, Room, Shelved}
+use Rattle.shelf.specs.Shelf.{Room, Shelved}
 
 -- the test of the entries, as the code makes it
 pub entries-test : (sz : Sizes) (h : ℕ) (es : List ℕ) → length es ≡ 8
@@ -30,58 +31,45 @@ entries-test sz h es e = rw (eq-eqb _ 8 e) (ap (λ (b : Bool). leb (shelved es) 
     ap (λ (x : ℕ). cond (ltb i (shelved es)) (ltb x (sz.N * sz.K)) (eqb x vacant)) (get_d_any es i 0 vacant (omega arith)))
     ∙ sym (and-true _)))
 
--- two numbers of 32 bits have a product of 64
-pub product_small : (a b : ℕ) → a < 4294967296 → b < 4294967296 → a * b < 18446744073709551616
-product_small a b p q = let r : a ≤ 4294967295 = omega arith in let s : b ≤ 4294967295 = omega arith in
-    let l : a * b ≤ 4294967295 * 4294967295 = mul-le-mul r s in omega arith
+-- x joins k items: there is room
+pub room-put : {X : Type 0} (none : X) (h k : ℕ) (l : List X) (x : X) → k < h → set l k x ≡ shelve none h k l x
+unfolding shelve
+room-put none h k l x q = rw (lt-ltb k h q)
 
-module _ {X : Type 0} (none : X) (h : ℕ) where
-  pub down-length : (l : List X) → length (moved_down none h l) ≡ length l
-  unfolding moved_down
-  down-length l = length-tab (length l) _
+-- all are in use: l' is l with the first h but one gone down by one, and x is the last
+pub full_put : {X : Type 0} (none : X) (h k : ℕ) (l l' : List X) (x : X) → h ≤ k → 0 < h → h ≤ length l → length l' ≡ length l
+    → ((i : ℕ) → suc i < h → get_or l' i none ≡ get_or l (suc i) none)
+    → ((i : ℕ) → h ≤ i → i < length l → get_or l' i none ≡ get_or l i none) → set l' (h - 1) x ≡ shelve none h k l x
+unfolding shelve
+full_put none h k l l' x q p f e down rest = rw (le-ltb k h q) (ext_get_or none _ _ (simp (length-set, length-tab) e)
+    (λ i b. let il : i < length l = omega (arith, length-set l' (h - 1) x) in by-test (eqb i (h - 1))
+    (λ t. let s : suc (h - 1) ≡ h = omega arith in
+    rw (eqb-true i (h - 1) t) (get_or-set_same l' (h - 1) x none (omega arith)
+    ∙ sym (get_d_tab (length l) _ none (h - 1) (omega arith) ∙ rw (s, le-ltb h h (omega arith), eq-eqb h h refl))))
+    (λ t. let ne = eqb-false i (h - 1) t in get_or-set_other l' (h - 1) i x none ne ∙ by-test (ltb (suc i) h)
+    (λ w. down i (ltb-true (suc i) h w) ∙ sym (get_d_tab (length l) _ none i il ∙ rw w))
+    (λ w. let a = ltb-false (suc i) h w in rest i (omega arith) il
+    ∙ sym (get_d_tab (length l) _ none i il ∙ rw (w, ne_eqb (suc i) h (λ (y : suc i ≡ h). ne (omega arith))))))))
 
-  pub down-at : (l : List X) (i : ℕ) → i < length l
-      → get_or (moved_down none h l) i none ≡ cond (ltb (suc i) h) (get_or l (suc i) none) (get_or l i none)
-  unfolding moved_down
-  down-at l i q = get_d_tab (length l) _ none i q
-
-  -- there is room
-  pub room-put : (k : ℕ) (l : List X) (x : X) → k < h → set l k x ≡ shelve none h k l x
-  unfolding shelve
-  room-put k l x q = rw (lt-ltb k h q)
-
-  -- all are in use: they moved down, and x is the last
-  pub full_put : (k : ℕ) (l : List X) (x : X) → h ≤ k → 0 < h → h ≤ length l → set (moved_down none h l) (h - 1) x ≡ shelve none h k l x
-  unfolding shelve
-  full_put k l x q p f = rw (le-ltb k h q) (ext_get_or none _ _ (length-set (moved_down none h l) (h - 1) x ∙ down-length l ∙ sym
-      (length-tab (length l) _))
-      (λ i b. let il : i < length l = (let e = length-set (moved_down none h l) (h - 1) x in let g = down-length l in omega arith) in
-      by-test (eqb i (h - 1))
-      (λ t. let e = eqb-true i (h - 1) t in let s : suc (h - 1) ≡ h = omega arith in
-      rw e (get_or-set_same (moved_down none h l) (h - 1) x none (rw down-length (omega arith))
-      ∙ sym (get_d_tab (length l) _ none (h - 1) (omega arith) ∙ rw (s, le-ltb h h (omega arith), eq-eqb h h refl))))
-      (λ t. let ne = eqb-false i (h - 1) t in
-      get_or-set_other (moved_down none h l) (h - 1) i x none ne ∙ down-at l i il
-      ∙ sym (get_d_tab (length l) _ none i il ∙ rw (ne_eqb (suc i) h (λ (s : suc i ≡ h). ne (omega arith)))))))
-
--- a page copied by way of another buffer
-pub by-spare : (s h : ℕ) (shelf spare spare' shelf' : List ℕ) (i : ℕ) → length shelf ≡ h * s → length spare ≡ 2048 → s ≤ 2048 → suc i < h
-    → spare' ≡ put_page s spare 0 (page_at s shelf (i + 1)) → shelf' ≡ put_page s shelf i (page_at s spare' 0)
-    → pages_of s h shelf' ≡ set (pages_of s h shelf) i (get_or (pages_of s h shelf) (i + 1) [])
-by-spare s h shelf spare spare' shelf' i e f q l g k =
-    let whole : length (page_at s shelf (i + 1)) ≡ s = length-page_at s shelf (i + 1) (in_run s h shelf e (omega arith)) in
-    let same : page_at s spare' 0 ≡ page_at s shelf (i + 1) = ap (λ (x : List ℕ). page_at s x 0) g
-    ∙ page-put_same s spare 0 (page_at s shelf (i + 1)) (omega (arith, zero-mul s)) whole in
-    ap (pages_of s h) k ∙ pages-put s h shelf i (page_at s spare' 0) (omega arith) e (ap length same ∙ whole)
-    ∙ ap (set (pages_of s h shelf) i) (same ∙ sym (page-at s h shelf [] (i + 1) (omega arith)))
+-- a shelf turned by one page: each page but the last is the next one
+pub turned-page : (s h : ℕ) (l : List ℕ) (i : ℕ) → length l ≡ h * s → suc i < h → page_at s (drop s l ++ take s l) i ≡ page_at s l (suc i)
+unfolding page_at
+turned-page s h l i e q =
+    let a = ends-before s q in let b = suc-mul i s in
+    let long : length (drop s l) ≡ length l - s = length-drop s l in
+    let rest : length (drop (i * s) (drop s l)) ≡ length l - s - i * s = length-drop (i * s) (drop s l) ∙ rw long in
+    rw (
+      drop-append-le (i * s) (drop s l) (take s l) (omega arith),
+      take-append-le s (drop (i * s) (drop s l)) (take s l) (omega arith),
+      drop-drop (i * s) s l,
+    ) (ap (λ (m : ℕ). take s (drop m l)) (omega arith))
 
 -- ---- a page joins the shelf
 
 module _ (sz : Sizes) (es shelf : List ℕ) (n : ℕ) (earlier : List ℕ) (room : Room sz es shelf earlier) where
   -- the page shelved is whole
   earlier-whole : length (page_at sz.S earlier 0) ≡ sz.S
-  earlier-whole = length-page_at sz.S earlier 0 (let z = zero-mul sz.S in let e = room.earlier-length in
-      let q = room.limits.S_high in omega arith)
+  earlier-whole = length-page_at sz.S earlier 0 (let z = zero-mul sz.S in let q = room.limits.S_high in let long = room.earlier-length in omega arith)
 
   pub put-room : (k : ℕ) (es' shelf' : List ℕ) → k ≡ shelved es → k < sz.shelf_pages → es' ≡ set es k n
       → shelf' ≡ put_page sz.S shelf k (page_at sz.S earlier 0) → Shelved sz es shelf n earlier es' shelf'
@@ -92,18 +80,23 @@ module _ (sz : Sizes) (es shelf : List ℕ) (n : ℕ) (earlier : List ℕ) (room
         ∙ rw (sym e) (room-put [] sz.shelf_pages k (pages_of sz.S sz.shelf_pages shelf) (page_at sz.S earlier 0) l);
   }
 
-  pub put_full : (k : ℕ) (down moved es' shelf' : List ℕ) → k ≡ shelved es → sz.shelf_pages ≤ k → down ≡ moved_down vacant sz.shelf_pages es
-      → pages_of sz.S sz.shelf_pages moved ≡ moved_down [] sz.shelf_pages (pages_of sz.S sz.shelf_pages shelf)
-      → length moved ≡ length shelf → es' ≡ set down (sz.shelf_pages - 1) n
-      → shelf' ≡ put_page sz.S moved (sz.shelf_pages - 1) (page_at sz.S earlier 0) → Shelved sz es shelf n earlier es' shelf'
-  put_full k down moved es' shelf' e l d m q f g = let p = room.some in let h = room.limits.shelf-high in let b = room.entries-length in
+  pub put_full : (k : ℕ) (down turned es' shelf' : List ℕ) → k ≡ shelved es → sz.shelf_pages ≤ k → length es ≡ 8 → length down ≡ length es
+      → ((i : ℕ) → suc i < sz.shelf_pages → get_or down i vacant ≡ get_or es (suc i) vacant)
+      → ((i : ℕ) → sz.shelf_pages ≤ i → get_or down i vacant ≡ get_or es i vacant)
+      → turned ≡ drop sz.S shelf ++ take sz.S shelf → es' ≡ set down (sz.shelf_pages - 1) n
+      → shelf' ≡ put_page sz.S turned (sz.shelf_pages - 1) (page_at sz.S earlier 0) → Shelved sz es shelf n earlier es' shelf'
+  put_full k down turned es' shelf' e l eight same lower rest t f g =
+      let p = room.some in let high = room.limits.shelf-high in let h : ℕ = sz.shelf_pages in
+      let pages : List ℕ → List Page = pages_of sz.S h in
+      let whole : length turned ≡ length shelf = ap length t ∙ simp (length-append, length-drop, length-take)
+      (let m = in_run sz.S h shelf room.shelf-length p in omega (arith, zero-mul sz.S)) in
+      let many = pages-length sz.S h shelf in let many' = pages-length sz.S h turned in
       record {
-        entries-are = f ∙ ap (λ (x : List ℕ). set x (sz.shelf_pages - 1) n) d
-            ∙ rw (sym e) (full_put vacant sz.shelf_pages k es n l p (omega arith));
-        pages-are = ap (pages_of sz.S sz.shelf_pages) g
-            ∙ pages-put sz.S sz.shelf_pages moved (sz.shelf_pages - 1) (page_at sz.S earlier 0) (omega arith) (q ∙ room.shelf-length)
-            earlier-whole
-            ∙ ap (λ (x : List (List ℕ)). set x (sz.shelf_pages - 1) (page_at sz.S earlier 0)) m
-            ∙ rw (sym e) (full_put [] sz.shelf_pages k (pages_of sz.S sz.shelf_pages shelf) (page_at sz.S earlier 0) l p
-            (let r = pages-length sz.S sz.shelf_pages shelf in omega arith));
+        entries-are = f ∙ rw (sym e) (full_put vacant h k es down n l p (omega arith) same lower (λ i a b. rest i a));
+        pages-are = ap pages g
+            ∙ pages-put sz.S h turned (h - 1) (page_at sz.S earlier 0) (omega arith) (whole ∙ room.shelf-length) earlier-whole
+            ∙ rw (sym e) (full_put [] h k (pages shelf) (pages turned) (page_at sz.S earlier 0) l p (omega arith) (omega arith)
+            (λ i a. page-at sz.S h turned [] i (omega arith) ∙ ap (λ (x : List ℕ). page_at sz.S x i) t
+            ∙ turned-page sz.S h shelf i room.shelf-length a ∙ sym (page-at sz.S h shelf [] (suc i) a))
+            (λ i a b. absurd (omega arith)));
       }

@@ -1,6 +1,5 @@
 -- What a write puts on the shelf asks and leaves.
-use Rattle.std.specs.Prelude.{◌≡◌, Bool, cond, List, [], ℕ, suc, ◌*◌, ◌≤◌, ◌<◌, ltb, length, get_or}
-use Rattle.prelude.specs.Scan.{tab}
+use Rattle.std.specs.Prelude.{◌≡◌, Bool, cond, List, [], ℕ, ◌*◌, ◌≤◌, ◌<◌, length}
 use Rattle.prelude.specs.Pages.{page_at, pages_of}
 use Rattle.model.specs.Sizes.{Sizes, vacant, InLimits}
 use Rattle.model.specs.Calls.{Page}
@@ -10,15 +9,10 @@ use Rattle.model.specs.Shelf.{shelved, shelve}
 abbrev pub shelf_pages : ℕ → ℕ → List ℕ → List Page
 shelf_pages s h shelf = pages_of s h shelf
 
--- the first h items but the first each go down by one; the last of them stands twice then
-unfoldable pub moved_down : {X : Type 0} → X → ℕ → List X → List X
-moved_down none h l = tab (length l) (λ i. cond (ltb (suc i) h) (get_or l (suc i) none) (get_or l i none))
-
 -- there is a shelf page, shelf and page have their lengths, and no more entries are in use than there are shelf pages
 pub record Room (sz : Sizes) (es shelf earlier : List ℕ) : Type 0 where
   pub limits : InLimits sz
   pub some : 0 < sz.shelf_pages
-  pub entries-length : length es ≡ 8
   pub few : shelved es ≤ sz.shelf_pages
   pub shelf-length : length shelf ≡ sz.shelf_pages * sz.S
   pub earlier-length : length earlier ≡ 2048

@@ -1,34 +1,19 @@
-use mathlib.Core.Path.{sym, ap, ◌∙◌}
-use mathlib.Core.Bool.{false}
-use Rattle.model.specs.Sizes.{Sizes}
-use Rattle.model.specs.Directory.{Directory}
-use Rattle.model.specs.Moves.{touched}
-use Rattle.cache.specs.View.{sizes_of, numbers}
-use Rattle.moves.proofs.Recency.{listed, touched-is}
-use Rattle.reads.proofs.Places.{frame_below, used-by_2, unused_else, read_out, peeked_any}
+use native.Mathlib.Omega.{arith}
+use mathlib.Core.Path.{◌∙◌}
+use Rattle.reads.proofs.Places.{used-frame, unused}
 use Rattle.reads.proofs.read.Goals as goal
-use Rattle.reads.proofs.read.Goals.{Start}
-
-abbrev sizes : Start → Sizes
-sizes s = sizes_of s.args.z
-
-abbrev directory : Start → Directory
-directory s = numbers s.args.slots.now s.args.frames.now s.args.valid.now s.args.recency.now s.args.uses.now
+use Rattle.reads.proofs.read.Goals.{in-Some, in_default}
 
 pub used-requires : goal.used-requires
-used-requires c = let s : Start = search in
-    let k = peeked_any _ _ c.peek-given.ensures in
-    let two = sym k.way-is ∙ c.if-given-eq2.true in
-    listed (sizes s) (directory s) _ s.requires.0 (rw (k.frame_is two) (frame_below (sizes s) (directory s) _ two))
+used-requires c = let l = c.args.view.lent.codes-lent.limits in
+    let low = (used-frame _ _ _ _ c.peek-given.ensures.frame_is c.in-Some.f c.in-Some.is).0 in (l, omega (arith, l.B_high))
 
-pub returns-then-given-eq2 : goal.returns-then-given-eq2
-returns-then-given-eq2 c = let s : Start = search in
-    let k = peeked_any _ _ c.peek-given.ensures in
-    let two = sym k.way-is ∙ c.if-given-eq2.true in
-    read_out (sizes s) (directory s) _ _ _ k (touched-is (sizes s) false (directory s) _ _ _ c.used.ensures
-    ∙ ap (touched (sizes s) false (directory s)) (k.frame_is two) ∙ used-by_2 (sizes s) (directory s) _ two)
-
-pub returns-else-given-eq2 : goal.returns-else-given-eq2
-returns-else-given-eq2 c = let s : Start = search in
-    let k = peeked_any _ _ c.peek-given.ensures in
-    read_out (sizes s) (directory s) _ _ _ k (unused_else (sizes s) (directory s) _ (λ t. c.if-given-eq2.false (k.way-is ∙ t)))
+pub returns : goal.returns
+returns c = let k = c.peek-given.ensures in
+    record {
+      gave = k.gave;
+      directory-is = elim c.match-given.branch [
+        | in-Some w ↦ rw w.directory-is (w.used.ensures ∙ (used-frame _ _ _ _ k.frame_is w.in-Some.f w.in-Some.is).1)
+        | in_default w ↦ rw w.directory-is (unused _ _ _ _ k.frame_is w.in_default.is)
+      ];
+    }

@@ -1,5 +1,8 @@
 use native.Mathlib.Omega.{arith}
-use mathlib.Core.Path.{refl}
+use mathlib.Core.Path.{refl, ap, ◌∙◌}
+use Prim.Native.Nat.{ℕ}
+use lib.ListN.{get_or}
+use Rattle.model.specs.Sizes.{vacant}
 use Rattle.shelf.proofs.Shelf.{put-room, put_full}
 use Rattle.shelf.proofs.put.Goals as goal
 
@@ -9,5 +12,7 @@ returns-then-k-h c =
 
 pub returns : goal.returns
 returns c =
-    put_full _ _ _ _ _ c.requires _ _ _ _ _ c.used-k.ensures c.if-k-h.false c.lower_entries.ensures
-    c.lower_pages.ensures (omega (arith, c.lower_pages.auto)) refl c.copy_page-2.ensures
+    let m = c.copy_within.ensures.by_index in
+    put_full _ _ _ _ _ c.requires _ _ _ _ _ c.used-k.ensures c.if-k-h.false (omega arith) c.copy_within.ensures.len
+    (λ i l. m.0 i vacant (omega arith) (omega arith) ∙ ap (λ (j : ℕ). get_or c.args.entries.now j vacant) (omega arith))
+    (λ i l. m.2 i vacant (omega arith)) c.rotate_left.ensures.after refl c.copy_page-2.ensures

@@ -1,3 +1,4 @@
+use native.Mathlib.Omega.{arith}
 use mathlib.Core.Path.{sym, ap, ◌∙◌}
 use mathlib.Core.Bool.{Bool, ◌&&◌}
 use Prim.Native.Nat.{ℕ, ◌*◌}
@@ -15,7 +16,7 @@ use Rattle.shelf.proofs.sound.Goals as goal
 pub returns-then-z-eq0 : goal.returns-then-z-eq0
 returns-then-z-eq0 c =
     let a = c.args in
-    c.none_used.ensures ∙ sym (vacant-ok (sizes_of a.z) a.entries.now c.requires)
+    c.none_used.ensures ∙ sym (vacant-ok (sizes_of a.z) a.entries.now (omega arith))
     ∙ ap (λ (h : ℕ). shelf_ok (sizes_of a.z) h a.entries.now) (sym c.if-z-eq0.true)
 
 pub returns : goal.returns
@@ -25,4 +26,4 @@ returns c =
     (eqb (get_or a.entries.now i 0) vacant) in
     ap (λ (b : Bool). leb c.used-k.result a.z.shelf_pages && b) c.run_ok-each.ensures
     ∙ ap (λ (k : ℕ). leb k a.z.shelf_pages && all 8 (tests k)) c.used-k.ensures
-    ∙ entries-test (sizes_of a.z) a.z.shelf_pages a.entries.now c.requires
+    ∙ entries-test (sizes_of a.z) a.z.shelf_pages a.entries.now (omega arith)

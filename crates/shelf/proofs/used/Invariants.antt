@@ -1,4 +1,3 @@
-use Prim.Native.Nat.{◌-◌, ◌≤◌}
 use lib.Dec.{eqb}
 use lib.ListN.{get_or}
 use Rattle.prelude.proofs.Scan.{Missed}
@@ -6,7 +5,4 @@ use Rattle.model.specs.Sizes.{vacant}
 use Rattle.shelf.proofs.used.Given as goal
 
 abbrev pub invariant-loop-i : goal.invariant-loop-i
-invariant-loop-i l = (l.i ≤ 8) × Missed (λ j. eqb (get_or l.entries j vacant) vacant) l.i
-
-abbrev pub decreases-loop-i : goal.decreases-loop-i
-decreases-loop-i l = 8 - l.i
+invariant-loop-i l = Missed (λ j. eqb (get_or l.entries j vacant) vacant) l.i

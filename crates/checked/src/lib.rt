@@ -1,9 +1,11 @@
-// The calls on the directory's lists: checks 4, 2 and 5 in their order, of a part write its reach too, and then the call itself. They ask
-// nothing but that each list has its length. A call that rewrites is told how many operations of the chip it may do (request A12).
+// The calls on a record's sizes and directory and on lent buffers: checks 4, 2 and 5 in their order, of a part write its reach too, and
+// then the call itself. They ask nothing. A call that rewrites is told how many operations of the chip it may do (request A12). Each makes
+// the chip of what it is lent: one function for that would hand out b-space with it, by a clause for each buffer, and is no plainer.
 #![tactic(auto)]
 
+pub mod check; // check.rt: the checks
 pub mod flush; // flush.rt: a flush step, and a flush
-pub mod keep; // keep.rt: the same of a write and a part write, with the page kept as it was
+pub mod keep; // keep.rt: a write and a part write, with the page kept as it was
 pub mod part; // part.rt: writing part of a page
 pub mod read; // read.rt: reading a page
 pub mod write; // write.rt: writing a page

@@ -1,83 +1,81 @@
 // Writing a page.
-ghost use Rattle.std.specs.Prelude.{false};
+ghost use Rattle.std.specs.Prelude.{false, length};
 ghost use Rattle.model.specs.Policy.{policy_choice};
-ghost use Rattle.model.specs.Soundness.{Shape};
 ghost use Rattle.model.specs.Calls.{write};
-ghost use Rattle.cache.specs.View.{numbers};
+ghost use Rattle.cache.specs.View.{directory_of};
 ghost use Rattle.answer.specs.Numbers.{write_of, mends_of_write};
-ghost use Rattle.answer.specs.Carried.{buffers};
-ghost use Rattle.checked.specs.Lists.{store_with, result_with, CalledTo};
+ghost use Rattle.lent.specs.Loan.{IsSameLent, buffers_of};
+ghost use Rattle.checked.specs.Called.{store_with, result_with, CalledTo};
+ghost use Rattle.checked.specs.Checks.{Passed};
 
+use crate::check;
 use address::PageNo;
 use answer::{Refusal, Write};
-use cache::Sizes;
+use cache::{Directory, Sizes};
 use chip::Seen;
-use sound::lists_sound;
+use chip::lent::Chip;
+use lent::Lent;
 
-// The checks, and the write, on the directory's lists, with at most ops operations of the chip.
+// The checks, and the write, with at most ops operations of the chip.
 pub fn write(
     z: Sizes,
-    slots: &mut [u32; 128],
-    frames: &mut [u32; 8],
-    valid: &mut [u64; 8],
-    recency: &mut [u8; 8],
-    uses: &mut [u32; 8],
-    flash: &mut [u8],
-    codes: &mut [u8],
-    marks: &mut [u8],
-    wear: &mut [u32],
+    directory: &mut Directory,
+    lent: &mut Lent<'_>,
     pspace: &mut [u8],
-    bspace: &mut [u8],
     n: PageNo,
     page: &[u8],
     ops: u32,
-) -> Write
-    requires { Shape (numbers slots.old frames.old valid.old recency.old uses.old) }
-    ensures { let d = numbers slots.old frames.old valid.old recency.old uses.old in
-        let u = buffers flash.old codes.old marks.old
-        wear.old pspace.old bspace.old in
-        let d' = numbers slots.new frames.new valid.new recency.new uses.new in
-        let u' = buffers flash.new codes.new marks.new
-        wear.new pspace.new bspace.new in
+) -> Result<Write, Refusal>
+    ensures loan { IsSameLent lent.old lent.new }
+    ensures called { let d = directory_of directory.old in
+        let u = buffers_of lent.old pspace.old in
+        let d' = directory_of directory.new in
+        let u' = buffers_of lent.new pspace.new in
         CalledTo policy_choice ops (λ _. false) (store_with z d u) (write n.0 page.now)
         (result_with (write_of result) (mends_of_write result) z d' u' page.now) }
 {
-    if !lists_sound(z, slots, frames, valid, recency, uses) {
-        return Write::Refused(Refusal::Record);
-    }
-    if !lent::lengths_ok(
-        z,
-        flash.len(),
-        codes.len(),
-        marks.len(),
-        wear.len(),
-        pspace.len(),
-        bspace.len(),
-    ) {
-        return Write::Refused(Refusal::Buffer);
-    }
-    if page.len() != z.page_size as usize {
-        return Write::Refused(Refusal::Buffer);
-    }
-    if z.blocks * z.pages_per_block <= n.0 {
-        return Write::Refused(Refusal::Page);
-    }
+    check::page_ready(z, directory, lent.view(pspace), n, page.len())?;
+    carry(z, directory, lent, pspace, n, page, ops)
+}
+
+// The write of a page whose checks were passed, with at most ops operations of the chip.
+pub fn carry(
+    z: Sizes,
+    directory: &mut Directory,
+    lent: &mut Lent<'_>,
+    pspace: &mut [u8],
+    n: PageNo,
+    page: &[u8],
+    ops: u32,
+) -> Result<Write, Refusal>
+    requires { Passed (store_with z (directory_of directory.old) (buffers_of lent.old pspace.old)) n.0 (length page.now) }
+    ensures loan { IsSameLent lent.old lent.new }
+    ensures called { let d = directory_of directory.old in
+        let u = buffers_of lent.old pspace.old in
+        let d' = directory_of directory.new in
+        let u' = buffers_of lent.new pspace.new in
+        CalledTo policy_choice ops (λ _. false) (store_with z d u) (write n.0 page.now)
+        (result_with (write_of result) (mends_of_write result) z d' u' page.now) }
+{
+    let mut chip = Chip {
+        sizes: z,
+        flash: &mut *lent.flash,
+        codes: &mut *lent.codes,
+        marks: &mut *lent.marks,
+        wear: &mut *lent.wear,
+    };
+    let beside = Seen {
+        fault: None,
+        mends: 0,
+    };
     writes::write(
-        z,
-        slots,
-        frames,
-        valid,
-        recency,
-        uses,
-        flash,
-        codes,
-        marks,
-        wear,
+        &mut chip,
+        directory,
         pspace,
-        bspace,
+        &mut *lent.bspace,
         n,
         page,
-        Seen { fault: 0, mends: 0 },
+        beside,
         ops,
     )
 }

@@ -2,14 +2,14 @@
 use mathlib.Core.Path.{◌≡◌, refl, ap, ◌∙◌}
 use Rattle.model.specs.Calls as calls
 use Rattle.model.specs.Calls.{open_done, read_done, write_done, step_done, step_clean, flush_done, refused}
+use Prim.Native.Nat.{ℕ}
+use Rattle.std.specs.Prelude.{Result, Err}
 use Rattle.answer.specs.declared.Refusal.{Refusal}
+use Rattle.wear.specs.declared.Figures.{Figures}
 use Rattle.answer.specs.Numbers.{refusal_of}
-use Rattle.replies.specs.declared.Answer.{Answer}
 use Rattle.replies.specs.Numbers.{numbers_of}
 use Rattle.wear.specs.Report.{turned_down}
 use Rattle.store.specs.declared.Cache.{Cache}
-use Rattle.report.specs.declared.Report.{Report}
-use Rattle.report.specs.declared.Report.TheVariants as reports
 use Rattle.report.specs.Contract.{number_in, reported_of}
 use Rattle.clash_c.specs.Figures.{wear_reply}
 
@@ -23,8 +23,7 @@ number_same (flush_done r m) = refl
 number_same (refused n b) = refl
 
 -- a refused report in numbers
-pub refused-reply : (c : Cache) (a : Report) (why : Refusal) (said : Answer) → a ≡ reports.Refused why
-    → said ≡ numbers_of (refusal_of why) 0
-    → record { cache = c; refusal = said.refusal; largest = 0; total = 0; spread = 0 } ≡ wear_reply c (reported_of a)
-refused-reply c a why said e s =
-    rw e (λ i. wear_reply c (turned_down ((ap (λ (x : Answer). x.refusal) s ∙ number_same (refusal_of why)) i)))
+pub refused_reply : (c : Cache) (a : Result Figures Refusal) (why : Refusal) (n : ℕ) → a ≡ Err why
+    → n ≡ (numbers_of (refusal_of why) 0).refusal
+    → record { cache = c; refusal = n; largest = 0; total = 0; spread = 0 } ≡ wear_reply c (reported_of a)
+refused_reply c a why n e s = rw e (ap (λ (m : ℕ). wear_reply c (turned_down m)) (s ∙ number_same (refusal_of why)))

@@ -5,13 +5,14 @@ ghost use Rattle.report.specs.Contract.{reported_of};
 ghost use Rattle.store.specs.View.{lent, store_of};
 ghost use Rattle.clash_c.specs.Figures.{wear_reply};
 
-use report::Report;
+use answer::Refusal;
 use store::Cache;
+use wear::Figures;
 
 // The record, as it was taken, and the figures. `refusal` is document 01's number, and 0 where the report is accepted; the figures of a
-// refused report are 0.
+// refused report are 0. Numbers and no `Result`, since C is handed them.
 #[repr(C)]
-#[derive(Clone, Copy)]
+#[derive(Clone, Copy, PartialEq, Eq, Debug)]
 pub struct WearReport {
     pub cache: Cache,
     pub refusal: u32,
@@ -39,36 +40,28 @@ pub extern "C" fn clash_report(
         result ≡ wear_reply cache (reported (store_of cache u)) }
 {
     let o = report::wear_report(cache, flash, codes, marks, wear, pspace, bspace, shelf);
-    let next = o.cache;
-    let answer = o.answer;
-    numbered(next, answer)
+    numbered(o.cache, o.answer)
 }
 
-// A report in numbers.
-fn numbered(cache: Cache, answer: Report) -> WearReport
+// A report in numbers, as C has it. Not `From`, which takes one value: the record stands beside the answer.
+#[tactic(auto, using(crate::proofs::Refusing::refused_reply))]
+fn numbered(cache: Cache, answer: Result<Figures, Refusal>) -> WearReport
     ensures { result ≡ wear_reply cache (reported_of answer) }
 {
     match answer {
-        Report::Done {
-            total,
-            largest,
-            spread,
-        } => WearReport {
+        Ok(figures) => WearReport {
             cache,
             refusal: 0,
-            largest,
-            total,
-            spread,
+            largest: figures.largest,
+            total: figures.total,
+            spread: figures.spread,
         },
-        Report::Refused(why) => {
-            let said = replies::refused(why);
-            WearReport {
-                cache,
-                refusal: said.refusal,
-                largest: 0,
-                total: 0,
-                spread: 0,
-            }
-        }
+        Err(why) => WearReport {
+            cache,
+            refusal: replies::number(why),
+            largest: 0,
+            total: 0,
+            spread: 0,
+        },
     }
 }

@@ -1,4 +1,5 @@
-// The store for C and Rust programs: the record and the answers cross by value, a slice as its pointer and its length.
+// The store for C and Rust programs: the record and the answers cross by value, a slice as its pointer and its length. Each call is lent
+// the buffers one by one, and its answer is in numbers, since include/clash.h has them so.
 #![tactic(auto)]
 
 mod figures; // figures.rt: the report of the wear
@@ -16,7 +17,7 @@ use store::Cache;
 
 // The record after a call, and the call's answer.
 #[repr(C)]
-#[derive(Clone, Copy)]
+#[derive(Clone, Copy, PartialEq, Eq, Debug)]
 pub struct Reply {
     pub cache: Cache,
     pub answer: Answer,
@@ -24,7 +25,7 @@ pub struct Reply {
 
 // The sizes and the wear limit of an opening.
 #[repr(C)]
-#[derive(Clone, Copy)]
+#[derive(Clone, Copy, PartialEq, Eq, Debug)]
 pub struct PlainSizes {
     pub page_size: u32,
     pub pages_per_block: u32,
@@ -34,9 +35,9 @@ pub struct PlainSizes {
     pub wear_limit: u32,
 }
 
-// The options of an opening: policy, codes, shelf pages, marks.
+// The options of an opening: policy, codes, shelf pages, marks. Numbers and no enums, since C may hand any number in.
 #[repr(C)]
-#[derive(Clone, Copy)]
+#[derive(Clone, Copy, PartialEq, Eq, Debug)]
 pub struct Options {
     pub policy: u32,
     pub coded: u32,
@@ -44,7 +45,7 @@ pub struct Options {
     pub marked: u32,
 }
 
-// Sizes and options, as a record keeps them.
+// Sizes and options, as a record keeps them. Not `From`, which takes one value: C hands the two in one by one.
 fn with_options(s: PlainSizes, o: Options) -> Sizes
     ensures { result ≡ with_options s o }
 {
@@ -81,10 +82,10 @@ pub extern "C" fn clash_open(
 {
     let z = with_options(sizes, options);
     let o = Cache::open(z, flash, codes, marks, wear, pspace, bspace, shelf);
-    let cache = o.cache;
-    let said = o.answer;
-    let answer = replies::of_opening(said);
-    Reply { cache, answer }
+    Reply {
+        cache: o.cache,
+        answer: Answer::from(o.answer),
+    }
 }
 
 // Reads page n.
@@ -116,10 +117,10 @@ pub extern "C" fn clash_read(
         PageNo(n),
         page,
     );
-    let cache = o.cache;
-    let said = o.answer;
-    let answer = replies::of_read(said);
-    Reply { cache, answer }
+    Reply {
+        cache: o.cache,
+        answer: Answer::from(o.answer),
+    }
 }
 
 // Writes page n.
@@ -153,10 +154,10 @@ pub extern "C" fn clash_write(
         PageNo(n),
         page,
     );
-    let cache = o.cache;
-    let said = o.answer;
-    let answer = replies::of_write(said);
-    Reply { cache, answer }
+    Reply {
+        cache: o.cache,
+        answer: Answer::from(o.answer),
+    }
 }
 
 // Writes page n with the bytes laid in from byte `first` on.
@@ -194,10 +195,10 @@ pub extern "C" fn clash_part(
         bytes,
         page,
     );
-    let cache = o.cache;
-    let said = o.answer;
-    let answer = replies::of_write(said);
-    Reply { cache, answer }
+    Reply {
+        cache: o.cache,
+        answer: Answer::from(o.answer),
+    }
 }
 
 // Takes the latest write back that is on the shelf.
@@ -218,10 +219,10 @@ pub extern "C" fn clash_take_back(
         pspace.new bspace.new)) }
 {
     let o = c.take_back(flash, codes, marks, wear, pspace, bspace, shelf);
-    let cache = o.cache;
-    let said = o.answer;
-    let answer = replies::of_write(said);
-    Reply { cache, answer }
+    Reply {
+        cache: o.cache,
+        answer: Answer::from(o.answer),
+    }
 }
 
 // Rewrites one block that has pages cached.
@@ -242,10 +243,10 @@ pub extern "C" fn clash_step(
         flash.new codes.new marks.new wear.new bspace.new) }
 {
     let o = c.flush_step(flash, codes, marks, wear, pspace, bspace, shelf);
-    let said = o.answer;
-    let answer = replies::of_step(said);
-    let cache = o.cache;
-    Reply { cache, answer }
+    Reply {
+        cache: o.cache,
+        answer: Answer::from(o.answer),
+    }
 }
 
 // Rewrites every block that has pages cached.
@@ -266,8 +267,8 @@ pub extern "C" fn clash_flush(
         flash.new codes.new marks.new wear.new bspace.new) }
 {
     let o = c.flush(flash, codes, marks, wear, pspace, bspace, shelf);
-    let cache = o.cache;
-    let said = o.answer;
-    let answer = replies::of_flush(said);
-    Reply { cache, answer }
+    Reply {
+        cache: o.cache,
+        answer: Answer::from(o.answer),
+    }
 }

@@ -3,6 +3,7 @@
 use mathlib.Core.Path.{◌≡◌, refl, sym, ap, ◌∙◌}
 use mathlib.Core.Bool.{Bool, true, false, ◌||◌}
 use mathlib.Core.List.{List}
+use Rattle.std.specs.Prelude.{Option, None}
 use Prim.Native.Nat.{ℕ, zero, suc, ◌+◌, ◌*◌, ◌≤◌, ◌<◌}
 use native.Mathlib.Nat.{zero-add}
 use native.Mathlib.Omega.{arith}
@@ -22,6 +23,8 @@ use Rattle.model.proofs.Merges.{flush-in, flush-out, steps_mend, flush-mends}
 use Rattle.chip.specs.declared.BlockSeen.{BlockSeen}
 use Rattle.chip.specs.Chip.{fault_on, mends_on, worse_of, most_mends}
 use Rattle.chip.proofs.Looking.{fault-none, fault-or, met-set, mends-set, mends-few}
+use Rattle.answer.specs.declared.fault.Fault.{Fault}
+use Rattle.answer.specs.Numbers.{fault_number}
 use Rattle.clean.specs.Clean.{Lookable, MergesLooked}
 use Rattle.flushes.specs.Flushes.{flush_merges, LooksAll, AllLooked}
 
@@ -63,10 +66,11 @@ module _ (sz : Sizes) (d : Directory) (s : Sound sz d) where
 -- ---- the steps on the directory alone
 
 -- The check began at d₀ and has come to d: the pages in done have been looked at, and those of the steps left come to it.
-pub record Ahead (sz : Sizes) (d₀ : Directory) (flash codes marks : List ℕ) (d : Directory) (fault mends : ℕ) : Type 0 where
+pub record Ahead (sz : Sizes) (d₀ : Directory) (flash codes marks : List ℕ) (d : Directory) (fault : Option Fault)
+    (mends : ℕ) : Type 0 where
   pub sound : Sound sz d
   pub done : ℕ → Bool
-  pub fault-is : fault ≡ fault_met sz (fault_on sz flash codes marks) done
+  pub fault-is : fault_number fault ≡ fault_met sz (fault_on sz flash codes marks) done
   pub all : (n : ℕ) → n < sz.N * sz.K → (done n || steps_merge policy_choice sz (steps_left sz d) d n) ≡ flush_merges sz d₀ n
   pub mends-are : mends + steps_mend policy_choice sz (mends_on sz flash codes marks) (steps_left sz d) d
       ≡ mends_met sz (mends_on sz flash codes marks) (flush_merges sz d₀)
@@ -76,7 +80,7 @@ or_assoc true b c = refl
 or_assoc false b c = refl
 
 module _ {sz : Sizes} {d₀ : Directory} {flash codes marks : List ℕ} (q : LooksAll sz d₀ flash codes marks) where
-  pub ahead_none : Ahead sz d₀ flash codes marks d₀ 0 0
+  pub ahead_none : Ahead sz d₀ flash codes marks d₀ None 0
   ahead_none = record {
     sound = q.sound;
     done = λ n. false;
@@ -86,7 +90,7 @@ module _ {sz : Sizes} {d₀ : Directory} {flash codes marks : List ℕ} (q : Loo
         ∙ mends-set sz (mends_on sz flash codes marks) _ _ (all-merges sz d₀ q.sound);
   }
 
-  module _ {d : Directory} {fault mends : ℕ} (k : Ahead sz d₀ flash codes marks d fault mends) where
+  module _ {d : Directory} {fault : Option Fault} {mends : ℕ} (k : Ahead sz d₀ flash codes marks d fault mends) where
     -- nothing is left
     pub ahead_all : clean ≡ due_of policy_choice sz d → AllLooked sz d₀ flash codes marks (record { fault = fault; mends = mends })
     ahead_all e = record {
@@ -101,8 +105,8 @@ module _ {sz : Sizes} {d₀ : Directory} {flash codes marks : List ℕ} (q : Loo
       ready : steps.Ready sz d b f
       ready = steps.due-ready sz d k.sound policy_choice policy_choice-picks b f (sym e)
 
-      pub ahead_lookable : Lookable sz d flash codes marks b f
-      ahead_lookable = record { sound = k.sound; lent = q.lent; block = ready }
+      pub ahead_lookable : Lookable sz d b f
+      ahead_lookable = record { sound = k.sound; block = ready }
 
       abbrev after : Directory
       after = stepped sz d (due b f)
@@ -128,12 +132,13 @@ module _ {sz : Sizes} {d₀ : Directory} {flash codes marks : List ℕ} (q : Loo
         ahead_few = let h = mends-so in
             let l = mends-few sz q.lent.codes-lent.limits flash codes marks (flush_merges sz d₀) in omega arith
 
-        pub ahead_more : (d' : Directory) → d' ≡ after → (fault' : ℕ) → fault' ≡ worse_of fault seen.fault
+        pub ahead_more : (d' : Directory) → d' ≡ after → (fault' : Option Fault)
+            → fault_number fault' ≡ worse_of (fault_number fault) (fault_number seen.fault)
             → Ahead sz d₀ flash codes marks d' fault' (mends + seen.mends)
         ahead_more d' de fault' fe = rw de (record {
           sound = steps.stepped-sound sz d k.sound b f ready;
           done = λ n. k.done n || merges_page sz d b f n;
-          fault-is = fe ∙ ap (λ (x : ℕ). worse_of x seen.fault) k.fault-is
+          fault-is = fe ∙ ap (λ (x : ℕ). worse_of x (fault_number seen.fault)) k.fault-is
               ∙ ap (worse_of (fault_met sz (fault_on sz flash codes marks) k.done)) m.fault-is
               ∙ sym (fault-or sz (fault_on sz flash codes marks) k.done (merges_page sz d b f));
           all = λ n l. or_assoc (k.done n) (merges_page sz d b f n) _ ∙ ap (λ (x : Bool). k.done n || x) (sym (rest n)) ∙ k.all n l;
@@ -142,7 +147,7 @@ module _ {sz : Sizes} {d₀ : Directory} {flash codes marks : List ℕ} (q : Loo
 
 -- a store without codes and marks
 pub plain-all : (sz : Sizes) (d : Directory) (flash codes marks : List ℕ) → is_coded sz ≡ false → is_marked sz ≡ false
-    → AllLooked sz d flash codes marks (record { fault = 0; mends = 0 })
+    → AllLooked sz d flash codes marks (record { fault = None; mends = 0 })
 plain-all sz d flash codes marks c m = record {
   fault-is = sym (no-faults sz _ _ (λ i. plain-fault sz c m _));
   mends-are = sym (no-mends sz _ _ (λ i. plain-mends sz c m _));

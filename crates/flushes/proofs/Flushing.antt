@@ -1,20 +1,19 @@
 -- A flush under way: what holds before each of its turns, and what it comes to.
 use mathlib.Core.Path.{◌≡◌, refl, sym, ap, ◌∙◌}
-use mathlib.Core.Logic.{◌≢◌}
-use mathlib.Core.Bool.{true, false, cond, ◌||◌}
-use mathlib.Core.List.{List, []}
+use mathlib.Core.Bool.{true, false, ◌||◌}
+use mathlib.Core.List.{List}
+use Rattle.std.specs.Prelude.{Some}
 use Prim.Native.Nat.{ℕ, zero, suc, ◌+◌, ◌-◌, ◌*◌, ◌/◌, ◌≤◌, ◌<◌}
 use native.Mathlib.Nat.{sub-zero, mul-le-mul_right, suc-mul}
 use native.Mathlib.Omega.{arith}
-use lib.Dec.{eqb}
 use lib.ListN.{length}
 use borrow.Author.Tests.{lt-ltb, le-ltb, le-leb, lt-leb}
 use Rattle.prelude.specs.Scan.{count}
 use Rattle.prelude.proofs.Scan.{count-le}
 use Rattle.prelude.proofs.Tests.{clash}
-use Rattle.model.specs.Sizes.{Sizes, vacant}
+use Rattle.model.specs.Sizes.{Sizes}
 use Rattle.model.specs.Directory.{Directory, valid_at}
-use Rattle.model.specs.Policy.{in_block, frame_of, slot_count, policy_choice, clean, due, due_of, cached, lowest_worn}
+use Rattle.model.specs.Policy.{policy_choice, clean, due, due_of, cached, lowest_worn}
 use Rattle.model.specs.Moves.{Memory, cell_at, joined, stepped, stepped_pages}
 use Rattle.model.specs.Formats.{store_format, chip_for}
 use Rattle.model.specs.Calls.{flush_done, refused, is_refused, Tally, steps, flush_outcome, merges_page, steps_merge}
@@ -23,21 +22,22 @@ use Rattle.model.specs.Calls.{steps_pages, Page, Cell, Buffers, Fits, zero_page,
 use Rattle.model.specs.Cut.{Left, cut_steps}
 use Rattle.model.proofs.Lookup.{block-lt}
 use Rattle.model.proofs.Plan.{policy_choice-picks}
-use Rattle.model.proofs.Soundness.{pages-small}
 use Rattle.model.proofs.Steps.{Below, stepped-sound, cached-now, cached-less, cached-back, stepped-below}
 use Rattle.model.proofs.Calls.{flush-below}
 use Rattle.model.proofs.Cut.{stepped-other}
 use Rattle.model.proofs.Merges.{flush-in, steps_mend, flush-mends}
-use Rattle.cache.specs.View.{numbers}
 use Rattle.chip.specs.declared.Rewrote.{Rewrote}
-use Rattle.chip.specs.Chip.{fault_on, mends_on, fault_in, mends_in, block_reads, mend_set}
-use Rattle.chip.proofs.Cells.{lent_of}
-use Rattle.chip.proofs.Looking.{met-late, none-either, met-cells, mends-cells, none-to_mend}
+use Rattle.chip.specs.Chip.{Lent, fault_on, mends_on, fault_in, mends_in, block_reads, mend_set}
+use Rattle.chip.proofs.Looking.{none-either, met-cells, mends-cells, none-to_mend}
 use Rattle.answer.specs.Carried.{buffers, Ready, left_of}
+use Rattle.answer.specs.declared.fault.Fault.{Fault}
+use Rattle.answer.specs.Numbers.{refusal_of, refusal_for, fault_number}
+use Rattle.answer.proofs.Refusals.{fault_refused}
 use Rattle.answer.proofs.Heeding.{down-before, down-late, goes_on}
 use Rattle.clean.specs.Clean.{Lookable, Cleanable, BlockCleaned}
-use Rattle.flushes.specs.Flushes.{state_in, FlushCarried, flush_merges, Flushable}
-use Rattle.flushes.proofs.Stepping.{due-ready, due-lookable, worn-whole}
+use Rattle.chip.specs.declared.Seen.{Seen}
+use Rattle.flushes.specs.Flushes.{state_in, AllLooked, FlushCarried, flush_merges, Flushable}
+use Rattle.flushes.proofs.Stepping.{some-fault, due-ready, due-lookable, worn-whole}
 use Rattle.flushes.proofs.Checking.{merges-next, mends-next}
 
 abbrev tally : Directory → Buffers → ℕ → ℕ → Tally
@@ -89,27 +89,20 @@ module _ (sz : Sizes) (d : Directory) where
 
 -- ---- buffers keep their sizes
 
-pub fits_kept : {sz : Sizes} {flash codes marks wear pspace bspace : List ℕ} (flash' codes' marks' wear' bspace' : List ℕ)
+pub fits_kept : {sz : Sizes} {flash codes marks wear pspace bspace flash' codes' marks' wear' bspace' : List ℕ}
     → Fits store_format sz (buffers flash codes marks wear pspace bspace)
-    → length flash' ≡ length flash → length codes' ≡ length codes → length marks' ≡ length marks → length wear' ≡ length wear
-    → length bspace' ≡ length bspace
+    → Lent sz flash' codes' marks' → length wear' ≡ sz.N → length bspace' ≡ length bspace
     → Fits store_format sz (buffers flash' codes' marks' wear' pspace bspace')
-fits_kept flash' codes' marks' wear' bspace' h a e m b c = record {
-  flash-length = a ∙ h.flash-length;
-  codes-length = e ∙ h.codes-length;
-  marks-length = m ∙ h.marks-length;
-  wear-length = b ∙ h.wear-length;
+fits_kept h l w b = record {
+  flash-length = l.codes-lent.flash-length;
+  codes-length = l.codes-lent.codes-length;
+  marks-length = l.marks-length;
+  wear-length = w;
   pspace-length = h.pspace-length;
-  bspace-length = c ∙ h.bspace-length;
+  bspace-length = b ∙ h.bspace-length;
 }
 
 -- ---- a refused flush, and the first turn
-
--- the valid pages and the order of use are not looked at
-pub worn-same : (sz : Sizes) (s f v r u w : List ℕ) → lowest_worn sz (numbers s f [] [] []) w
-    ≡ lowest_worn sz (numbers s f v r u) w
-unfolding lowest_worn cached slot_count in_block frame_of
-worn-same sz s f v r u w = refl
 
 module _ (sz : Sizes) (d : Directory) (u : Buffers) (ops : ℕ) where
   pub flush-worn : (b : ℕ) → b ≡ lowest_worn sz d u.wear → b < sz.N → FlushCarried sz d u ops (refused 6 b) 0 d u
@@ -127,12 +120,13 @@ module _ (sz : Sizes) (d : Directory) (u : Buffers) (ops : ℕ) where
     accepted = rw (le-ltb (lowest_worn sz d u.wear) sz.N none-worn, flush_outcome)
 
     -- a merge read meets a refusal
-    pub flush-late : (fault : ℕ) → fault ≡ fault_in sz u (flush_merges sz d) → fault ≢ 0
-        → FlushCarried sz d u ops (refused (cond (eqb fault 7) 7 14) vacant) 0 d u
-    flush-late fault e ne =
-        let some : fault_in sz u (flush_merges sz d) ≢ 0 = λ z. ne (e ∙ z) in
-        rw (e, met-late sz (fault_on sz u.flash u.codes u.marks) (flush_merges sz d) some)
-        (down-late refl (fault_in sz u (flush_merges sz d)) (flush_outcome policy_choice sz (state_in d u)) accepted some)
+    pub flush-late : {seen : Seen} → AllLooked sz d u.flash u.codes u.marks seen → (fault : Fault) → seen.fault ≡ Some fault
+        → FlushCarried sz d u ops (refusal_of (refusal_for fault)) 0 d u
+    flush-late k fault is =
+        let met : fault_in sz u (flush_merges sz d) ≡ fault_number (Some fault) = sym k.fault-is ∙ ap fault_number is in
+        rw (fault_refused fault, ← met)
+        (down-late refl (fault_in sz u (flush_merges sz d)) (flush_outcome policy_choice sz (state_in d u)) accepted
+        (λ z. some-fault fault (sym met ∙ z)))
 
 pub begins : {sz : Sizes} {d : Directory} {u : Buffers} {mends : ℕ} (ops : ℕ) → Flushable sz d u mends
     → Underway sz d u mends ops d u 0 0 ops
@@ -212,7 +206,7 @@ module _ {sz : Sizes} {d₀ : Directory} {u₀ : Buffers} {mends ops₀ : ℕ} {
         let r = flush-mends policy_choice policy_choice-picks sz g c after (stepped-sound sz d s b f (due-ready k.ready b f e)) in
         (omega arith, r ∙ (omega arith))
 
-    pub lookable : Lookable sz d flash codes marks b f
+    pub lookable : Lookable sz d b f
     lookable = due-lookable k.ready b f e
 
     pub mends-due : mends ≡ 0 → mends_met sz (mends_on sz flash codes marks) (merges_page sz d b f) ≡ 0
@@ -223,12 +217,7 @@ module _ {sz : Sizes} {d₀ : Directory} {u₀ : Buffers} {mends ops₀ : ℕ} {
     cleanable mend m = let y = due-ready k.ready b f e in let h = k.ready.fits in record {
       sound = k.ready.sound;
       block = y;
-      erasable = record {
-        lent = lent_of sz u k.ready.sound.limits h;
-        b_lt = y.b_lt;
-        wear-length = h.wear-length;
-        unworn = k.below b y.b_lt (cached-now sz d k.ready.sound b f y);
-      };
+      unworn = k.below b y.b_lt (cached-now sz d k.ready.sound b f y);
       pspace-length = h.pspace-length;
       bspace-length = h.bspace-length;
       faultless = faults.0;
@@ -245,10 +234,6 @@ module _ {sz : Sizes} {d₀ : Directory} {u₀ : Buffers} {mends ops₀ : ℕ} {
 
       merges-sum : r.reads + merges ≤ suc rewrites * sz.K
       merges-sum = let h = reads_le in let l = k.merges-le in let s = suc-mul rewrites sz.K in omega arith
-
-      pub merges-small : r.reads + merges < vacant
-      merges-small = let h = merges-sum in let l = mul-le-mul_right sz.K left in let s = pages-small sz k.ready.sound.limits in
-          omega arith
 
       -- the operations were not enough for the rewrite
       pub flush-cut : Flushable sz d₀ u₀ mends → ops ≤ sz.K → (rewrites' merges' : ℕ)
@@ -317,8 +302,8 @@ module _ {sz : Sizes} {d₀ : Directory} {u₀ : Buffers} {mends ops₀ : ℕ} {
             })
 
 -- where a flush has no mends no page wants mending
-pub nothing-to_mend : {sz : Sizes} {d : Directory} {flash codes marks : List ℕ} {b f : ℕ} → Lookable sz d flash codes marks b f
+pub nothing_to_mend : {sz : Sizes} {d : Directory} (flash codes marks : List ℕ) {b f : ℕ} → Lookable sz d b f
     → mends_met sz (mends_on sz flash codes marks) (merges_page sz d b f) ≡ 0 → 0 ≡ mend_set sz flash codes b (valid_at (joined sz d b f) f)
 unfolding merges_page block_reads
-nothing-to_mend {sz} {d} {flash} {codes} {marks} {b} {f} q h =
+nothing_to_mend {sz} {d} flash codes marks {b} {f} q h =
     sym (none-to_mend sz flash codes marks b (valid_at (joined sz d b f) f) q.sound.limits q.block.b_lt h)

@@ -1,17 +1,17 @@
 -- A flush step, by what is due.
 use mathlib.Core.Path.{◌≡◌, refl, sym, ap, ◌∙◌}
 use mathlib.Core.Logic.{◌≢◌}
-use mathlib.Core.Bool.{true, false, cond}
-use mathlib.Core.List.{List, []}
+use mathlib.Core.Bool.{true, false}
+use mathlib.Core.List.{List}
+use Rattle.std.specs.Prelude.{None, Some}
 use Prim.Native.Nat.{ℕ, suc, ◌≤◌, ◌<◌}
 use native.Mathlib.Omega.{arith}
-use lib.Dec.{eqb}
 use lib.ListN.{length}
 use borrow.Author.Tests.{lt-ltb}
 use Rattle.prelude.proofs.Tests.{clash}
-use Rattle.model.specs.Sizes.{Sizes, vacant}
+use Rattle.model.specs.Sizes.{Sizes}
 use Rattle.model.specs.Directory.{Directory}
-use Rattle.model.specs.Policy.{in_block, slot_count, least_recent, fewest_uses, policy_choice, clean, due, occupied, lowest_in_slots}
+use Rattle.model.specs.Policy.{policy_choice, clean, due}
 use Rattle.model.specs.Policy.{due_of}
 use Rattle.model.specs.Policy.{is_worn}
 use Rattle.model.specs.Moves.{worn_by, stepped_pages}
@@ -22,22 +22,23 @@ use Rattle.model.proofs.Lookup.{block-vacant}
 use Rattle.model.proofs.Plan.{policy_choice-picks}
 use Rattle.model.proofs.Steps as steps
 use Rattle.model.proofs.Calls.{not-worn}
-use Rattle.cache.specs.View.{numbers}
 use Rattle.chip.specs.declared.BlockSeen.{BlockSeen}
 use Rattle.chip.specs.declared.Rewrote.{Rewrote}
-use Rattle.chip.specs.Chip.{fault_on, fault_in}
-use Rattle.chip.proofs.Cells.{lent_of}
-use Rattle.chip.proofs.Looking.{fault-none, mends-none, met-late}
+use Rattle.chip.specs.Chip.{fault_in}
+use Rattle.chip.proofs.Looking.{fault-none, mends-none}
 use Rattle.answer.specs.Carried.{buffers, Ready}
+use Rattle.answer.specs.declared.fault.Fault.{Fault}
+use Rattle.answer.specs.declared.fault.Fault.TheVariants as faults
+use Rattle.answer.specs.Numbers.{refusal_of, refusal_for, fault_number}
+use Rattle.answer.proofs.Refusals.{fault_refused}
 use Rattle.answer.proofs.Heeding.{down-before, down-late, goes_on}
 use Rattle.clean.specs.Clean.{Lookable, MergesLooked, Cleanable, BlockCleaned}
 use Rattle.flushes.specs.Flushes.{state_in, StepCarried}
 
--- the valid pages are not looked at
-pub due-same : (sz : Sizes) (s f v r u : List ℕ)
-    → due_of policy_choice sz (numbers s f [] r u) ≡ due_of policy_choice sz (numbers s f v r u)
-unfolding due_of occupied policy_choice fewest_uses least_recent lowest_in_slots slot_count in_block
-due-same sz s f v r u = refl
+-- a fault's number
+pub some-fault : (fault : Fault) → fault_number (Some fault) ≢ 0
+some-fault faults.Unreadable e = omega arith
+some-fault faults.Torn e = omega arith
 
 -- the block that is due may be cleaned
 pub due-ready : {sz : Sizes} {d : Directory} {u : Buffers} (q : Ready sz d u) (b f : ℕ) → due b f ≡ due_of policy_choice sz d
@@ -46,10 +47,9 @@ due-ready {sz} {d} q b f e = steps.due-ready sz d q.sound policy_choice policy_c
 
 -- and looked at
 pub due-lookable : {sz : Sizes} {d : Directory} {u : Buffers} (q : Ready sz d u) (b f : ℕ) → due b f ≡ due_of policy_choice sz d
-    → Lookable sz d u.flash u.codes u.marks b f
+    → Lookable sz d b f
 due-lookable {sz} {d} {u} q b f e = record {
   sound = q.sound;
-  lent = lent_of sz u q.sound.limits q.fits;
   block = due-ready q b f e;
 }
 
@@ -99,27 +99,26 @@ module _ {sz : Sizes} {d : Directory} {flash codes marks wear pspace bspace : Li
       accepted = rw (w, step_outcome)
 
       -- a merge read meets a refusal
-      pub step-late : seen.fault ≢ 0 → StepCarried sz d u ops (refused (cond (eqb seen.fault 7) 7 14) vacant) 0 d u
-      step-late ne =
-          let some : fault_in sz u (merges_page sz d b f) ≢ 0 = λ z. ne (k.fault-is ∙ z) in
-          rw (← e, k.fault-is, met-late sz (fault_on sz flash codes marks) (merges_page sz d b f) some)
-          (down-late refl (fault_in sz u (merges_page sz d b f)) (step_outcome sz (state_in d u) (due b f)) accepted some)
+      pub step-late : (fault : Fault) → seen.fault ≡ Some fault → StepCarried sz d u ops (refusal_of (refusal_for fault)) 0 d u
+      step-late fault is =
+          let met : fault_in sz u (merges_page sz d b f) ≡ fault_number (Some fault) = sym k.fault-is ∙ ap fault_number is in
+          rw (← e, fault_refused fault, ← met)
+          (down-late refl (fault_in sz u (merges_page sz d b f)) (step_outcome sz (state_in d u) (due b f)) accepted
+          (λ z. some-fault fault (sym met ∙ z)))
 
       -- or none
-      module _ (z : seen.fault ≡ 0) where
+      module _ (none : seen.fault ≡ None) where
+        faultless : fault_in sz u (merges_page sz d b f) ≡ 0
+        faultless = sym k.fault-is ∙ ap fault_number none
+
         pub cleanable : Cleanable sz d flash codes marks wear pspace bspace b f seen.mend
         cleanable = let y = due-ready q b f e in record {
           sound = q.sound;
           block = y;
-          erasable = record {
-            lent = lent_of sz u q.sound.limits q.fits;
-            b_lt = y.b_lt;
-            wear-length = q.fits.wear-length;
-            unworn = not-worn sz wear b (block-vacant sz q.sound.limits b y.b_lt) w;
-          };
+          unworn = not-worn sz wear b (block-vacant sz q.sound.limits b y.b_lt) w;
           pspace-length = q.fits.pspace-length;
           bspace-length = q.fits.bspace-length;
-          faultless = sym k.fault-is ∙ z;
+          faultless = faultless;
           mend-is = k.mend-is;
         }
 
@@ -128,7 +127,7 @@ module _ {sz : Sizes} {d : Directory} {flash codes marks wear pspace bspace : Li
             → StepCarried sz d u ops (step_done b r.reads) seen.mends d' (buffers flash' codes' marks' wear' pspace bspace')
         unfolding step_outcome cut_step memory_of flash_cells
         step-done c = rw (← e) (goes_on (state_in d u) (fault_in sz u (merges_page sz d b f)) (step_outcome sz (state_in d u) (due b f))
-            (sym k.fault-is ∙ z) accepted (rw (w, step_outcome) (record {
+            faultless accepted (rw (w, step_outcome) (record {
               refused-is = refl;
               left_is = c.chip-is;
               whole = λ l. record {

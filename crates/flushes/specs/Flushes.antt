@@ -12,6 +12,7 @@ use Rattle.model.specs.Calls.{Buffers, zero_page, memory_of}
 use Rattle.model.specs.Cut.{cut_step, cut_steps}
 use Rattle.chip.specs.declared.Seen.{Seen}
 use Rattle.chip.specs.Chip.{Lent, fault_on, mends_on, fault_in, mends_in}
+use Rattle.answer.specs.Numbers.{fault_number}
 use Rattle.answer.specs.Carried.{Ready, left_of, CarriedTo}
 
 abbrev pub state_in : Directory → Buffers → State
@@ -47,7 +48,7 @@ pub record LooksAll (sz : Sizes) (d : Directory) (flash codes marks : List ℕ) 
   pub lent : Lent sz flash codes marks
 
 pub record AllLooked (sz : Sizes) (d : Directory) (flash codes marks : List ℕ) (r : Seen) : Type 0 where
-  pub fault-is : r.fault ≡ fault_met sz (fault_on sz flash codes marks) (flush_merges sz d)
+  pub fault-is : fault_number r.fault ≡ fault_met sz (fault_on sz flash codes marks) (flush_merges sz d)
   pub mends-are : r.mends ≡ mends_met sz (mends_on sz flash codes marks) (flush_merges sz d)
 
 -- no block with a page cached is worn, no merge read meets a refusal, and they have these mends

@@ -3,72 +3,48 @@
 #![tactic(auto)]
 
 ghost use Rattle.std.specs.Prelude.{◌≡◌, length};
-ghost use Rattle.cache.specs.View.{sizes_of, numbers};
+ghost use Rattle.cache.specs.View.{sizes_of, directory_of};
+ghost use Rattle.chip.specs.Loan.{IsSameLoan, buffers_of};
 ghost use Rattle.answer.specs.Numbers.{write_of, mends_of_write};
-ghost use Rattle.answer.specs.Carried.{buffers};
+ghost use Rattle.reads.specs.Reads.{Readable, Gave};
 ghost use Rattle.parts.specs.Parts.{PartReady};
 ghost use Rattle.keeping.specs.Keeping.{WriteReady, KeptWrite, KeptPart};
 
 use address::PageNo;
-use answer::Write;
-use cache::Sizes;
+use answer::{Refusal, Write};
+use cache::Directory;
 use chip::Seen;
+use chip::lent::Chip;
+use reads::Answered;
 
 // Writes the page buffer as page n, with at most ops operations of the chip.
 pub fn write(
-    z: Sizes,
-    slots: &mut [u32; 128],
-    frames: &mut [u32; 8],
-    valid: &mut [u64; 8],
-    recency: &mut [u8; 8],
-    uses: &mut [u32; 8],
-    flash: &mut [u8],
-    codes: &mut [u8],
-    marks: &mut [u8],
-    wear: &mut [u32],
+    chip: &mut Chip<'_>,
+    directory: &mut Directory,
     pspace: &mut [u8],
     bspace: &mut [u8],
     n: PageNo,
     page: &[u8],
     kept: &mut [u8],
     ops: u32,
-) -> Write
-    requires { let d = numbers slots.old frames.old valid.old recency.old uses.old in
-        let u = buffers flash.old codes.old marks.old wear.old pspace.old bspace.old in
-        WriteReady (sizes_of z) d u n.0 page.now kept.old }
-    ensures { let d = numbers slots.old frames.old valid.old recency.old uses.old in
-        let u = buffers flash.old codes.old marks.old
-        wear.old pspace.old bspace.old in
-        let d' = numbers slots.new frames.new valid.new recency.new uses.new in
-        let u' = buffers flash.new codes.new marks.new
-        wear.new pspace.new bspace.new in
-        KeptWrite (sizes_of z) d u n.0 page.now ops (write_of result) (mends_of_write result) d' u' kept.new }
+) -> Result<Write, Refusal>
+    requires { let u = buffers_of chip.old pspace.old bspace.old in
+        WriteReady (sizes_of chip.old.sizes) (directory_of directory.old) u n.0 page.now kept.old }
+    ensures loan { IsSameLoan chip.old chip.new }
+    ensures wrote { let u = buffers_of chip.old pspace.old bspace.old in
+        let u' = buffers_of chip.new pspace.new bspace.new in
+        KeptWrite (sizes_of chip.old.sizes) (directory_of directory.old) u n.0 page.now ops (write_of result) (mends_of_write result)
+        (directory_of directory.new) u' kept.new }
 {
-    let given = reads::peek(
-        z, slots, frames, valid, flash, codes, marks, pspace, bspace, n, kept,
-    );
-    let beside = Seen {
-        fault: given.fault,
-        mends: given.mends,
-    };
-    writes::write(
-        z, slots, frames, valid, recency, uses, flash, codes, marks, wear, pspace, bspace, n, page,
-        beside, ops,
-    )
+    let given = keep_page(chip, directory, pspace, bspace, n, kept);
+    let beside = Seen::from(given);
+    writes::write(chip, directory, pspace, bspace, n, page, beside, ops)
 }
 
 // Writes page n with the bytes laid in. The part write reads the page itself, so that it answers for what the read met.
 pub fn part(
-    z: Sizes,
-    slots: &mut [u32; 128],
-    frames: &mut [u32; 8],
-    valid: &mut [u64; 8],
-    recency: &mut [u8; 8],
-    uses: &mut [u32; 8],
-    flash: &mut [u8],
-    codes: &mut [u8],
-    marks: &mut [u8],
-    wear: &mut [u32],
+    chip: &mut Chip<'_>,
+    directory: &mut Directory,
     pspace: &mut [u8],
     bspace: &mut [u8],
     n: PageNo,
@@ -77,24 +53,33 @@ pub fn part(
     page: &mut [u8],
     kept: &mut [u8],
     ops: u32,
-) -> Write
-    requires { let d = numbers slots.old frames.old valid.old recency.old uses.old in
-        let u = buffers flash.old codes.old marks.old wear.old pspace.old bspace.old in
-        PartReady (sizes_of z) d u n.0 first bytes.now page.old × (length kept.old ≡ z.page_size) }
-    ensures { let d = numbers slots.old frames.old valid.old recency.old uses.old in
-        let u = buffers flash.old codes.old marks.old
-        wear.old pspace.old bspace.old in
-        let d' = numbers slots.new frames.new valid.new recency.new uses.new in
-        let u' = buffers flash.new codes.new marks.new
-        wear.new pspace.new bspace.new in
-        KeptPart (sizes_of z) d u n.0 first bytes.now page.old ops (write_of result) (mends_of_write result) d' u'
-        page.new kept.new }
+) -> Result<Write, Refusal>
+    requires { let u = buffers_of chip.old pspace.old bspace.old in
+        PartReady (sizes_of chip.old.sizes) (directory_of directory.old) u n.0 first bytes.now page.old
+        × (length kept.old ≡ chip.old.sizes.page_size) }
+    ensures loan { IsSameLoan chip.old chip.new }
+    ensures wrote { let u = buffers_of chip.old pspace.old bspace.old in
+        let u' = buffers_of chip.new pspace.new bspace.new in
+        KeptPart (sizes_of chip.old.sizes) (directory_of directory.old) u n.0 first bytes.now page.old ops (write_of result)
+        (mends_of_write result) (directory_of directory.new) u' page.new kept.new }
 {
-    let given = reads::peek(
-        z, slots, frames, valid, flash, codes, marks, pspace, bspace, n, kept,
-    );
-    parts::write(
-        z, slots, frames, valid, recency, uses, flash, codes, marks, wear, pspace, bspace, n,
-        first, bytes, page, ops,
-    )
+    keep_page(chip, directory, pspace, bspace, n, kept);
+    parts::write(chip, directory, pspace, bspace, n, first, bytes, page, ops)
+}
+
+// Reads page n, as no use, into the page that keeps it.
+fn keep_page(
+    chip: &Chip<'_>,
+    directory: &Directory,
+    pspace: &[u8],
+    bspace: &[u8],
+    n: PageNo,
+    kept: &mut [u8],
+) -> Answered
+    requires { Readable (sizes_of chip.now.sizes) pspace.now bspace.now n.0 kept.old }
+    ensures { let c = chip.now in
+        Gave (sizes_of c.sizes) (directory_of directory.now) c.flash.now c.codes.now c.marks.now pspace.now bspace.now n.0
+        kept.old result kept.new }
+{
+    reads::peek(chip.view(), directory, pspace, bspace, n, kept).answered
 }

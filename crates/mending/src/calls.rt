@@ -1,11 +1,12 @@
-// One call of a history, and its line.
+// A store with its buffers, and one call of a history with its line.
 use crate::report;
 use address::PageNo;
+use cache::Sizes;
 use std::io;
 use store::Cache;
 
 // What is called, and of which page.
-#[derive(Clone, Copy)]
+#[derive(Clone, Copy, PartialEq, Eq, Debug)]
 pub enum Call {
     Read(u32),
     // the page is filled with 40 and its number
@@ -18,9 +19,9 @@ pub enum Call {
     Flush,
 }
 
-// A call by its letter and the digit of its page.
+// A call by its letter and the digit of its page. Not `From`: two bytes are a call in these histories alone.
 pub fn call_of(letter: u8, digit: u8) -> Call {
-    let n = (digit % 8) as u32;
+    let n = u32::from(digit % 8);
     match letter {
         b'r' => Call::Read(n),
         b'w' => Call::Write(n),
@@ -31,157 +32,128 @@ pub fn call_of(letter: u8, digit: u8) -> Call {
     }
 }
 
-// Makes the call, and says what it answers and what is in the page buffer then, which has bytes 7 at first.
-pub fn make(
-    rt: &impl Print,
-    c: Cache,
-    call: Call,
-    flash: &mut [u8],
-    codes: &mut [u8],
-    wear: &mut [u32],
-    pspace: &mut [u8],
-    bspace: &mut [u8],
-) -> io::Result<Cache> {
-    match call {
-        Call::Read(n) => read(rt, c, n, flash, codes, wear, pspace, bspace),
-        Call::Write(n) => write(rt, c, n, flash, codes, wear, pspace, bspace),
-        Call::Part(n) => part(rt, c, n, b"\x09", flash, codes, wear, pspace, bspace),
-        Call::Nothing(n) => part(rt, c, n, b"", flash, codes, wear, pspace, bspace),
-        Call::Step => step(rt, c, flash, codes, wear, pspace, bspace),
-        Call::Flush => flush(rt, c, flash, codes, wear, pspace, bspace),
+// A coded store of 3 blocks of 2 pages of 256 bytes, with one slot and one frame.
+#[derive(Clone, Copy, PartialEq, Eq, Debug)]
+pub struct Held {
+    cache: Cache,
+    pub flash: [u8; 1536],
+    pub codes: [u8; 18],
+    pub wear: [u32; 3],
+    pspace: [u8; 256],
+    bspace: [u8; 512],
+}
+
+impl Held {
+    // Opens the store on these buffers.
+    pub fn open(sizes: Sizes, flash: [u8; 1536], codes: [u8; 18], wear: [u32; 3]) -> Held {
+        let pspace = [0; 256];
+        let bspace = [0; 512];
+        let opened = Cache::open(sizes, &flash, &codes, &[], &wear, &pspace, &bspace, &[]);
+        Held {
+            cache: opened.cache,
+            flash,
+            codes,
+            wear,
+            pspace,
+            bspace,
+        }
     }
-}
 
-fn read(
-    rt: &impl Print,
-    c: Cache,
-    n: u32,
-    flash: &[u8],
-    codes: &[u8],
-    wear: &[u32],
-    pspace: &[u8],
-    bspace: &[u8],
-) -> io::Result<Cache> {
-    let none = [0u8; 0];
-    let mut page = [7u8; 256];
-    let r = c.read(
-        flash,
-        codes,
-        &none,
-        wear,
-        pspace,
-        bspace,
-        &none,
-        PageNo(n),
-        &mut page,
-    );
-    let next = r.cache;
-    let answer = r.answer;
-    report::answer(rt, b"read", n, replies::of_read(answer))?;
-    report::page(rt, &page)?;
-    Ok(next)
-}
+    // Makes the call, and says what it answers and what is in the page buffer then, which has bytes 7 at first.
+    pub fn make(&mut self, rt: &impl Print, call: Call) -> io::Result<()> {
+        match call {
+            Call::Read(n) => self.read(rt, n),
+            Call::Write(n) => self.write(rt, n),
+            Call::Part(n) => self.part(rt, n, b"\x09"),
+            Call::Nothing(n) => self.part(rt, n, b""),
+            Call::Step => self.step(rt),
+            Call::Flush => self.flush(rt),
+        }
+    }
 
-fn write(
-    rt: &impl Print,
-    c: Cache,
-    n: u32,
-    flash: &mut [u8],
-    codes: &mut [u8],
-    wear: &mut [u32],
-    pspace: &mut [u8],
-    bspace: &mut [u8],
-) -> io::Result<Cache> {
-    let mut none = [0u8; 0];
-    let mut shelf = [0u8; 0];
-    let b = (40 + n % 8) as u8;
-    let page = [b; 256];
-    let r = c.write(
-        flash,
-        codes,
-        &mut none,
-        wear,
-        pspace,
-        bspace,
-        &mut shelf,
-        PageNo(n),
-        &page,
-    );
-    let next = r.cache;
-    let answer = r.answer;
-    report::answer(rt, b"write", n, replies::of_write(answer))?;
-    report::page(rt, &page)?;
-    Ok(next)
-}
+    fn read(&mut self, rt: &impl Print, n: u32) -> io::Result<()> {
+        let mut page = [7u8; 256];
+        let out = self.cache.read(
+            &self.flash,
+            &self.codes,
+            &[],
+            &self.wear,
+            &self.pspace,
+            &self.bspace,
+            &[],
+            PageNo(n),
+            &mut page,
+        );
+        self.cache = out.cache;
+        report::answer(rt, "read", n, out.answer.into())?;
+        report::page(rt, &page)
+    }
 
-fn part(
-    rt: &impl Print,
-    c: Cache,
-    n: u32,
-    bytes: &[u8],
-    flash: &mut [u8],
-    codes: &mut [u8],
-    wear: &mut [u32],
-    pspace: &mut [u8],
-    bspace: &mut [u8],
-) -> io::Result<Cache> {
-    let mut none = [0u8; 0];
-    let mut shelf = [0u8; 0];
-    let mut page = [7u8; 256];
-    let r = c.write_part(
-        flash,
-        codes,
-        &mut none,
-        wear,
-        pspace,
-        bspace,
-        &mut shelf,
-        PageNo(n),
-        3,
-        bytes,
-        &mut page,
-    );
-    let next = r.cache;
-    let answer = r.answer;
-    report::answer(rt, b"part", n, replies::of_write(answer))?;
-    report::page(rt, &page)?;
-    Ok(next)
-}
+    fn write(&mut self, rt: &impl Print, n: u32) -> io::Result<()> {
+        let page = [(40 + n % 8) as u8; 256];
+        let out = self.cache.write(
+            &mut self.flash,
+            &mut self.codes,
+            &mut [],
+            &mut self.wear,
+            &mut self.pspace,
+            &mut self.bspace,
+            &mut [],
+            PageNo(n),
+            &page,
+        );
+        self.cache = out.cache;
+        report::answer(rt, "write", n, out.answer.into())?;
+        report::page(rt, &page)
+    }
 
-fn step(
-    rt: &impl Print,
-    c: Cache,
-    flash: &mut [u8],
-    codes: &mut [u8],
-    wear: &mut [u32],
-    pspace: &[u8],
-    bspace: &mut [u8],
-) -> io::Result<Cache> {
-    let mut none = [0u8; 0];
-    let shelf = [0u8; 0];
-    let r = c.flush_step(flash, codes, &mut none, wear, pspace, bspace, &shelf);
-    let next = r.cache;
-    let answer = r.answer;
-    report::answer(rt, b"step", 0, replies::of_step(answer))?;
-    report::end(rt)?;
-    Ok(next)
-}
+    fn part(&mut self, rt: &impl Print, n: u32, bytes: &[u8]) -> io::Result<()> {
+        let mut page = [7u8; 256];
+        let out = self.cache.write_part(
+            &mut self.flash,
+            &mut self.codes,
+            &mut [],
+            &mut self.wear,
+            &mut self.pspace,
+            &mut self.bspace,
+            &mut [],
+            PageNo(n),
+            3,
+            bytes,
+            &mut page,
+        );
+        self.cache = out.cache;
+        report::answer(rt, "part", n, out.answer.into())?;
+        report::page(rt, &page)
+    }
 
-fn flush(
-    rt: &impl Print,
-    c: Cache,
-    flash: &mut [u8],
-    codes: &mut [u8],
-    wear: &mut [u32],
-    pspace: &[u8],
-    bspace: &mut [u8],
-) -> io::Result<Cache> {
-    let mut none = [0u8; 0];
-    let shelf = [0u8; 0];
-    let r = c.flush(flash, codes, &mut none, wear, pspace, bspace, &shelf);
-    let next = r.cache;
-    let answer = r.answer;
-    report::answer(rt, b"flush", 0, replies::of_flush(answer))?;
-    report::end(rt)?;
-    Ok(next)
+    fn step(&mut self, rt: &impl Print) -> io::Result<()> {
+        let out = self.cache.flush_step(
+            &mut self.flash,
+            &mut self.codes,
+            &mut [],
+            &mut self.wear,
+            &self.pspace,
+            &mut self.bspace,
+            &[],
+        );
+        self.cache = out.cache;
+        report::answer(rt, "step", 0, out.answer.into())?;
+        report::end(rt)
+    }
+
+    fn flush(&mut self, rt: &impl Print) -> io::Result<()> {
+        let out = self.cache.flush(
+            &mut self.flash,
+            &mut self.codes,
+            &mut [],
+            &mut self.wear,
+            &self.pspace,
+            &mut self.bspace,
+            &[],
+        );
+        self.cache = out.cache;
+        report::answer(rt, "flush", 0, out.answer.into())?;
+        report::end(rt)
+    }
 }

@@ -2,78 +2,44 @@
 // stands in flash at the end. What must come out is worked out by another program from the words of requests A6 and A7 (tools/coded-rows).
 #![tactic(auto)]
 
-mod calls; // calls.rt: one call, and its line
+mod calls; // calls.rt: a store with its buffers, and one call with its line
 mod report; // report.rt: the lines
 
-ghost use Rattle.std.specs.Prelude.{◌≤◌, length};
-
 use cache::Sizes;
+use calls::Held;
 use std::io;
-use store::Cache;
 
 fn main(rt: HostRuntime) -> io::Result<()> {
-    history(&rt, b"reads", 0, b"r0 r1 r2 r3 r4 r5 ")?;
-    history(&rt, b"way 7 mends", 0, b"w0 w5 w2 r1 ")?;
-    history(&rt, b"a page counts once", 0, b"w0 w5 p1 p3 ")?;
-    history(&rt, b"two pages count", 0, b"w0 w5 p3 ")?;
+    history(&rt, "reads", 0, b"r0 r1 r2 r3 r4 r5 ")?;
+    history(&rt, "way 7 mends", 0, b"w0 w5 w2 r1 ")?;
+    history(&rt, "a page counts once", 0, b"w0 w5 p1 p3 ")?;
+    history(&rt, "two pages count", 0, b"w0 w5 p3 ")?;
     history(
         &rt,
-        b"page 4 is unreadable",
+        "page 4 is unreadable",
         0,
         b"w5 s  w1 w0 f  p4 n4 w4 f  ",
     )?;
-    history(&rt, b"its block is worn", 9, b"w5 s  w0 w2 f  ")?;
-    history(&rt, b"a flush mends", 0, b"w0 w2 f  f  ")
+    history(&rt, "its block is worn", 9, b"w5 s  w0 w2 f  ")?;
+    history(&rt, "a flush mends", 0, b"w0 w2 f  f  ")
 }
 
-// Opens a store of 3 blocks of 2 pages of 256 bytes, with one slot and one frame, and makes the calls of a history: three bytes each, of
-// which the first says what is called, and the second is the page number.
-fn history(rt: &impl Print, name: &[u8], worn: u32, text: &[u8]) -> io::Result<()>
-    requires { length text.now ≤ 99 }
-{
-    report::heading(rt, name)?;
-    let mut flash = flipped();
+// Opens a store whose last block has this wear, and makes the calls of a history: three bytes each, of which the first says what is
+// called, and the second is the page number.
+fn history(rt: &impl Print, name: &str, worn: u32, text: &[u8]) -> io::Result<()> {
+    println!(rt; "{name}:")?;
     let mut codes = [255u8; 18];
     codes[3] = 166;
     codes[4] = 89;
     codes[5] = 218;
     codes[9] = 223;
-    let mut wear = [0u32; 3];
-    wear[2] = worn;
-    let mut pspace = [0u8; 256];
-    let mut bspace = [0u8; 512];
-    let none = [0u8; 0];
-    let o = Cache::open(
-        sizes(),
-        &flash,
-        &codes,
-        &none,
-        &wear,
-        &pspace,
-        &bspace,
-        &none,
-    );
-    let mut c = o.cache;
-    let m = text.len() / 3;
-    let mut i = 0;
-    while i < m {
-        let at = 3 * i;
-        let call = calls::call_of(text[at], text[at + 1]);
-        c = calls::make(
-            rt,
-            c,
-            call,
-            &mut flash,
-            &mut codes,
-            &mut wear,
-            &mut pspace,
-            &mut bspace,
-        )?;
-        i += 1;
+    let mut held = Held::open(sizes(), flipped(), codes, [0, 0, worn]);
+    for call in text.chunks_exact(3) {
+        held.make(rt, calls::call_of(call[0], call[1]))?;
     }
-    report::flash(rt, &flash)?;
-    report::codes(rt, &codes)?;
-    report::wear(rt, &wear)
+    report::flash(rt, &held.flash)?;
+    report::codes(rt, &held.codes)?;
+    report::wear(rt, held.wear)
 }
 
 // Pages of one byte each, but for a bit of page 1. A data bit of page 1 is flipped, and two of page 4; the code of page 3 has one.

@@ -1,17 +1,9 @@
 // The lines that the program writes.
-ghost use Rattle.std.specs.Prelude.{◌≡◌, length};
-
 use replies::Answer;
 use std::io;
 
-// A line before a history.
-pub fn heading(rt: &impl Print, name: &[u8]) -> io::Result<()> {
-    rt.write_all(name)?;
-    println!(rt; ":")
-}
-
 // What a call answers.
-pub fn answer(rt: &impl Print, name: &[u8], n: u32, a: Answer) -> io::Result<()> {
+pub fn answer(rt: &impl Print, name: &str, n: u32, a: Answer) -> io::Result<()> {
     let Answer {
         refusal,
         way,
@@ -21,61 +13,44 @@ pub fn answer(rt: &impl Print, name: &[u8], n: u32, a: Answer) -> io::Result<()>
         mended,
         torn: _,
     } = a;
-    rt.write_all(name)?;
-    print!(rt; " {n}: refusal {refusal}, way {way}, block {block}")?;
+    print!(rt; "{name} {n}: refusal {refusal}, way {way}, block {block}")?;
     print!(rt; ", rewrites {rewrites}, merged {merged}, mended {mended}")
 }
 
 // A page by its last byte, and each byte that is another; and the end of the line.
-pub fn page(rt: &impl Print, p: &[u8]) -> io::Result<()>
-    requires { length p.now ≡ 256 }
-{
-    let last = p[255];
+pub fn page(rt: &impl Print, p: &[u8]) -> io::Result<()> {
+    let Some(last) = p.last() else {
+        return end(rt);
+    };
     print!(rt; ", page of {last}")?;
-    let mut i = 0;
-    while i < 256 {
-        let x = p[i];
+    for (i, x) in p.iter().enumerate() {
         if x != last {
             print!(rt; ", byte {i} {x}")?;
         }
-        i += 1;
     }
     end(rt)
 }
 
 // The pages of flash.
-pub fn flash(rt: &impl Print, f: &[u8]) -> io::Result<()>
-    requires { length f.now ≡ 1536 }
-{
-    let mut n = 0;
-    while n < 6 {
-        let a = n * 256;
-        let e = a + 256;
+pub fn flash(rt: &impl Print, f: &[u8; 1536]) -> io::Result<()> {
+    for (n, p) in f.chunks_exact(256).enumerate() {
         print!(rt; "flash {n}")?;
-        page(rt, &f[a..e])?;
-        n += 1;
+        page(rt, p)?;
     }
     Ok(())
 }
 
 // The codes, three bytes a page.
-pub fn codes(rt: &impl Print, c: &[u8]) -> io::Result<()>
-    requires { length c.now ≡ 18 }
-{
+pub fn codes(rt: &impl Print, c: &[u8; 18]) -> io::Result<()> {
     print!(rt; "codes")?;
-    let mut i = 0;
-    while i < 18 {
-        let x = c[i];
+    for x in c {
         print!(rt; " {x}")?;
-        i += 1;
     }
     end(rt)
 }
 
-pub fn wear(rt: &impl Print, w: &[u32]) -> io::Result<()>
-    requires { length w.now ≡ 3 }
-{
-    let (first, second, third) = (w[0], w[1], w[2]);
+pub fn wear(rt: &impl Print, w: [u32; 3]) -> io::Result<()> {
+    let [first, second, third] = w;
     println!(rt; "wear {first} {second} {third}")
 }
 

@@ -7,6 +7,7 @@ use Rattle.model.specs.Formats.{store_format, chip_for}
 use Rattle.model.specs.Calls.{Answer, is_refused, reads_page, combined, Page, Buffers, zero_page, memory_of}
 use Rattle.chip.specs.declared.Seen.{Seen}
 use Rattle.reads.specs.Reads.{pages, fault_read, mends_read}
+use Rattle.answer.specs.Numbers.{fault_number}
 use Rattle.answer.specs.Carried.{Ready}
 use Rattle.writes.specs.Writes.{WroteWith}
 
@@ -24,9 +25,10 @@ combined_of sz d u n first x = combined (chip_for sz) (zero_page sz) sz d (memor
 -- page n was read as no use, with what was met there, and the bytes laid in; where the read is refused the page is of no use
 pub record Combined (sz : Sizes) (d : Directory) (flash codes marks pspace bspace : List ℕ) (n first : ℕ) (x : Page) (r : Seen)
     (whole : Page) : Type 0 where
-  pub fault-is : r.fault ≡ fault_read sz d flash codes marks n
+  pub fault-is : fault_number r.fault ≡ fault_read sz d flash codes marks n
   pub mends-are : r.mends ≡ mends_read sz d flash codes marks n
-  pub whole_is : r.fault ≡ 0 → whole ≡ combined (chip_for sz) (zero_page sz) sz d (pages sz flash codes marks pspace bspace) n first x
+  pub whole_is : fault_number r.fault ≡ 0
+      → whole ≡ combined (chip_for sz) (zero_page sz) sz d (pages sz flash codes marks pspace bspace) n first x
 
 -- the combined page was written, page n being read besides, and the page buffer has it where the write is accepted
 pub record PartWrote (sz : Sizes) (d : Directory) (u : Buffers) (n first : ℕ) (x page : Page) (ops : ℕ) (answer : Answer) (mended : ℕ)

@@ -12,8 +12,7 @@ use Rattle.wear.proofs.Wearing.{figures_of, stays-accepted_rule, report_changes_
 use Rattle.store.specs.declared.Cache.{Cache}
 use Rattle.store.specs.View.{Lent, store_of}
 use Rattle.store.specs.Histories.{Made, read, write, part, step, flush, back, call_of, cache_after, lent_after, result_of, Contract}
-use Rattle.report.specs.declared.ReportOut.{ReportOut}
-use Rattle.report.specs.Contract.{reported_of, ReportContract, StaysAccepted, ReportChanges, ReportStays}
+use Rattle.report.specs.Contract.{ReportOut, reported_of, ReportContract, StaysAccepted, ReportChanges, ReportStays}
 
 -- the store that a call leaves
 after_is : (u : Lent) (m : Made) → store_of (cache_after m) (lent_after u m) ≡ (result_of u m).store

@@ -1,16 +1,24 @@
 -- The report by its checks.
-use mathlib.Core.Path.{◌≡◌, refl}
+use mathlib.Core.Path.{◌≡◌, refl, ap}
 use mathlib.Core.Bool.{true, false}
 use lib.ListN.{length}
+use Rattle.std.specs.Prelude.{Option, Some, None, ok_or}
 use Rattle.prelude.proofs.Tests.{by-test, and-not_l, and_r}
 use Rattle.model.specs.Sizes.{Sizes}
 use Rattle.model.specs.Soundness.{sound}
 use Rattle.model.specs.Calls.{lent_ok}
 use Rattle.model.specs.Formats.{store_format}
 use Rattle.model.specs.Shelf.{ShelfStore, shelf_ok, shelf_fits}
+use Rattle.answer.specs.declared.Refusal.TheVariants as refusals
+use Rattle.wear.specs.declared.Figures.{Figures}
 use Rattle.wear.specs.Figures.{in_limit, measured}
 use Rattle.wear.specs.Report.{turned_down, record_ok, buffers_ok, reported}
-use Rattle.report.specs.Contract.{measured_as}
+use Rattle.report.specs.Contract.{reported_of, measured_as}
+
+-- no figures are refusal 3
+pub measured-as : (m m' : Option Figures) → m ≡ m' → reported_of (ok_or m refusals.Overworn) ≡ measured_as m'
+measured-as (Some f) m' e = ap measured_as e
+measured-as None m' e = ap measured_as e
 
 module _ (s : ShelfStore) where
   abbrev sz : Sizes

@@ -1,18 +1,16 @@
 -- The contract of a report, and reports before and after a call of the code.
-use Rattle.std.specs.Prelude.{◌≡◌, ◌⊎◌, ℕ}
+use Rattle.std.specs.Prelude.{◌≡◌, ◌⊎◌, ℕ, Option, Some, None, Result, Ok, Err}
 use Rattle.model.specs.Calls.{Answer, open_done, read_done, write_done, step_done, step_clean, flush_done, refused}
+use Rattle.answer.specs.declared.Refusal.{Refusal}
 use Rattle.answer.specs.Numbers.{refusal_of}
 use Rattle.wear.specs.Figures.{wear_at, total, largest, spread}
 use Rattle.wear.specs.Report.{Reported, figures, turned_down, reported}
 use Rattle.wear.specs.Wearing.{ErasedOnceMore}
-use Rattle.wear.specs.declared.Measured.{Measured}
-use Rattle.wear.specs.declared.Measured.TheVariants as measures
+use Rattle.wear.specs.declared.Figures.{Figures}
 use Rattle.store.specs.declared.Cache.{Cache}
+use Rattle.store.specs.declared.Out.{Out}
 use Rattle.store.specs.View.{Lent, store_of}
 use Rattle.store.specs.Histories.{Made, cache_after, lent_after, result_of, Contract}
-use Rattle.report.specs.declared.Report.{Report}
-use Rattle.report.specs.declared.Report.TheVariants as reports
-use Rattle.report.specs.declared.ReportOut.{ReportOut}
 
 -- the number of a refusal, 0 for any other answer
 abbrev pub number_in : Answer → ℕ
@@ -24,15 +22,19 @@ number_in step_clean = 0
 number_in (flush_done r m) = 0
 number_in (refused n b) = n
 
+-- what a report hands back
+abbrev pub ReportOut : Type 0
+ReportOut = Out (Result Figures Refusal)
+
 -- the figures, or document 01's number of the refusal
-abbrev pub reported_of : Report → Reported
-reported_of (reports.Done total largest spread) = figures total largest spread
-reported_of (reports.Refused why) = turned_down (number_in (refusal_of why))
+abbrev pub reported_of : Result Figures Refusal → Reported
+reported_of (Ok f) = figures f.total f.largest f.spread
+reported_of (Err why) = turned_down (number_in (refusal_of why))
 
 -- the figures of a list of wear as a report has them
-abbrev pub measured_as : Measured → Reported
-measured_as (measures.Figures total largest spread) = figures total largest spread
-measured_as measures.Overworn = turned_down 3
+abbrev pub measured_as : Option Figures → Reported
+measured_as (Some f) = figures f.total f.largest f.spread
+measured_as None = turned_down 3
 
 -- A report on record c and buffers u answers as the definition says, and hands the record back as it was; that no buffer changes is said by
 -- its parameters, which are lent to be read.

@@ -8,12 +8,10 @@ use Rattle.cache.specs.View.{sizes_of}
 use Rattle.wear.specs.Figures.{total, largest, spread}
 use Rattle.wear.specs.Report.{figures}
 use Rattle.store.specs.declared.Cache.{Cache}
-use Rattle.store.specs.declared.Opened.{Opened}
-use Rattle.store.specs.View.{Lent, opened_of}
+use Rattle.store.specs.View.{Opened, Lent, opened_of}
 use Rattle.store.specs.Histories.{cache_after, lent_after, Contract, Turn, flipped_to, lent_to, fed_by, StillNear, Claim, OpeningContract}
 use Rattle.store.specs.Histories.{CodesMatch, begun}
-use Rattle.report.specs.declared.ReportOut.{ReportOut}
-use Rattle.report.specs.Contract.{reported_of, ReportContract}
+use Rattle.report.specs.Contract.{ReportOut, reported_of, ReportContract}
 
 -- a call of the store; or a report, before which bits of flash and codes may have flipped: flash and codes as it finds them
 pub data Item : Type 0 where

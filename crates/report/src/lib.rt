@@ -3,32 +3,20 @@
 
 ghost use Rattle.std.specs.Prelude.{◌≡◌};
 ghost use Rattle.wear.specs.Report.{reported};
+ghost use Rattle.lent.specs.Loan.{buffers_seen};
 ghost use Rattle.store.specs.View.{lent, store_of};
-ghost use Rattle.report.specs.Contract.{reported_of, measured_as, ReportContract};
+ghost use Rattle.report.specs.Contract.{reported_of, ReportContract};
 
 use answer::Refusal;
-use store::Cache;
-use wear::Measured;
+use lent::LentView;
+use store::{Cache, Out};
+use wear::Figures;
 
-// What a report answers: the total, the largest and the spread of the wear.
-#[derive(Clone, Copy)]
-pub enum Report {
-    Done {
-        total: u64,
-        largest: u32,
-        spread: u64,
-    },
-    Refused(Refusal),
-}
+// The record handed back, as it was taken, and the answer: the total, the largest and the spread of the wear.
+pub type ReportOut = Out<Result<Figures, Refusal>>;
 
-// The record handed back, as it was taken, and the answer.
-#[derive(Clone, Copy)]
-pub struct ReportOut {
-    pub cache: Cache,
-    pub answer: Report,
-}
-
-// Reports the wear in whole figures. All of the store's buffers are lent; none is changed.
+// Reports the wear in whole figures. All of the store's buffers are lent; none is changed. They are lent one by one, as the calls of the
+// store take them, since C hands them on so.
 pub fn wear_report(
     c: Cache,
     flash: &[u8],
@@ -43,65 +31,28 @@ pub fn wear_report(
         wear.now pspace.now bspace.now shelf.now in
         ReportContract c u result }
 {
-    let answer = judge(c, flash, codes, marks, wear, pspace, bspace, shelf);
+    let lent = LentView {
+        flash,
+        codes,
+        marks,
+        wear,
+        pspace,
+        bspace,
+    };
+    let answer = judge(&c, lent, shelf);
     ReportOut { cache: c, answer }
 }
 
 // The checks in their order, 4, 2 and 3, and the figures.
-fn judge(
-    c: Cache,
-    flash: &[u8],
-    codes: &[u8],
-    marks: &[u8],
-    wear: &[u32],
-    pspace: &[u8],
-    bspace: &[u8],
-    shelf: &[u8],
-) -> Report
-    ensures { let u = lent flash.now codes.now marks.now
-        wear.now pspace.now bspace.now shelf.now in
-        reported_of result ≡ reported (store_of c u) }
+fn judge(c: &Cache, lent: LentView<'_>, shelf: &[u8]) -> Result<Figures, Refusal>
+    ensures { reported_of result ≡ reported (store_of c.now (record { below = buffers_seen lent.entry; shelf = shelf.now })) }
 {
     let z = c.sizes;
-    let d = c.directory;
-    let entries = c.entries;
-    if !sound::directory_sound(d, z) {
-        return Report::Refused(Refusal::Record);
+    if !sound::directory_sound(z, &c.directory) || !shelf::sound(z, &c.entries) {
+        return Err(Refusal::Record);
     }
-    if !shelf::sound(z, &entries) {
-        return Report::Refused(Refusal::Record);
+    if !lent.fits(z) || !shelf::fitting(z, &c.entries, shelf.len()) {
+        return Err(Refusal::Buffer);
     }
-    if !lent::lengths_ok(
-        z,
-        flash.len(),
-        codes.len(),
-        marks.len(),
-        wear.len(),
-        pspace.len(),
-        bspace.len(),
-    ) {
-        return Report::Refused(Refusal::Buffer);
-    }
-    if !shelf::fitting(z, &entries, shelf.len()) {
-        return Report::Refused(Refusal::Buffer);
-    }
-    answered(wear::measure(wear, z.wear_limit))
-}
-
-// The figures as the call answers them, with refusal 3 where an entry is above the limit.
-fn answered(m: Measured) -> Report
-    ensures { reported_of result ≡ measured_as m }
-{
-    match m {
-        Measured::Figures {
-            total,
-            largest,
-            spread,
-        } => Report::Done {
-            total,
-            largest,
-            spread,
-        },
-        Measured::Overworn => Report::Refused(Refusal::Overworn),
-    }
+    wear::measure(lent.wear, z.wear_limit).ok_or(Refusal::Overworn)
 }

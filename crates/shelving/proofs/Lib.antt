@@ -1,2 +1,1 @@
 pub mod OnLists
-pub mod Early

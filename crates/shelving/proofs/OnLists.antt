@@ -1,4 +1,4 @@
--- From a call on the directory's lists, without entries and a shelf, to one with them. The laws that end in `-is` are of the whole call;
+-- From a call on a directory, without entries and a shelf, to one with them. The laws that end in `-is` are of the whole call;
 -- those beside them are of one that may do so many operations of the chip.
 use mathlib.Core.Path.{◌≡◌, refl, sym, ap, ◌∙◌, subst}
 use mathlib.Core.Logic.{◌≢◌}
@@ -10,7 +10,7 @@ use lib.Dec.{ltb, eqb}
 use lib.ListN.{length, get_or, set}
 use borrow.Author.Tests.{eqb-true, eqb-false, eq-eqb, ne_eqb, lt-ltb, ltb-true, ltb-false, leb-true}
 use Rattle.prelude.specs.Pages.{page_at, pages_of, flat}
-use Rattle.prelude.proofs.Tests.{by-test, clash, and_l, and_r, each}
+use Rattle.prelude.proofs.Tests.{by-test, clash, and_i, and_l, and_r, each}
 use Rattle.prelude.proofs.Scan.{first-le, all-at}
 use Rattle.prelude.proofs.Pages.{in_run, flat-pages, page-at}
 use Rattle.model.specs.Directory.{Directory}
@@ -18,7 +18,7 @@ use Rattle.model.specs.Sizes.{vacant}
 use Rattle.model.specs.Soundness.{sound}
 use Rattle.model.specs.Policy.{policy_choice}
 use Rattle.model.specs.Formats.{store_format}
-use Rattle.model.specs.Calls.{Answer, refused, is_refused, Call, write, reads_page, no_bytes, Page}
+use Rattle.model.specs.Calls.{Answer, refused, is_refused, Call, write, step, reads_page, no_bytes, Page}
 use Rattle.model.specs.Calls.{Buffers, Store, Result, lent_ok, call_reading, call, page_seen}
 use Rattle.model.specs.Shelf.{shelved, shelve, shelf_ok, shelf_fits, ShelfCall, plainly, back, is_back, shelves, ShelfStore, ShelfResult}
 use Rattle.model.specs.Shelf.{shelving_reads, lent_to, ordinary, store_call}
@@ -31,8 +31,10 @@ use Rattle.cache.specs.declared.Sizes as sizes
 use Rattle.cache.specs.View.{sizes_of}
 use Rattle.answer.specs.declared.Refusal.{Refusal}
 use Rattle.answer.specs.Numbers.{refusal_of}
-use Rattle.checked.specs.Lists.{store_with, result_with, CalledTo, Keeping, KeepingTo}
-use Rattle.checked.proofs.Carrying.{operations-few}
+use Rattle.answer.proofs.Refusals.{why_refused}
+use Rattle.checked.specs.Called.{store_with, result_with, CalledTo, Keeping, KeepingTo}
+use Rattle.checked.specs.Checks.{TurnedDown}
+use Rattle.checked.proofs.Carrying.{reading-record, reading-buffer, turned-to}
 use Rattle.checked.proofs.Keeping.{keeping_whole}
 use Rattle.shelf.specs.Shelf.{Room, Kept}
 use Rattle.shelving.specs.Shelving.{store_on, result_on, ShelvedTo}
@@ -41,10 +43,6 @@ use Rattle.shelving.specs.Shelving.{store_on, result_on, ShelvedTo}
 used-few : (es : List ℕ) → shelved es ≤ 8
 unfolding shelved
 used-few es = first-le 8 _
-
--- more operations than any call has
-pub uncut : (s : ShelfStore) (c : ShelfCall) (r : ShelfResult) → ShelvedTo 4294967295 s c r → r ≡ store_call policy_choice s c
-uncut s c r h = h.whole (λ l. operations-few s.store.cache.sizes l (meant_by s c))
 
 -- nothing is changed by a refused call
 stays : (ops : ℕ) (s : ShelfStore) (c : ShelfCall) → is_refused (store_call policy_choice s c).answer ≡ true
@@ -65,16 +63,47 @@ quiet h n e = rw e (and-f (ltb 0 h))
 pub pageless : (h n : ℕ) → h ≡ 0 → (ltb 0 h && ltb n vacant) ≡ false
 pageless h n e = rw e
 
--- the test that a number is not 0
-pub some_of : {n : ℕ} → not (eqb n 0) ≡ true → n ≢ 0
-some_of {n} t e = clash t (ap (λ (m : ℕ). not (eqb m 0)) e)
-
 -- a part write shelves nothing where there is no shelf page, or no byte
 pub part-quiet : (h n : ℕ) (x : Page) → (not (eqb h 0) && not (eqb (length x) 0)) ≡ false
     → (ltb 0 h && ltb (cond (no_bytes x) vacant n) vacant) ≡ false
 part-quiet h n x e = by-test (eqb h 0) (λ t. pageless h (cond (no_bytes x) vacant n) (eqb-true h 0 t)) (λ t. by-test (eqb
     (length x) 0) (λ b. rw b (and-f (ltb 0 h)))
     (λ b. absurd (clash (rw (t, b)) e)))
+
+-- entries and a shelf that fit
+module _ (z : sizes.Sizes) (es sb : List ℕ) (ok : shelf_fits (sizes_of z) z.shelf_pages es (length sb) ≡ true) where
+  shelf-long : length sb ≡ z.shelf_pages * z.page_size
+  shelf-long = eqb-true _ _ (and_r (shelf_ok (sizes_of z) z.shelf_pages es) _ ok)
+
+  few : shelved es ≤ z.shelf_pages
+  unfolding shelf_ok
+  few = leb-true _ _ (each _ (and_l (shelf_ok (sizes_of z) z.shelf_pages es) _ ok)).1.0
+
+  entries-long : length es ≡ 8
+  unfolding shelf_ok
+  entries-long = eqb-true _ _ (each _ (and_l (shelf_ok (sizes_of z) z.shelf_pages es) _ ok)).0
+
+  -- of which k are in use, and some
+  module _ (k : ℕ) (e : k ≡ shelved es) (some : k ≢ 0) where
+    latest-lt : k - 1 < z.shelf_pages
+    latest-lt = let f = few in omega arith
+
+    -- the latest shelved page is on the shelf
+    pub latest-page : (k - 1) * z.page_size + z.page_size ≤ length sb
+    latest-page = in_run z.page_size z.shelf_pages sb shelf-long latest-lt
+
+    pub latest-small : k - 1 < 8
+    latest-small = let f = used-few es in omega arith
+
+    -- and is a page of the chip
+    pub latest-there : get_or es (k - 1) 0 < z.blocks * z.pages_per_block
+    unfolding shelf_ok
+    latest-there =
+        let l = latest-small in
+        let q = entries-long in
+        let i : k - 1 < shelved es = omega arith in
+        let each-entry = all-at 8 _ (each _ (and_l (shelf_ok (sizes_of z) z.shelf_pages es) _ ok)).1.1.0 (k - 1) l in
+        rw (get_d_any es (k - 1) 0 vacant (omega arith)) (ltb-true _ _ (rw (lt-ltb (k - 1) (shelved es) i) at each-entry))
 
 module _ (z : sizes.Sizes) (d : Directory) (es : List ℕ) (u : Buffers) (sb : List ℕ) where
   abbrev s : ShelfStore
@@ -158,32 +187,19 @@ module _ (z : sizes.Sizes) (d : Directory) (es : List ℕ) (u : Buffers) (sb : L
       cut = plain-cut ops (plainly c) q refl (result_with a mends z d' u' page) h;
     }
 
-    shelf-long : length sb ≡ z.shelf_pages * z.page_size
-    shelf-long = eqb-true _ _ (and_r (shelf_ok (sizes_of z) z.shelf_pages es) _ ok)
-
-    few : shelved es ≤ z.shelf_pages
-    unfolding shelf_ok
-    few = leb-true _ _ (each _ (and_l (shelf_ok (sizes_of z) z.shelf_pages es) _ ok)).1.0
-
-    entries-long : length es ≡ 8
-    unfolding shelf_ok
-    entries-long = eqb-true _ _ (each _ (and_l (shelf_ok (sizes_of z) z.shelf_pages es) _ ok)).0
-
     module _ (some : z.shelf_pages ≢ 0) (n : ℕ) (c : Call Page) (is : shelves (plainly c) ≡ n) (a : Answer) (mends : ℕ) (d' : Directory)
-        (page : Page) (kept : List ℕ) (long : length kept ≡ 2048) where
+        (page : Page) (kept : List ℕ) where
       positive : 0 < z.shelf_pages
-      positive = by-test (ltb 0 z.shelf_pages) (λ t. ltb-true _ _ t) (λ t. let q = ltb-false 0 z.shelf_pages t in
-          absurd (some (omega arith)))
+      positive = omega arith
 
       -- what the shelf asks of an accepted write
-      pub room-on : (ops : ℕ) (u' : Buffers) → KeepingTo ops z d u n c (result_with a mends z d' u' page) kept → is_refused a ≡ false
-          → Room (sizes_of z) es sb kept
-      room-on ops u' k e = record {
+      pub room-on : (ops : ℕ) (u' : Buffers) → KeepingTo ops z d u n c (result_with a mends z d' u' page) kept → length kept ≡ 2048
+          → is_refused a ≡ false → Room (sizes_of z) es sb kept
+      room-on ops u' k long e = record {
         limits = (sound-facts (sizes_of z) d (k.accepted e).0).limits;
         some = positive;
-        entries-length = entries-long;
-        few = few;
-        shelf-length = shelf-long;
+        few = few z es sb ok;
+        shelf-length = shelf-long z es sb ok;
         earlier-length = long;
       }
 
@@ -219,8 +235,8 @@ module _ (z : sizes.Sizes) (d : Directory) (es : List ℕ) (u : Buffers) (sb : L
             let down : is_refused a ≡ true = by-test (is_refused a) (λ e. e) (λ e. let f = k.accepted e in
             let l = pages-small (sizes_of z) (sound-facts (sizes_of z) d f.0).limits in let q = f.1 in absurd (omega arith)) in
             let entries : es' ≡ es = p.entries-are ∙ rw down in
-            let shelf : sb' ≡ sb = sym (flat-pages z.page_size h sb' (same ∙ shelf-long))
-            ∙ ap flat (p.pages-are ∙ rw down) ∙ flat-pages z.page_size h sb shelf-long in
+            let shelf : sb' ≡ sb = sym (flat-pages z.page_size h sb' (same ∙ shelf-long z es sb ok))
+            ∙ ap flat (p.pages-are ∙ rw down) ∙ flat-pages z.page_size h sb (shelf-long z es sb ok) in
             ap (λ (l : List ℕ). result_on a mends z d' l u' sb' page) entries
             ∙ plainly-is c (ap (λ (m : ℕ). ltb 0 h && ltb m vacant) is ∙ rw t (and-f (ltb 0 h))) a mends d' u' sb' page shelf
             (k.result_is (λ i. false) (λ x l i. let v = pages-small (sizes_of z) (sound-facts (sizes_of z) d x).limits in
@@ -267,34 +283,14 @@ module _ (z : sizes.Sizes) (d : Directory) (es : List ℕ) (u : Buffers) (sb : L
     }
 
     module _ (k : ℕ) (e : k ≡ shelved es) (some : k ≢ 0) where
-      latest-lt : k - 1 < z.shelf_pages
-      latest-lt = let f = few in by-test (eqb k 0) (λ t. absurd (some (eqb-true k 0 t))) (λ t. let q = eqb-false k 0 t in omega arith)
-
-      -- the latest shelved page is on the shelf
-      pub latest-page : (k - 1) * z.page_size + z.page_size ≤ length sb
-      latest-page = in_run z.page_size z.shelf_pages sb shelf-long latest-lt
-
-      pub latest-small : k - 1 < 8
-      latest-small = let f = used-few es in omega arith
-
-      -- and is a page of the chip
-      pub latest-there : get_or es (k - 1) 0 < z.blocks * z.pages_per_block
-      unfolding shelf_ok
-      latest-there =
-          let l = latest-small in
-          let q = entries-long in
-          let i : k - 1 < shelved es =
-          (by-test (eqb k 0) (λ t. absurd (some (eqb-true k 0 t))) (λ t. let n = eqb-false k 0 t in omega arith)) in
-          let each-entry = all-at 8 _ (each _ (and_l (shelf_ok (sizes_of z) z.shelf_pages es) _ ok)).1.1.0 (k - 1) l in
-          rw (get_d_any es (k - 1) 0 vacant (omega arith)) (ltb-true _ _ (rw (lt-ltb (k - 1) (shelved es) i) at each-entry))
-
       -- the latest entry and its page
       latest : write (get_or es (k - 1) 0) (page_at z.page_size sb (k - 1)) ≡ meant_by s back
       latest i =
           let at : get_or es (k - 1) 0 ≡ get_or es (shelved es - 1) vacant = get_d_any es (k - 1) 0 vacant
-          (let l = latest-small in let q = entries-long in omega arith) ∙ ap (λ (j : ℕ). get_or es (j - 1) vacant) e in
+          (let l = latest-small z es sb ok k e some in let q = entries-long z es sb ok in omega arith)
+          ∙ ap (λ (j : ℕ). get_or es (j - 1) vacant) e in
           let page : page_at z.page_size sb (k - 1) ≡ get_or (pages_of z.page_size z.shelf_pages sb) (shelved es - 1) [] =
-          sym (page-at z.page_size z.shelf_pages sb [] (k - 1) latest-lt)
+          sym (page-at z.page_size z.shelf_pages sb [] (k - 1) (latest-lt z es sb ok k e some))
           ∙ ap (λ (j : ℕ). get_or (pages_of z.page_size z.shelf_pages sb) (j - 1) []) e in
           write (at i) (page i)
 
@@ -319,3 +315,18 @@ module _ (z : sizes.Sizes) (d : Directory) (es : List ℕ) (u : Buffers) (sb : L
             whole = λ enough. back_is a mends d' u' es' x g (h'.whole enough);
             cut = plain-cut ops back (and-f (ltb 0 z.shelf_pages)) (ne_eqb _ 0 (λ q. some (e ∙ q))) (result_with a mends z d' u' x) h';
           }
+
+    -- where checks 4 and 2 refuse every call, with entries or without
+    pub down-back : (ops k : ℕ) → k ≡ shelved es → (why : Refusal)
+        → (sound (sizes_of z) d && lent_ok store_format (sizes_of z) u) ≡ false → ((c : Call Page) → TurnedDown (store_with z d u) c why)
+        → ShelvedTo ops s back (result_on (refusal_of why) 0 z d es u sb [])
+    down-back ops k e why fails down = by-test (eqb k 0)
+        (λ t. nothing-back ops k e (eqb-true k 0 t) why (by-test (sound (sizes_of z) d)
+        (λ a. by-test (lent_ok store_format (sizes_of z) u)
+        (λ b. clash (and_i a b) fails)
+        (λ b. rw (a, b) (ap (λ (r : Result). r.answer) (sym (down step (λ i. false))
+        ∙ reading-buffer (store_with z d u) step (λ i. false) a b))))
+        (λ a. rw a (ap (λ (r : Result). r.answer) (sym (down step (λ i. false))
+        ∙ reading-record (store_with z d u) step (λ i. false) a)))))
+        (λ t. back_on k e (eqb-false k 0 t) ops (refusal_of why) 0 d u es _ (rw (why_refused why))
+        (turned-to ops (λ i. false) (store_with z d u) _ why (down _)))

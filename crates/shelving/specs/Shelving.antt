@@ -1,17 +1,18 @@
--- A store of sizes, the directory's lists, entries and shelf, and what a call on them leaves.
-use Rattle.std.specs.Prelude.{◌≡◌, cond, List, ℕ, ◌≤◌}
-use Rattle.model.specs.Sizes as sizes
-use Rattle.model.specs.Sizes.{InLimits}
+-- A store of sizes, a directory, entries and shelf, and what a call on them leaves.
+use Rattle.std.specs.Prelude.{◌≡◌, true, false, cond, ◌&&◌, Result, Ok, Err, List, ℕ, ◌≤◌}
+use Rattle.model.specs.Sizes.{vacant, InLimits}
 use Rattle.model.specs.Directory.{Directory}
 use Rattle.model.specs.Soundness.{sound}
 use Rattle.model.specs.Policy.{policy_choice}
-use Rattle.model.specs.Formats.{store_format}
-use Rattle.model.specs.Calls.{Answer, Buffers, Page, lent_ok}
-use Rattle.model.specs.Shelf.{ShelfCall, ShelfStore, ShelfResult, store_call}
+use Rattle.model.specs.Calls.{Answer, refused, Buffers, Page}
+use Rattle.model.specs.Shelf.{ShelfCall, ShelfStore, ShelfResult, store_call, shelf_ok, shelf_fits}
 use Rattle.model.specs.Cut.{operations}
 use Rattle.model.specs.CutCalls.{meant_by, CutTo}
 use Rattle.cache.specs.declared.Sizes.{Sizes}
-use Rattle.checked.specs.Lists.{store_with}
+use Rattle.cache.specs.View.{sizes_of}
+use Rattle.answer.specs.declared.Refusal.{Refusal}
+use Rattle.answer.specs.Numbers.{refusal_of}
+use Rattle.checked.specs.Called.{store_with}
 
 -- sizes, the directory, entries, the lent buffers and the shelf
 abbrev pub store_on : Sizes → Directory → List ℕ → Buffers → List ℕ → ShelfStore
@@ -28,6 +29,8 @@ pub record ShelvedTo (ops : ℕ) (s : ShelfStore) (c : ShelfCall) (r : ShelfResu
   -- and in any case flash and wear are as after so many operations
   pub cut : CutTo policy_choice ops s c r.store.store.lent
 
--- the number of a call's refusal by checks 4 and 2, 0 where neither applies
-abbrev pub EarlyOf : sizes.Sizes → Directory → Buffers → ℕ → Type 0
-EarlyOf sz d u early = early ≡ cond (sound sz d) (cond (lent_ok store_format sz u) 0 2) 4
+-- entries and a shelf of so many bytes fit; or why they do not: the shelf, where record and entries are sound, and else the record
+abbrev pub Fitting : Sizes → Directory → List ℕ → ℕ → {A : Type 0} → Result A Refusal → Type 0
+Fitting z d es long (Ok done) = shelf_fits (sizes_of z) z.shelf_pages es long ≡ true
+Fitting z d es long (Err why) = (shelf_fits (sizes_of z) z.shelf_pages es long ≡ false)
+    × (refusal_of why ≡ refused (cond (sound (sizes_of z) d && shelf_ok (sizes_of z) z.shelf_pages es) 2 4) vacant)

@@ -3,8 +3,6 @@ use mathlib.Core.Path.{◌≡◌, sym, ap, ◌∙◌, subst}
 use mathlib.Core.List.{List, [], ◌∷◌}
 use Prim.Native.Nat.{ℕ, ◌≤◌}
 use Rattle.model.specs.Sizes as model
-use Rattle.model.specs.Sizes.{is_marked}
-use Rattle.model.specs.Directory.{Directory}
 use Rattle.model.specs.Policy.{policy_choice}
 use Rattle.model.specs.Calls.{Buffers, Cell, flash_cells}
 use Rattle.model.specs.Formats.{store_format, StoreNear}
@@ -14,10 +12,7 @@ use Rattle.model.specs.CutCalls.{left_in, meant_by, CutTo, left_whole, ShelfEnds
 use Rattle.model.proofs.Plan.{policy_choice-picks}
 use Rattle.model.proofs.CutCalls.{cut-rule, whole-rule, marked-zero_rule}
 use Rattle.model.proofs.Torn.{store-made_whole}
-use Rattle.cache.specs.declared.Sizes as sizes
-use Rattle.cache.specs.declared.Directory as cache
-use Rattle.cache.specs.View.{sizes_of, directory_of}
-use Rattle.shelving.specs.Shelving.{store_on, ShelvedTo}
+use Rattle.cache.specs.View.{sizes_of}
 use Rattle.store.specs.declared.Cache.{Cache}
 use Rattle.store.specs.View.{Lent, store_of, opened_of}
 use Rattle.store.specs.Histories.{Made, call_of, cache_after, lent_after, Turn, lent_to, AsContracted, by_policy, said_by, fed_by}
@@ -26,14 +21,6 @@ use Rattle.store.specs.PowerLoss.{CutOff, PowerLost, Ends, MadeWhole}
 use Rattle.store.proofs.Demand3.{chosen, chosen-pick, store-after, called, same-sizes, fed_with, accepted, few-pages, opened-as}
 use Rattle.store.proofs.Demand3.{begins}
 use Rattle.store.proofs.Demand3.{beginning, begins-sizes}
-
--- from the lists l of directory d to the record
-pub cut_on : (ops : ℕ) (z : sizes.Sizes) (d : cache.Directory) (l : Directory) (es : List ℕ) (u : Lent) (c : ShelfCall) (r : ShelfResult)
-    → l ≡ directory_of d → ShelvedTo ops (store_on z l es u.below u.shelf) c r
-    → CutTo policy_choice ops (store_on z (directory_of d) es u.below u.shelf) c r.store.store.lent
-cut_on ops z d l es u c r e h = subst (λ (m : Directory). CutTo policy_choice ops (store_on z m es u.below u.shelf) c
-    r.store.store.lent)
-    e h.cut
 
 -- of a store of the model
 pub power_lost : (ops : ℕ) (s : ShelfStore) (c : ShelfCall) (u' : Buffers) → CutTo policy_choice ops s c u'

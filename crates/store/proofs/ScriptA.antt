@@ -5,6 +5,7 @@ use mathlib.Core.Bool.{not}
 use mathlib.Core.List.{List, [], ◌∷◌, map, ◌++◌}
 use Prim.Native.Nat.{ℕ}
 use lib.ListN.{get_or, replicate}
+use Rattle.std.specs.Prelude.{Ok}
 use Rattle.prelude.specs.Tests.{every}
 use Rattle.prelude.specs.Scan.{first_from, first, count, all, all_pairs, nth, argmax, least, tab_from, tab}
 use Rattle.prelude.specs.Bits.{bit, mask}
@@ -33,13 +34,11 @@ use Rattle.model.specs.Shelf.{ShelfOpened, ShelfReference, shelved, shelve, shel
 use Rattle.model.specs.Shelf.{shelving_reads, ordinary, shelf_call, shelf_fed}
 use Rattle.cache.specs.declared.Sizes.{Sizes}
 use Rattle.cache.specs.View.{sizes_of, directory_of, page_no, block_no}
-use Rattle.answer.specs.declared.Opening.TheVariants as openings
-use Rattle.answer.specs.declared.Read.TheVariants as reads
+use Rattle.answer.specs.declared.way.ReadWay.TheVariants as reads
+use Rattle.answer.specs.declared.way.WriteWay.TheVariants as ways
 use Rattle.answer.specs.declared.Write.TheVariants as writes
-use Rattle.answer.specs.declared.Flush.TheVariants as flushes
 use Rattle.store.specs.declared.Cache.{Cache}
-use Rattle.store.specs.declared.Opened.{Opened}
-use Rattle.store.specs.View.{Lent, lent, store_of}
+use Rattle.store.specs.View.{Opened, Lent, lent, store_of}
 use Rattle.store.specs.Histories as made
 use Rattle.store.specs.Histories.{Made, cache_after, lent_after, fed_by, StillNear, Turn, AsContracted, Claim, OpeningContract, begun}
 use Rattle.store.proofs.Demand3.{near-opened, codes-match, demand_3}
@@ -78,38 +77,40 @@ holding m n b v c = record {
 }
 
 abbrev pub opening : Opened
-opening = record { cache = holding vacant vacant vacant 0 0; answer = openings.Done 0 }
+opening = record { cache = holding vacant vacant vacant 0 0; answer = Ok (record { torn = 0 }) }
 
 abbrev byte : ℕ → Page
 byte b = b ∷ []
 
 -- write 0, 2, 4 and 3, of which the last erases block 0
 abbrev written-0 : Made
-written-0 = made.write (page_no 0) (byte 10) (record { cache = holding 0 vacant vacant 0 0; answer = writes.Done 3 0 })
+written-0 = made.write (page_no 0) (byte 10) (record { cache = holding 0 vacant vacant 0 0; answer = Ok (writes.Done ways.FreeSlot 0) })
     (lent (replicate 6 255) [] [] (replicate 3 0) (10 ∷ 0 ∷ []) (0 ∷ 0 ∷ []) [])
 
 abbrev written_2 : Made
-written_2 = made.write (page_no 2) (byte 20) (record { cache = holding 0 2 vacant 0 0; answer = writes.Done 3 0 })
+written_2 = made.write (page_no 2) (byte 20) (record { cache = holding 0 2 vacant 0 0; answer = Ok (writes.Done ways.FreeSlot 0) })
     (lent (replicate 6 255) [] [] (replicate 3 0) (10 ∷ 20 ∷ []) (0 ∷ 0 ∷ []) [])
 
 abbrev written_4 : Made
-written_4 = made.write (page_no 4) (byte 30) (record { cache = holding 4 2 0 1 1; answer = writes.Done 5 0 })
+written_4 = made.write (page_no 4) (byte 30) (record { cache = holding 4 2 0 1 1; answer = Ok (writes.Done ways.Fill 0) })
     (lent (replicate 6 255) [] [] (replicate 3 0) (30 ∷ 20 ∷ []) (10 ∷ 0 ∷ []) [])
 
 abbrev written-3 : Made
-written-3 = made.write (page_no 3) (byte 40) (record { cache = holding 4 3 1 1 1; answer = writes.Rewrote (block_no 0) 1 0 })
+written-3 = made.write (page_no 3) (byte 40) (record { cache = holding 4 3 1 1 1; answer = Ok (writes.Rewrote (block_no 0) 1 0) })
     (lent (10 ∷ 255 ∷ 255 ∷ 255 ∷ 255 ∷ 255 ∷ []) [] [] (1 ∷ 0 ∷ 0 ∷ []) (30 ∷ 40 ∷ []) (20 ∷ 255 ∷ []) [])
 
 -- read 2 from the frame, and 1 from flash
 abbrev read-2 : Made
-read-2 = made.read (page_no 2) (byte 0) (record { cache = holding 4 3 1 1 2; answer = reads.Done 2 0 }) (byte 20)
+read-2 = made.read (page_no 2) (byte 0) (record { cache = holding 4 3 1 1 2; answer = Ok (record { way = reads.Frame; mends = 0 }) })
+    (byte 20)
 
 abbrev read-1 : Made
-read-1 = made.read (page_no 1) (byte 0) (record { cache = holding 4 3 1 1 2; answer = reads.Done 3 0 }) (byte 255)
+read-1 = made.read (page_no 1) (byte 0) (record { cache = holding 4 3 1 1 2; answer = Ok (record { way = reads.Flash; mends = 0 }) })
+    (byte 255)
 
 -- the flush rewrites blocks 1 and 2
 abbrev flushed : Made
-flushed = made.flush (record { cache = holding vacant vacant vacant 0 0; answer = flushes.Done 2 1 0 })
+flushed = made.flush (record { cache = holding vacant vacant vacant 0 0; answer = Ok (record { rewrites = 2; merged = 1; mends = 0 }) })
     (10 ∷ 255 ∷ 20 ∷ 40 ∷ 30 ∷ 255 ∷ []) [] [] (1 ∷ 1 ∷ 1 ∷ []) (30 ∷ 255 ∷ [])
 
 -- between the calls no bit flips

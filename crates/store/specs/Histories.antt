@@ -15,12 +15,8 @@ use Rattle.address.specs.declared.PageNo.{PageNo}
 use Rattle.cache.specs.declared.Sizes.{Sizes}
 use Rattle.cache.specs.View.{sizes_of}
 use Rattle.store.specs.declared.Cache.{Cache}
-use Rattle.store.specs.declared.Opened.{Opened}
-use Rattle.store.specs.declared.ReadOut.{ReadOut}
-use Rattle.store.specs.declared.WriteOut.{WriteOut}
-use Rattle.store.specs.declared.StepOut.{StepOut}
-use Rattle.store.specs.declared.FlushOut.{FlushOut}
-use Rattle.store.specs.View.{Lent, lent, opened_of, store_of, read_result, write_result, step_result, flush_result}
+use Rattle.store.specs.View.{Opened, ReadOut, WriteOut, StepOut, FlushOut, Lent}
+use Rattle.store.specs.View.{lent, opened_of, store_of, read_result, write_result, step_result, flush_result}
 
 -- a call with its arguments, what it returned, and those of the buffers lent to it as `&mut`, as it left them
 pub data Made : Type 0 where

@@ -14,8 +14,7 @@ use Rattle.model.specs.CutCalls.{left_in, meant_by, CutTo, WholeBlocks}
 use Rattle.cache.specs.declared.Sizes.{Sizes}
 use Rattle.cache.specs.View.{sizes_of}
 use Rattle.store.specs.declared.Cache.{Cache}
-use Rattle.store.specs.declared.Opened.{Opened}
-use Rattle.store.specs.View.{Lent, cache_of, opened_of, store_of}
+use Rattle.store.specs.View.{Opened, Lent, cache_of, opened_of, store_of}
 use Rattle.store.specs.Histories.{Made, call_of, lent_after, Contract, Turn, lent_to, AsContracted, fed_by, StillNear}
 use Rattle.store.specs.Histories.{OpeningContract, CodesMatch, begun}
 

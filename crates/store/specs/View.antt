@@ -1,18 +1,36 @@
 -- The record, the lent buffers and what a call hands back, as the model has them.
-use Rattle.std.specs.Prelude.{List, [], ℕ}
+use Rattle.std.specs.Prelude.{Option, Result, List, [], ℕ}
 use Rattle.model.specs.Directory as directory
 use Rattle.model.specs.Calls.{Buffers, Page}
 use Rattle.model.specs.Shelf.{ShelfOpened, ShelfStore, ShelfResult}
 use Rattle.cache.specs.View.{sizes_of, directory_of}
+use Rattle.answer.specs.declared.Refusal.{Refusal}
+use Rattle.answer.specs.declared.Opening.{Opening}
+use Rattle.answer.specs.declared.Read.{Read}
+use Rattle.answer.specs.declared.Write.{Write}
+use Rattle.answer.specs.declared.Step.{Step}
+use Rattle.answer.specs.declared.Flush.{Flush}
 use Rattle.answer.specs.Carried.{buffers}
 use Rattle.answer.specs.Numbers.{opening_of, torn_of, read_of, write_of, step_of, flush_of, mends_of_read, mends_of_write, mends_of_step}
 use Rattle.answer.specs.Numbers.{mends_of_flush}
 use Rattle.store.specs.declared.Cache.{Cache}
-use Rattle.store.specs.declared.Opened.{Opened}
-use Rattle.store.specs.declared.ReadOut.{ReadOut}
-use Rattle.store.specs.declared.WriteOut.{WriteOut}
-use Rattle.store.specs.declared.StepOut.{StepOut}
-use Rattle.store.specs.declared.FlushOut.{FlushOut}
+use Rattle.store.specs.declared.Out.{Out}
+
+-- what an opening, a read, a write, a flush step and a flush hand back
+abbrev pub Opened : Type 0
+Opened = Out (Result Opening Refusal)
+
+abbrev pub ReadOut : Type 0
+ReadOut = Out (Result Read Refusal)
+
+abbrev pub WriteOut : Type 0
+WriteOut = Out (Result Write Refusal)
+
+abbrev pub StepOut : Type 0
+StepOut = Out (Result (Option Step) Refusal)
+
+abbrev pub FlushOut : Type 0
+FlushOut = Out (Result Flush Refusal)
 
 abbrev pub cache_of : Cache → directory.Cache
 cache_of c = record { sizes = sizes_of c.sizes; directory = directory_of c.directory }

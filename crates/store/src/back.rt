@@ -5,7 +5,7 @@ ghost use Rattle.store.specs.Histories.{Contract};
 ghost use Rattle.store.specs.Histories as made;
 
 use crate::{Cache, WriteOut};
-use cache::Directory;
+use lent::Lent;
 
 impl Cache {
     // Takes the latest accepted write back that is on the shelf: writes the page as it was before, by document 01's ways 1 to 7.
@@ -24,38 +24,23 @@ impl Cache {
             Contract self u (made.back result (buffers flash.new codes.new marks.new wear.new
             pspace.new bspace.new)) }
     {
-        let z = self.sizes;
-        let d = self.directory;
-        let mut entries = self.entries;
-        let mut slots = d.page_numbers();
-        let mut frames = d.block_numbers();
-        let mut valid = d.valid;
-        let mut recency = d.recency;
-        let mut uses = d.uses;
-        let answer = shelving::back::back(
-            z,
-            &mut entries,
-            &mut slots,
-            &mut frames,
-            &mut valid,
-            &mut recency,
-            &mut uses,
+        let mut cache = self;
+        let mut lent = Lent {
             flash,
             codes,
             marks,
             wear,
-            pspace,
             bspace,
+        };
+        let answer = shelving::back::back(
+            cache.sizes,
+            &mut cache.entries,
+            &mut cache.directory,
+            &mut lent,
+            pspace,
             shelf,
             checked::UNCUT,
         );
-        WriteOut {
-            cache: Cache {
-                sizes: z,
-                entries,
-                directory: Directory::of(slots, frames, valid, recency, uses),
-            },
-            answer,
-        }
+        WriteOut { cache, answer }
     }
 }

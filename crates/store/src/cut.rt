@@ -1,5 +1,6 @@
 // Calls that are cut off after so many operations of the chip (request A12), for tests of what a power loss leaves: the call itself, told
-// how many operations it may do, after which the record is lost and the blank one comes back.
+// how many operations it may do, after which the record is lost and the blank one comes back. Each stands beside the call that it cuts off,
+// since C has both, and its promise is another, `CutContract`; what they do is one function of shelving.
 ghost use Rattle.model.specs.Calls as calls;
 ghost use Rattle.model.specs.Shelf as model;
 ghost use Rattle.model.specs.Shelf.{plainly};
@@ -9,6 +10,7 @@ ghost use Rattle.store.specs.PowerLoss.{CutContract};
 
 use crate::Cache;
 use address::PageNo;
+use lent::Lent;
 
 impl Cache {
     // Writing a page.
@@ -31,28 +33,20 @@ impl Cache {
             wear.new pspace.new bspace.new in
             CutContract self u ops (plainly (calls.write n.0 page.now)) result u' }
     {
-        let z = self.sizes;
-        let d = self.directory;
-        let mut entries = self.entries;
-        let mut slots = d.page_numbers();
-        let mut frames = d.block_numbers();
-        let mut valid = d.valid;
-        let mut recency = d.recency;
-        let mut uses = d.uses;
-        shelving::write(
-            z,
-            &mut entries,
-            &mut slots,
-            &mut frames,
-            &mut valid,
-            &mut recency,
-            &mut uses,
+        let mut cache = self;
+        let mut lent = Lent {
             flash,
             codes,
             marks,
             wear,
-            pspace,
             bspace,
+        };
+        let _answer = shelving::write(
+            cache.sizes,
+            &mut cache.entries,
+            &mut cache.directory,
+            &mut lent,
+            pspace,
             shelf,
             n,
             page,
@@ -83,28 +77,20 @@ impl Cache {
             wear.new pspace.new bspace.new in
             CutContract self u ops (plainly (calls.part n.0 first bytes.now page.old)) result u' }
     {
-        let z = self.sizes;
-        let d = self.directory;
-        let mut entries = self.entries;
-        let mut slots = d.page_numbers();
-        let mut frames = d.block_numbers();
-        let mut valid = d.valid;
-        let mut recency = d.recency;
-        let mut uses = d.uses;
-        shelving::part(
-            z,
-            &mut entries,
-            &mut slots,
-            &mut frames,
-            &mut valid,
-            &mut recency,
-            &mut uses,
+        let mut cache = self;
+        let mut lent = Lent {
             flash,
             codes,
             marks,
             wear,
-            pspace,
             bspace,
+        };
+        let _answer = shelving::part(
+            cache.sizes,
+            &mut cache.entries,
+            &mut cache.directory,
+            &mut lent,
+            pspace,
             shelf,
             n,
             first,
@@ -133,28 +119,20 @@ impl Cache {
             wear.new pspace.new bspace.new in
             CutContract self u ops model.back result u' }
     {
-        let z = self.sizes;
-        let d = self.directory;
-        let mut entries = self.entries;
-        let mut slots = d.page_numbers();
-        let mut frames = d.block_numbers();
-        let mut valid = d.valid;
-        let mut recency = d.recency;
-        let mut uses = d.uses;
-        shelving::back::back(
-            z,
-            &mut entries,
-            &mut slots,
-            &mut frames,
-            &mut valid,
-            &mut recency,
-            &mut uses,
+        let mut cache = self;
+        let mut lent = Lent {
             flash,
             codes,
             marks,
             wear,
-            pspace,
             bspace,
+        };
+        let _answer = shelving::back::back(
+            cache.sizes,
+            &mut cache.entries,
+            &mut cache.directory,
+            &mut lent,
+            pspace,
             shelf,
             ops,
         );
@@ -179,28 +157,20 @@ impl Cache {
             wear.new pspace.now bspace.new in
             CutContract self u ops (plainly calls.step) result u' }
     {
-        let z = self.sizes;
-        let d = self.directory;
-        let entries = self.entries;
-        let mut slots = d.page_numbers();
-        let mut frames = d.block_numbers();
-        let mut valid = d.valid;
-        let recency = d.recency;
-        let mut uses = d.uses;
-        shelving::step(
-            z,
-            &entries,
-            &mut slots,
-            &mut frames,
-            &mut valid,
-            &recency,
-            &mut uses,
+        let mut cache = self;
+        let mut lent = Lent {
             flash,
             codes,
             marks,
             wear,
-            pspace,
             bspace,
+        };
+        let _answer = shelving::step(
+            cache.sizes,
+            &cache.entries,
+            &mut cache.directory,
+            &mut lent,
+            pspace,
             shelf,
             ops,
         );
@@ -225,28 +195,20 @@ impl Cache {
             wear.new pspace.now bspace.new in
             CutContract self u ops (plainly calls.flush) result u' }
     {
-        let z = self.sizes;
-        let d = self.directory;
-        let entries = self.entries;
-        let mut slots = d.page_numbers();
-        let mut frames = d.block_numbers();
-        let mut valid = d.valid;
-        let recency = d.recency;
-        let mut uses = d.uses;
-        shelving::flush(
-            z,
-            &entries,
-            &mut slots,
-            &mut frames,
-            &mut valid,
-            &recency,
-            &mut uses,
+        let mut cache = self;
+        let mut lent = Lent {
             flash,
             codes,
             marks,
             wear,
-            pspace,
             bspace,
+        };
+        let _answer = shelving::flush(
+            cache.sizes,
+            &cache.entries,
+            &mut cache.directory,
+            &mut lent,
+            pspace,
             shelf,
             ops,
         );

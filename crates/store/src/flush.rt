@@ -4,7 +4,7 @@ ghost use Rattle.store.specs.Histories.{Contract};
 ghost use Rattle.store.specs.Histories as made;
 
 use crate::{Cache, FlushOut, StepOut};
-use cache::Directory;
+use lent::Lent;
 
 impl Cache {
     // Rewrites one block that has pages cached, the one that is due.
@@ -22,39 +22,24 @@ impl Cache {
             wear.old pspace.now bspace.old shelf.now in
             Contract self u (made.step result flash.new codes.new marks.new wear.new bspace.new) }
     {
-        let z = self.sizes;
-        let d = self.directory;
-        let entries = self.entries;
-        let mut slots = d.page_numbers();
-        let mut frames = d.block_numbers();
-        let mut valid = d.valid;
-        let recency = d.recency;
-        let mut uses = d.uses;
-        let answer = shelving::step(
-            z,
-            &entries,
-            &mut slots,
-            &mut frames,
-            &mut valid,
-            &recency,
-            &mut uses,
+        let mut cache = self;
+        let mut lent = Lent {
             flash,
             codes,
             marks,
             wear,
-            pspace,
             bspace,
+        };
+        let answer = shelving::step(
+            cache.sizes,
+            &cache.entries,
+            &mut cache.directory,
+            &mut lent,
+            pspace,
             shelf,
             checked::UNCUT,
         );
-        StepOut {
-            cache: Cache {
-                sizes: z,
-                entries,
-                directory: Directory::of(slots, frames, valid, recency, uses),
-            },
-            answer,
-        }
+        StepOut { cache, answer }
     }
 
     // Rewrites every block that has pages cached, or none where one of them is worn.
@@ -72,38 +57,23 @@ impl Cache {
             wear.old pspace.now bspace.old shelf.now in
             Contract self u (made.flush result flash.new codes.new marks.new wear.new bspace.new) }
     {
-        let z = self.sizes;
-        let d = self.directory;
-        let entries = self.entries;
-        let mut slots = d.page_numbers();
-        let mut frames = d.block_numbers();
-        let mut valid = d.valid;
-        let recency = d.recency;
-        let mut uses = d.uses;
-        let answer = shelving::flush(
-            z,
-            &entries,
-            &mut slots,
-            &mut frames,
-            &mut valid,
-            &recency,
-            &mut uses,
+        let mut cache = self;
+        let mut lent = Lent {
             flash,
             codes,
             marks,
             wear,
-            pspace,
             bspace,
+        };
+        let answer = shelving::flush(
+            cache.sizes,
+            &cache.entries,
+            &mut cache.directory,
+            &mut lent,
+            pspace,
             shelf,
             checked::UNCUT,
         );
-        FlushOut {
-            cache: Cache {
-                sizes: z,
-                entries,
-                directory: Directory::of(slots, frames, valid, recency, uses),
-            },
-            answer,
-        }
+        FlushOut { cache, answer }
     }
 }

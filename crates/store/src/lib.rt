@@ -1,5 +1,6 @@
-// The page store: the cache record, and the calls on it. Each call takes the record by value with the lent buffers and hands
-// back the next record beside its answer; a refused call changes nothing.
+// The page store: the cache record, and the calls on it. Each call takes the record by value with the lent buffers and hands back the next
+// record beside its answer; a refused call changes nothing. The buffers are lent one by one, since C hands them on so: each call makes a
+// `Lent` of them for the crates below.
 #![tactic(auto)]
 
 mod back; // back.rt: taking a write back
@@ -10,49 +11,36 @@ mod part; // part.rt: writing part of a page
 mod read; // read.rt: reading a page
 mod write; // write.rt: writing a page
 
-use answer::Opening;
+use answer::{Flush, Opening, Read, Refusal, Step, Write};
 use cache::{Directory, Sizes};
 
 // The cache record: sizes and options, the shelf's entries (page numbers or VACANT, request A8), the directory.
 #[repr(C)]
-#[derive(Clone, Copy)]
+#[derive(Clone, Copy, PartialEq, Eq, Debug)]
 pub struct Cache {
     pub sizes: Sizes,
     pub entries: [u32; 8],
     pub directory: Directory,
 }
 
-// The record that an opening hands out, the blank one where it is refused.
-#[derive(Clone, Copy)]
-pub struct Opened {
+// The record after a call, and the call's answer.
+#[derive(Clone, Copy, PartialEq, Eq, Debug)]
+pub struct Out<T> {
     pub cache: Cache,
-    pub answer: Opening,
+    pub answer: T,
 }
 
-// The record after a read, and its answer.
-#[derive(Clone, Copy)]
-pub struct ReadOut {
-    pub cache: Cache,
-    pub answer: answer::Read,
-}
+// Of an opening: the blank record where it is refused.
+pub type Opened = Out<Result<Opening, Refusal>>;
 
-// The record after a write, of a page or of part of one, or after taking one back, and its answer.
-#[derive(Clone, Copy)]
-pub struct WriteOut {
-    pub cache: Cache,
-    pub answer: answer::Write,
-}
+// Of a read.
+pub type ReadOut = Out<Result<Read, Refusal>>;
 
-// The record after a flush step, and its answer.
-#[derive(Clone, Copy)]
-pub struct StepOut {
-    pub cache: Cache,
-    pub answer: answer::Step,
-}
+// Of a write, of a page or of part of one, or of taking one back.
+pub type WriteOut = Out<Result<Write, Refusal>>;
 
-// The record after a flush, and its answer.
-#[derive(Clone, Copy)]
-pub struct FlushOut {
-    pub cache: Cache,
-    pub answer: answer::Flush,
-}
+// Of a flush step; none where nothing was cached.
+pub type StepOut = Out<Result<Option<Step>, Refusal>>;
+
+// Of a flush.
+pub type FlushOut = Out<Result<Flush, Refusal>>;

@@ -8,9 +8,11 @@ ghost use Rattle.store.specs.Histories.{OpeningContract};
 use crate::{Cache, Opened};
 use answer::{Opening, Refusal};
 use cache::{Directory, Sizes, VACANT};
+use lent::LentView;
 
 impl Cache {
     // The record before any opening: every call on it is refused.
+    #[tactic(auto, unfolding(model::specs::Directory::blank_cache))]
     pub fn blank() -> Cache
         ensures { (cache_of result ≡ blank_cache) × (result.entries ≡ no_entries) }
     {
@@ -39,18 +41,18 @@ impl Cache {
         if !sizes.ok() {
             return refused(Refusal::Size);
         }
-        if !lent::lengths_ok(
-            sizes,
-            flash.len(),
-            codes.len(),
-            marks.len(),
-            wear.len(),
-            pspace.len(),
-            bspace.len(),
-        ) {
+        let lent = LentView {
+            flash,
+            codes,
+            marks,
+            wear,
+            pspace,
+            bspace,
+        };
+        if !lent.fits(sizes) {
             return refused(Refusal::Buffer);
         }
-        let long = sizes.shelf_pages as usize * (sizes.page_size as usize);
+        let long = sizes.shelf_pages as usize * sizes.page_size as usize;
         if shelf.len() != long {
             return refused(Refusal::Buffer);
         }
@@ -60,11 +62,11 @@ impl Cache {
         let torn = chip::torn::count(sizes, marks);
         Opened {
             cache: Cache {
-                sizes: sizes,
+                sizes,
                 entries: [VACANT; 8],
                 directory: Directory::vacant(),
             },
-            answer: Opening::Done { torn },
+            answer: Ok(Opening { torn }),
         }
     }
 }
@@ -75,6 +77,6 @@ fn refused(why: Refusal) -> Opened
 {
     Opened {
         cache: Cache::blank(),
-        answer: Opening::Refused(why),
+        answer: Err(why),
     }
 }

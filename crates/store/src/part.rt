@@ -5,7 +5,7 @@ ghost use Rattle.store.specs.Histories as made;
 
 use crate::{Cache, WriteOut};
 use address::PageNo;
-use cache::Directory;
+use lent::Lent;
 
 impl Cache {
     // Writes page n with the bytes laid in from byte `first` on, and leaves the page so combined in the page buffer. Without bytes
@@ -30,28 +30,20 @@ impl Cache {
             wear.new pspace.new bspace.new shelf.new in
             Contract self u (made.part n first bytes.now page.old result u' page.new) }
     {
-        let z = self.sizes;
-        let d = self.directory;
-        let mut entries = self.entries;
-        let mut slots = d.page_numbers();
-        let mut frames = d.block_numbers();
-        let mut valid = d.valid;
-        let mut recency = d.recency;
-        let mut uses = d.uses;
-        let answer = shelving::part(
-            z,
-            &mut entries,
-            &mut slots,
-            &mut frames,
-            &mut valid,
-            &mut recency,
-            &mut uses,
+        let mut cache = self;
+        let mut lent = Lent {
             flash,
             codes,
             marks,
             wear,
-            pspace,
             bspace,
+        };
+        let answer = shelving::part(
+            cache.sizes,
+            &mut cache.entries,
+            &mut cache.directory,
+            &mut lent,
+            pspace,
             shelf,
             n,
             first,
@@ -59,13 +51,6 @@ impl Cache {
             page,
             checked::UNCUT,
         );
-        WriteOut {
-            cache: Cache {
-                sizes: z,
-                entries,
-                directory: Directory::of(slots, frames, valid, recency, uses),
-            },
-            answer,
-        }
+        WriteOut { cache, answer }
     }
 }

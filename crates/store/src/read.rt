@@ -5,7 +5,7 @@ ghost use Rattle.store.specs.Histories as made;
 
 use crate::{Cache, ReadOut};
 use address::PageNo;
-use cache::Directory;
+use lent::LentView;
 
 impl Cache {
     // Reads page n into the page buffer. Nothing but the page buffer changes, and, where the page is in a frame, the order of
@@ -26,39 +26,24 @@ impl Cache {
             wear.now pspace.now bspace.now shelf.now in
             Contract self u (made.read n page.old result page.new) }
     {
-        let z = self.sizes;
-        let d = self.directory;
-        let entries = self.entries;
-        let slots = d.page_numbers();
-        let frames = d.block_numbers();
-        let valid = d.valid;
-        let mut recency = d.recency;
-        let mut uses = d.uses;
-        let answer = shelving::read(
-            z,
-            &entries,
-            &slots,
-            &frames,
-            &valid,
-            &mut recency,
-            &mut uses,
+        let mut cache = self;
+        let lent = LentView {
             flash,
             codes,
             marks,
             wear,
             pspace,
             bspace,
+        };
+        let answer = shelving::read(
+            cache.sizes,
+            &cache.entries,
+            &mut cache.directory,
+            lent,
             shelf,
             n,
             page,
         );
-        ReadOut {
-            cache: Cache {
-                sizes: z,
-                entries,
-                directory: Directory::of(slots, frames, valid, recency, uses),
-            },
-            answer,
-        }
+        ReadOut { cache, answer }
     }
 }

@@ -5,7 +5,7 @@ ghost use Rattle.store.specs.Histories as made;
 
 use crate::{Cache, WriteOut};
 use address::PageNo;
-use cache::Directory;
+use lent::Lent;
 
 impl Cache {
     // Writes the page buffer as page n, by document 01's ways 1 to 7.
@@ -27,40 +27,25 @@ impl Cache {
             wear.new pspace.new bspace.new shelf.new in
             Contract self u (made.write n page.now result u') }
     {
-        let z = self.sizes;
-        let d = self.directory;
-        let mut entries = self.entries;
-        let mut slots = d.page_numbers();
-        let mut frames = d.block_numbers();
-        let mut valid = d.valid;
-        let mut recency = d.recency;
-        let mut uses = d.uses;
-        let answer = shelving::write(
-            z,
-            &mut entries,
-            &mut slots,
-            &mut frames,
-            &mut valid,
-            &mut recency,
-            &mut uses,
+        let mut cache = self;
+        let mut lent = Lent {
             flash,
             codes,
             marks,
             wear,
-            pspace,
             bspace,
+        };
+        let answer = shelving::write(
+            cache.sizes,
+            &mut cache.entries,
+            &mut cache.directory,
+            &mut lent,
+            pspace,
             shelf,
             n,
             page,
             checked::UNCUT,
         );
-        WriteOut {
-            cache: Cache {
-                sizes: z,
-                entries,
-                directory: Directory::of(slots, frames, valid, recency, uses),
-            },
-            answer,
-        }
+        WriteOut { cache, answer }
     }
 }

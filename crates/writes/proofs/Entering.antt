@@ -1,7 +1,9 @@
 -- The page enters the slot that a join or an exchange left vacant.
-use mathlib.Core.Path.{◌≡◌, ap, ◌∙◌}
+use mathlib.Core.Path.{◌≡◌, sym, ap, ◌∙◌}
 use mathlib.Core.Bool.{Bool, true}
 use mathlib.Core.List.{List, []}
+use Rattle.std.specs.Prelude.{Option, None, Some, IsSome, unwrap_or}
+use borrow.Author.Rules.{rules}
 use Prim.Native.Nat.{ℕ, ◌*◌, ◌<◌}
 use native.Mathlib.Omega.{arith}
 use lib.ListN.{length, set}
@@ -15,50 +17,40 @@ use Rattle.model.specs.Calls.{Page, Cell, zero_page, slot_pages, frame_pages}
 use Rattle.model.proofs.Lookup.{found-slot}
 use Rattle.model.proofs.Kept.{joined-sound, exchanged-sound, exchanged-vacant}
 use Rattle.model.proofs.Plan.{some-bit, joined-vacant}
-use Rattle.cache.specs.View.{numbers}
 use Rattle.moves.specs.Spaces.{spaces, Joins, Joined}
 use Rattle.moves.specs.Exchange.{Exchanged}
-use Rattle.moves.proofs.Recency.{touched-is}
-use Rattle.writes.specs.Writes.{OverSlot}
-use Rattle.writes.specs.Enter.{Joining, Changing, Enters, Entered, HasRoom, PutIn}
+use Rattle.writes.specs.Enter.{Joining, Changing, Enters, Entered}
 
--- ---- the first vacant slot
+-- ---- the frame is used, and the page enters the first vacant slot
 
-module _ (sz : Sizes) (s pspace page : List ℕ) (q : HasRoom sz s pspace page) (i : ℕ)
-    (first-vacant : i ≡ slot_of sz (numbers s [] [] [] []) vacant) where
-  slot_lt : i < sz.P
-  slot_lt = rw first-vacant (found-slot sz (numbers s [] [] [] []) vacant q.room).0
+module _ {sz : Sizes} (t : Bool) {d : Directory} {f : ℕ} {pspace page : List ℕ} (q : Enters sz d f pspace page) {e : Directory}
+    (used : e ≡ touched sz t d f) where
+  vacant-is : slot_of sz e vacant ≡ slot_of sz d vacant
+  unfolding touched slot_of
+  vacant-is = ap (λ (x : Directory). slot_of sz x vacant) used
 
-  pub slot_small : i < 128
-  slot_small = let l = slot_lt in let h = q.limits.P_high in omega arith
+  vacant-lt : slot_of sz d vacant < sz.P
+  vacant-lt = (found-slot sz d vacant q.room).0
 
-  pub over : OverSlot sz i pspace page
-  over = record { limits = q.limits; slot_lt = slot_lt; pspace-length = q.pspace-length; page-length = q.page-length }
+  pub some-slot : (o : Option ℕ) → unwrap_or o sz.P ≡ slot_of sz e vacant → IsSome o
+  some-slot None h = absurd (let l = vacant-lt in let v = vacant-is in omega arith)
+  some-slot (Some i) h = search rules
 
-  pub put_is : (n : ℕ) (pspace' : List ℕ) → slot_pages sz pspace' ≡ set (slot_pages sz pspace) i page
-      → PutIn sz s pspace n page (set s i n) pspace'
-  put_is n pspace' e = record {
-    slots-are = ap (λ (x : ℕ). set s x n) first-vacant;
-    pages-are = e ∙ ap (λ (x : ℕ). set (slot_pages sz pspace) x page) first-vacant;
-  }
+  -- slot i
+  pub first-slot : {o : Option ℕ} {i : ℕ} → o ≡ Some i → unwrap_or o sz.P ≡ slot_of sz e vacant → i ≡ slot_of sz e vacant
+  first-slot is h = sym (ap (λ (x : Option ℕ). unwrap_or x sz.P) is) ∙ h
 
--- ---- the frame is used, and the page enters
+  module _ {i : ℕ} (h : i ≡ slot_of sz e vacant) where
+    slot-is : i ≡ slot_of sz d vacant
+    slot-is = h ∙ vacant-is
 
-module _ (sz : Sizes) (d : Directory) (f : ℕ) (pspace page : List ℕ) (q : Enters sz d f pspace page) where
-  pub has_room : HasRoom sz d.slots pspace page
-  unfolding in_slots slot_of
-  has_room = record { limits = q.sound.limits; room = q.room; pspace-length = q.pspace-length; page-length = q.page-length }
-
-  pub enter-is : (t : Bool) (n : ℕ) (slots order many pspace' : List ℕ)
-      → numbers [] [] [] order many ≡ touched sz t (numbers [] [] [] d.recency d.uses) f
-      → PutIn sz d.slots pspace n page slots pspace'
-      → Entered sz t d f pspace n page (numbers slots d.frames d.valid order many) pspace'
-  unfolding entered touched slot_of put_slot
-  enter-is t n slots order many pspace' used put = record {
-    directory-is = ap (λ (x : List ℕ). numbers x d.frames d.valid order many) put.slots-are
-        ∙ ap (λ (x : Directory). put_slot x (slot_of sz d vacant) n) (touched-is sz t d f order many used);
-    pages-are = put.pages-are;
-  }
+    pub enter-is : {n : ℕ} {pspace' : List ℕ} → slot_pages sz pspace' ≡ set (slot_pages sz pspace) i page
+        → Entered sz t d f pspace n page (put_slot e i n) pspace'
+    unfolding entered
+    enter-is {n} pages = record {
+      directory-is = ap (λ (x : ℕ). put_slot e x n) h ∙ ap (λ (x : Directory). put_slot x (slot_of sz x vacant) n) used;
+      pages-are = rw (← slot-is) pages;
+    }
 
 -- the page has entered after a join, and after an exchange
 pub record JoinEntered (sz : Sizes) (t : Bool) (d : Directory) (v f : ℕ) (pspace bspace : List ℕ) (n : ℕ) (page : Page) (d' : Directory)
@@ -73,14 +65,15 @@ pub record ExchangeEntered (sz : Sizes) (d : Directory) (v f : ℕ) (pspace bspa
   pub pages-are : spaces sz pspace' bspace' ≡ put_slot_page (exchanged_pages (zero_page sz) sz d (spaces sz pspace bspace) v f)
       (slot_of sz (exchanged sz d v f) vacant) page
 
-module _ (sz : Sizes) (d : Directory) (v f : ℕ) (pspace bspace page : List ℕ) (s : Sound sz d) where
-  pub joins : v < sz.N → f < sz.B → length pspace ≡ sz.P * sz.S → length bspace ≡ sz.B * sz.K * sz.S → Joins sz d v f pspace bspace
+module _ {sz : Sizes} {d : Directory} {v f : ℕ} (s : Sound sz d) where
+  pub joins : {pspace bspace : List ℕ} → v < sz.N → f < sz.B → length pspace ≡ sz.P * sz.S → length bspace ≡ sz.B * sz.K * sz.S
+      → Joins sz d v f pspace bspace
   joins vl fl lp lb = record { sound = s; block-lt = vl; frame-lt = fl; pspace-long = lp; bspace-long = lb }
 
   -- after a join
-  pub join-enters : Joining sz d v f → length pspace ≡ sz.P * sz.S → length page ≡ sz.S → (j : Directory) → j ≡ joined sz d v f
-      → Enters sz j f pspace page
-  join-enters g lp lx j e = rw e (record {
+  pub join-enters : {pspace page : List ℕ} → Joining sz d v f → length pspace ≡ sz.P * sz.S → length page ≡ sz.S → {j : Directory}
+      → j ≡ joined sz d v f → Enters sz j f pspace page
+  join-enters g lp lx e = rw e (record {
     sound = joined-sound sz d s v f g.frame-lt g.victim-lt g.sole (some-bit sz d s v f g.victim-pos);
     frame-lt = g.frame-lt;
     room = joined-vacant sz d s v f g.frame-lt g.victim-pos;
@@ -88,11 +81,12 @@ module _ (sz : Sizes) (d : Directory) (v f : ℕ) (pspace bspace page : List ℕ
     page-length = lx;
   })
 
-  pub join-entered : (t : Bool) (n : ℕ) (j d' : Directory) (pspace' bspace' : List ℕ) → Joined sz d v f pspace bspace j bspace'
+  pub join-entered : {pspace bspace page : List ℕ} {t : Bool} {n : ℕ} {j d' : Directory} {pspace' bspace' : List ℕ}
+      → Joined sz d v f pspace bspace j bspace'
       → Entered sz t j f pspace n page d' pspace'
       → JoinEntered sz t d v f pspace bspace n page d' pspace' bspace'
   unfolding spaces put_slot_page joined_pages
-  join-entered t n j d' pspace' bspace' a b = record {
+  join-entered {pspace = pspace} {page = page} {t = t} {n = n} a b = record {
     directory-is = b.directory-is ∙ ap (λ (x : Directory). entered sz (touched sz t x f) n) a.directory;
     pages-are = λ i. record {
       flash = [];
@@ -102,11 +96,12 @@ module _ (sz : Sizes) (d : Directory) (v f : ℕ) (pspace bspace page : List ℕ
   }
 
   -- after an exchange
-  pub exchange-enters : Changing sz d v f → valid_count sz d f < slot_count sz d v → length page ≡ sz.S → (j : Directory) (pspace₁ : List ℕ)
+  pub exchange-enters : {page : List ℕ} → Changing sz d v f → valid_count sz d f < slot_count sz d v → length page ≡ sz.S
+      → {j : Directory} {pspace₁ : List ℕ}
       → j ≡ exchanged sz d v f → length pspace₁ ≡ sz.P * sz.S
       → Enters sz j f pspace₁ page
   unfolding in_slots
-  exchange-enters g fewer lx j pspace₁ e l = rw e (record {
+  exchange-enters g fewer lx e l = rw e (record {
     sound = exchanged-sound sz d s v f g.frame-lt g.victim-lt fewer g.block-lt g.victim-out;
     frame-lt = g.frame-lt;
     room = lt-ltb _ sz.P (exchanged-vacant sz s.limits d s.shape s.entries v f g.frame-lt g.victim-lt fewer g.block-lt
@@ -115,11 +110,12 @@ module _ (sz : Sizes) (d : Directory) (v f : ℕ) (pspace bspace page : List ℕ
     page-length = lx;
   })
 
-  pub exchange-entered : (n : ℕ) (j d' : Directory) (pspace₁ pspace' bspace' : List ℕ) → Exchanged sz d v f pspace bspace j pspace₁ bspace'
+  pub exchange-entered : {pspace bspace page : List ℕ} {n : ℕ} {j d' : Directory} {pspace₁ pspace' bspace' : List ℕ}
+      → Exchanged sz d v f pspace bspace j pspace₁ bspace'
       → Entered sz true j f pspace₁ n page d' pspace'
       → ExchangeEntered sz d v f pspace bspace n page d' pspace' bspace'
   unfolding spaces put_slot_page
-  exchange-entered n j d' pspace₁ pspace' bspace' a b = record {
+  exchange-entered {page = page} {n = n} {pspace₁ = pspace₁} {bspace' = bspace'} a b = record {
     directory-is = b.directory-is ∙ ap (λ (x : Directory). entered sz (touched sz true x f) n) a.directory;
     pages-are = (λ i. record {
       flash = [];

@@ -1,4 +1,5 @@
 pub mod Over
+pub mod Listed
 pub mod Entering
 pub mod Ways
 pub mod Deciding

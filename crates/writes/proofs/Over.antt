@@ -3,13 +3,11 @@ use mathlib.Core.Path.{◌≡◌, ap, ◌∙◌}
 use mathlib.Core.List.{List}
 use Prim.Native.Nat.{ℕ, ◌+◌, ◌*◌, ◌%◌}
 use native.Mathlib.Nat.{zero-mul}
-use native.Mathlib.Omega.{arith}
 use lib.Arith.{digits_lt}
 use lib.ListN.{length, set}
 use lib.Seq.{take-length}
 use Rattle.prelude.specs.Pages.{page_at, put_page}
-use Rattle.prelude.proofs.Pages.{in_run, pages-put, block-fits}
-use Rattle.page.specs.Page.{HasPage}
+use Rattle.prelude.proofs.Pages.{pages-put}
 use Rattle.model.specs.Sizes.{Sizes}
 use Rattle.model.specs.Calls.{slot_pages, frame_pages}
 use Rattle.model.proofs.Lookup.{offset_lt}
@@ -20,32 +18,17 @@ page-whole : (s : ℕ) (l : List ℕ) → length l ≡ s → page_at s l 0 ≡ l
 unfolding page_at
 page-whole s l e = rw (zero-mul s, ← e) (take-length l)
 
-has-buffer : (s : ℕ) (l : List ℕ) → length l ≡ s → HasPage s l 0
-has-buffer s l e = rw (zero-mul s) (omega arith)
-
 module _ (sz : Sizes) (i : ℕ) (pspace page : List ℕ) (q : OverSlot sz i pspace page) where
-  pub has-slot : HasPage sz.S pspace i
-  has-slot = in_run sz.S sz.P pspace q.pspace-length q.slot_lt
-
-  pub slot-buffer : HasPage sz.S page 0
-  slot-buffer = has-buffer sz.S page q.page-length
-
   pub slot_is : (pspace' : List ℕ) → pspace' ≡ put_page sz.S pspace i (page_at sz.S page 0)
       → slot_pages sz pspace' ≡ set (slot_pages sz pspace) i page
   slot_is pspace' e = ap (slot_pages sz) (e ∙ ap (put_page sz.S pspace i) (page-whole sz.S page q.page-length))
       ∙ pages-put sz.S sz.P pspace i page q.slot_lt q.pspace-length q.page-length
 
 module _ (sz : Sizes) (f : ℕ) (bspace page : List ℕ) (q : OverFrame sz f bspace page) where
-  pub has-stretch : HasPage (sz.K * sz.S) bspace f
-  has-stretch = block-fits sz.S sz.K sz.B bspace q.bspace-length f q.frame-lt
-
-  pub frame-buffer : HasPage sz.S page 0
-  frame-buffer = has-buffer sz.S page q.page-length
-
-  pub frame-page_is : (n o : ℕ) (bspace' : List ℕ) → o ≡ n % sz.K
+  pub frame_page_is : (n o : ℕ) (bspace' : List ℕ) → o ≡ n % sz.K
       → bspace' ≡ put_page sz.S bspace (f * sz.K + o) (page_at sz.S page 0)
       → frame_pages sz bspace' ≡ set (frame_pages sz bspace) (f * sz.K + n % sz.K) page
-  frame-page_is n o bspace' eo e = ap (frame_pages sz) (e ∙ ap (put_page sz.S bspace (f * sz.K + o))
+  frame_page_is n o bspace' eo e = ap (frame_pages sz) (e ∙ ap (put_page sz.S bspace (f * sz.K + o))
       (page-whole sz.S page q.page-length) ∙ ap (λ (x : ℕ). put_page sz.S bspace (f * sz.K + x) page) eo)
       ∙ pages-put sz.S (sz.B * sz.K) bspace (f * sz.K + n % sz.K) page (digits_lt q.frame-lt (offset_lt sz q.limits n))
       q.bspace-length q.page-length

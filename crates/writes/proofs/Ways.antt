@@ -2,6 +2,7 @@
 use mathlib.Core.Path.{◌≡◌, refl, sym, ap, ◌∙◌, subst}
 use mathlib.Core.Bool.{true, false}
 use mathlib.Core.List.{List}
+use Rattle.std.specs.Prelude.{None}
 use Prim.Native.Nat.{ℕ, suc, ◌+◌, ◌*◌, ◌%◌, ◌≤◌, ◌<◌}
 use native.Mathlib.Omega.{arith}
 use lib.ListN.{set}
@@ -10,10 +11,11 @@ use Rattle.model.specs.Sizes.{Sizes, vacant}
 use Rattle.model.specs.Directory.{Directory, frame_at}
 use Rattle.model.specs.Soundness.{Sound}
 use Rattle.model.specs.Policy.{Choice, slot_of, frame_of, Plan, slot_hit, frame_hit, free_slot, join, fill, exchange, evict, plan, victim}
-use Rattle.model.specs.Policy.{due}
+use Rattle.model.specs.Policy.{due, erased_by, way_of}
 use Rattle.model.specs.Moves.{Memory, worn_by, touched, put_slot, entered, stepped, written, stepped_pages, written_pages, put_slot_page}
-use Rattle.model.specs.Moves.{put_frame_page, joined, joined_pages, filled, exchanged_pages}
+use Rattle.model.specs.Moves.{merged_by, put_frame_page, joined, joined_pages, filled, exchanged_pages}
 use Rattle.model.specs.Formats.{store_format, chip_for}
+use Rattle.model.specs.Calls.{write_merges}
 use Rattle.model.specs.Calls.{Answer, write_done, Page, Cell, Buffers, zero_page, flash_cells, slot_pages, frame_pages, memory_of}
 use Rattle.model.specs.Cut.{cut_rewrite, cut_write}
 use Rattle.model.specs.Lists.{Picks}
@@ -23,104 +25,96 @@ use Rattle.model.proofs.Steps as steps
 use Rattle.model.proofs.Plan.{victim-lt, victim-pos, sole-own, occupied-all, fewest-pick, evict-pick, plan-elim, eviction_elim}
 use Rattle.moves.specs.Spaces.{spaces}
 use Rattle.chip.specs.declared.Rewrote.{Rewrote}
-use Rattle.chip.proofs.Cells.{lent_of}
 use Rattle.clean.specs.Clean.{Cleanable, BlockCleaned}
 use Rattle.answer.specs.Carried.{buffers, left_of}
-use Rattle.writes.specs.Writes.{PlanHolds, Carries, CarriedOut}
+use Rattle.writes.specs.Ahead.{erased_frame}
+use Rattle.writes.specs.Writes.{PlanHolds, mend_by, Carries, CarriedOut}
 use Rattle.writes.specs.Enter.{Joining}
 use Rattle.writes.proofs.Entering.{JoinEntered, ExchangeEntered}
 
+-- ---- a plan that erases no block: it reads no flash, and leaves flash and wear
+
+pub record Still (sz : Sizes) (d : Directory) (u : Buffers) (p : Plan) : Type 0 where
+  pub erases : erased_by d p ≡ vacant
+  pub reads : (i : ℕ) → write_merges sz d p i ≡ false
+  pub mends : mend_by sz d u.flash u.codes p ≡ 0
+  pub merges : merged_by sz d p ≡ 0
+  pub leaves : (ops : ℕ) → left_of sz u ≡ cut_write (chip_for sz) (zero_page sz) sz ops d u.wear (memory_of store_format sz u) p
+
+pub still : (sz : Sizes) (d : Directory) (u : Buffers) (p : Plan) → erased_frame p ≡ None → Still sz d u p
+unfolding cut_write memory_of
+still sz d u (slot_hit i) e = record { erases = refl; reads = λ i. refl; mends = refl; merges = refl; leaves = λ ops. refl }
+still sz d u (frame_hit f) e = record { erases = refl; reads = λ i. refl; mends = refl; merges = refl; leaves = λ ops. refl }
+still sz d u (free_slot i) e = record { erases = refl; reads = λ i. refl; mends = refl; merges = refl; leaves = λ ops. refl }
+still sz d u (join v f) e = record { erases = refl; reads = λ i. refl; mends = refl; merges = refl; leaves = λ ops. refl }
+still sz d u (fill v f) e = record { erases = refl; reads = λ i. refl; mends = refl; merges = refl; leaves = λ ops. refl }
+still sz d u (exchange v f) e = record { erases = refl; reads = λ i. refl; mends = refl; merges = refl; leaves = λ ops. refl }
+still sz d u (evict v f) e = absurd (cc)
+
 -- ---- ways 1 to 6
 
-module _ (sz : Sizes) (d : Directory) (flash codes marks wear pspace bspace : List ℕ) (n : ℕ) (page : Page) (mends ops : ℕ) where
-  abbrev lent : Buffers
-  lent = buffers flash codes marks wear pspace bspace
+-- the two spaces beside the flash
+beside : (sz : Sizes) (u : Buffers) (pspace' bspace' : List ℕ) (m : Memory Cell Page) → spaces sz pspace' bspace' ≡ m
+    → memory_of store_format sz (record u { pspace = pspace'; bspace = bspace' })
+    ≡ record { flash = flash_cells store_format sz u; pspace = m.pspace; bspace = m.bspace }
+unfolding spaces memory_of flash_cells
+beside sz u pspace' bspace' m h = ap (λ (x : Memory Cell Page). record {
+  flash = flash_cells store_format sz u;
+  pspace = x.pspace;
+  bspace = x.bspace;
+}) h
 
-  pub way-1 : (i : ℕ) (pspace' : List ℕ) → slot_pages sz pspace' ≡ set (slot_pages sz pspace) i page
-      → CarriedOut sz d lent n page (slot_hit i) mends ops (write_done 1 vacant 0) mends d (buffers flash codes marks wear pspace' bspace)
-  unfolding cut_write written worn_by written_pages put_slot_page memory_of flash_cells
-  way-1 i pspace' h = record {
-    answer-is = refl;
+module _ {sz : Sizes} {d : Directory} {u : Buffers} {n : ℕ} {page : Page} {mends ops : ℕ} where
+  still-way : (p : Plan) → erased_frame p ≡ None → (d' : Directory) (pspace' bspace' : List ℕ) → d' ≡ written sz d n p
+      → memory_of store_format sz (record u { pspace = pspace'; bspace = bspace' })
+      ≡ written_pages (chip_for sz) (zero_page sz) sz d (memory_of store_format sz u) n page p
+      → CarriedOut sz d u n page p mends ops (write_done (way_of p) vacant 0) mends d' (record u { pspace = pspace'; bspace = bspace' })
+  unfolding worn_by flash_cells
+  still-way p e d' pspace' bspace' de pages = let h = still sz d u p e in record {
+    answer-is = rw (h.erases, h.merges);
     mends-are = refl;
-    directory-is = refl;
-    left_is = refl;
-    wear-is = λ l. refl;
-    pages-are = λ l j. record { flash = flash_cells store_format sz lent; pspace = h j; bspace = frame_pages sz bspace };
+    directory-is = de;
+    left_is = h.leaves ops;
+    wear-is = λ l. rw h.erases;
+    pages-are = λ l. pages;
   }
 
-  pub way-2 : (f : ℕ) (d' : Directory) (bspace' : List ℕ) → d' ≡ touched sz false d f
-      → frame_pages sz bspace' ≡ set (frame_pages sz bspace) (f * sz.K + n % sz.K) page
-      → CarriedOut sz d lent n page (frame_hit f) mends ops (write_done 2 vacant 0) mends d' (buffers flash codes marks wear pspace bspace')
-  unfolding cut_write written worn_by written_pages put_frame_page memory_of flash_cells
-  way-2 f d' bspace' e h = record {
-    answer-is = refl;
-    mends-are = refl;
-    directory-is = e;
-    left_is = refl;
-    wear-is = λ l. refl;
-    pages-are = λ l j. record { flash = flash_cells store_format sz lent; pspace = slot_pages sz pspace; bspace = h j };
-  }
+  pub way-1 : (i : ℕ) (pspace' : List ℕ) → slot_pages sz pspace' ≡ set (slot_pages sz u.pspace) i page
+      → CarriedOut sz d u n page (slot_hit i) mends ops (write_done 1 vacant 0) mends d (record u { pspace = pspace' })
+  unfolding written written_pages put_slot_page memory_of flash_cells
+  way-1 i pspace' h = still-way (slot_hit i) refl d pspace' u.bspace refl
+      (ap (λ (x : List Page). record { flash = flash_cells store_format sz u; pspace = x; bspace = frame_pages sz u.bspace }) h)
 
-  pub way-3 : (i : ℕ) (d' : Directory) (pspace' : List ℕ) → d' ≡ put_slot d i n → slot_pages sz pspace' ≡ set (slot_pages sz pspace) i page
-      → CarriedOut sz d lent n page (free_slot i) mends ops (write_done 3 vacant 0) mends d' (buffers flash codes marks wear pspace' bspace)
-  unfolding cut_write written worn_by written_pages put_slot_page memory_of flash_cells
-  way-3 i d' pspace' e h = record {
-    answer-is = refl;
-    mends-are = refl;
-    directory-is = e;
-    left_is = refl;
-    wear-is = λ l. refl;
-    pages-are = λ l j. record { flash = flash_cells store_format sz lent; pspace = h j; bspace = frame_pages sz bspace };
-  }
+  pub way-2 : (f : ℕ) (bspace' : List ℕ) {d' : Directory} → d' ≡ touched sz false d f
+      → frame_pages sz bspace' ≡ set (frame_pages sz u.bspace) (f * sz.K + n % sz.K) page
+      → CarriedOut sz d u n page (frame_hit f) mends ops (write_done 2 vacant 0) mends d' (record u { bspace = bspace' })
+  unfolding written written_pages put_frame_page memory_of flash_cells
+  way-2 f bspace' e h = still-way (frame_hit f) refl _ u.pspace bspace' e
+      (ap (λ (x : List Page). record { flash = flash_cells store_format sz u; pspace = slot_pages sz u.pspace; bspace = x }) h)
 
-  -- the two spaces beside the flash
-  beside : (m : Memory Cell Page) (pspace' bspace' : List ℕ) → spaces sz pspace' bspace' ≡ m
-      → memory_of store_format sz (buffers flash codes marks wear pspace' bspace')
-      ≡ record { flash = flash_cells store_format sz lent; pspace = m.pspace; bspace = m.bspace }
-  unfolding spaces memory_of flash_cells
-  beside m pspace' bspace' h = ap (λ (x : Memory Cell Page). record {
-    flash = flash_cells store_format sz lent;
-    pspace = x.pspace;
-    bspace = x.bspace;
-  }) h
+  pub way-3 : (i : ℕ) (pspace' : List ℕ) {d' : Directory} → d' ≡ put_slot d i n
+      → slot_pages sz pspace' ≡ set (slot_pages sz u.pspace) i page
+      → CarriedOut sz d u n page (free_slot i) mends ops (write_done 3 vacant 0) mends d' (record u { pspace = pspace' })
+  unfolding written written_pages put_slot_page memory_of flash_cells
+  way-3 i pspace' e h = still-way (free_slot i) refl _ pspace' u.bspace e
+      (ap (λ (x : List Page). record { flash = flash_cells store_format sz u; pspace = x; bspace = frame_pages sz u.bspace }) h)
 
-  module _ (v f : ℕ) (d' : Directory) (pspace' bspace' : List ℕ) where
-    pub way-4 : JoinEntered sz false d v f pspace bspace n page d' pspace' bspace'
-        → CarriedOut sz d lent n page (join v f) mends ops (write_done 4 vacant 0) mends d' (buffers flash codes marks wear pspace' bspace')
-    unfolding cut_write written worn_by written_pages put_slot_page joined_pages filled memory_of spaces flash_cells
-    way-4 h = record {
-      answer-is = refl;
-      mends-are = refl;
-      directory-is = h.directory-is;
-      left_is = refl;
-      wear-is = λ l. refl;
-      pages-are = λ l. beside _ pspace' bspace' h.pages-are;
-    }
+  module _ (v f : ℕ) {d' : Directory} (pspace' bspace' : List ℕ) where
+    pub way-4 : JoinEntered sz false d v f u.pspace u.bspace n page d' pspace' bspace'
+        → CarriedOut sz d u n page (join v f) mends ops (write_done 4 vacant 0) mends d' (record u { pspace = pspace'; bspace = bspace' })
+    unfolding written written_pages put_slot_page joined_pages filled spaces memory_of
+    way-4 h = still-way (join v f) refl _ pspace' bspace' h.directory-is (beside sz u pspace' bspace' _ h.pages-are)
 
-    pub way-5 : JoinEntered sz true d v f pspace bspace n page d' pspace' bspace'
-        → CarriedOut sz d lent n page (fill v f) mends ops (write_done 5 vacant 0) mends d' (buffers flash codes marks wear pspace' bspace')
-    unfolding cut_write written worn_by written_pages put_slot_page joined_pages filled memory_of spaces flash_cells
-    way-5 h = record {
-      answer-is = refl;
-      mends-are = refl;
-      directory-is = h.directory-is;
-      left_is = refl;
-      wear-is = λ l. refl;
-      pages-are = λ l. beside _ pspace' bspace' h.pages-are;
-    }
+    pub way-5 : JoinEntered sz true d v f u.pspace u.bspace n page d' pspace' bspace'
+        → CarriedOut sz d u n page (fill v f) mends ops (write_done 5 vacant 0) mends d' (record u { pspace = pspace'; bspace = bspace' })
+    unfolding written written_pages put_slot_page joined_pages filled spaces memory_of
+    way-5 h = still-way (fill v f) refl _ pspace' bspace' h.directory-is (beside sz u pspace' bspace' _ h.pages-are)
 
-    pub way-6 : ExchangeEntered sz d v f pspace bspace n page d' pspace' bspace'
-        → CarriedOut sz d lent n page (exchange v f) mends ops (write_done 6 vacant 0) mends d'
-        (buffers flash codes marks wear pspace' bspace')
-    unfolding cut_write written worn_by written_pages put_slot_page exchanged_pages filled memory_of spaces flash_cells
-    way-6 h = record {
-      answer-is = refl;
-      mends-are = refl;
-      directory-is = h.directory-is;
-      left_is = refl;
-      wear-is = λ l. refl;
-      pages-are = λ l. beside _ pspace' bspace' h.pages-are;
-    }
+    pub way-6 : ExchangeEntered sz d v f u.pspace u.bspace n page d' pspace' bspace'
+        → CarriedOut sz d u n page (exchange v f) mends ops (write_done 6 vacant 0) mends d'
+        (record u { pspace = pspace'; bspace = bspace' })
+    unfolding written written_pages put_slot_page exchanged_pages filled spaces memory_of
+    way-6 h = still-way (exchange v f) refl _ pspace' bspace' h.directory-is (beside sz u pspace' bspace' _ h.pages-are)
 
 -- ---- way 7
 
@@ -131,10 +125,10 @@ joined-beside : (sz : Sizes) (e d' : Directory) (flash codes marks wear pspace b
     (joined_pages (zero_page sz) sz e (memory_of store_format sz (buffers flash codes marks wear pspace bspace)) v f)
     (slot_of sz (joined sz e v f) vacant) page
 unfolding put_slot_page joined_pages filled spaces memory_of flash_cells
-joined-beside sz e d' flash codes marks wear pspace bspace pspace' bspace' v f n page j = beside sz e flash codes marks wear pspace bspace
-    n page 0 0 _ pspace' bspace' j.pages-are
+joined-beside sz e d' flash codes marks wear pspace bspace pspace' bspace' v f n page j =
+    beside sz (buffers flash codes marks wear pspace bspace) pspace' bspace' _ j.pages-are
 
-module _ (sz : Sizes) (d : Directory) (flash codes marks wear pspace bspace : List ℕ) (v f : ℕ) (page : Page) (mend : ℕ)
+module _ {sz : Sizes} {d : Directory} {flash codes marks wear pspace bspace : List ℕ} {v f : ℕ} {page : Page} {mend : ℕ}
     (q : Carries sz d (buffers flash codes marks wear pspace bspace) page (evict v f) mend) where
   abbrev evicting : Buffers
   evicting = buffers flash codes marks wear pspace bspace
@@ -150,12 +144,7 @@ module _ (sz : Sizes) (d : Directory) (flash codes marks wear pspace bspace : Li
   cleanable = let h = q.ready.fits in record {
     sound = q.ready.sound;
     block = block-ready;
-    erasable = record {
-      lent = lent_of sz evicting q.ready.sound.limits h;
-      b_lt = q.holds.0.block-lt;
-      wear-length = h.wear-length;
-      unworn = not-worn sz wear (frame_at d f) block-below q.unworn;
-    };
+    unworn = not-worn sz wear (frame_at d f) block-below q.unworn;
     pspace-length = h.pspace-length;
     bspace-length = h.bspace-length;
     faultless = q.faultless;
@@ -163,8 +152,8 @@ module _ (sz : Sizes) (d : Directory) (flash codes marks wear pspace bspace : Li
   }
 
   -- and the victim's pages may join the frame then
-  pub cleaned : (e : Directory) → e ≡ stepped sz d (due (frame_at d f) f) → Sound sz e × Joining sz e v f
-  cleaned e h = let s = q.ready.sound in let g = q.holds.0 in let a : ℕ = frame_at d f in rw h (
+  pub cleaned : {e : Directory} → e ≡ stepped sz d (due (frame_at d f) f) → Sound sz e × Joining sz e v f
+  cleaned h = let s = q.ready.sound in let g = q.holds.0 in let a : ℕ = frame_at d f in rw h (
     steps.stepped-sound sz d s a f block-ready,
     record {
       victim-lt = g.victim-lt;
@@ -174,7 +163,7 @@ module _ (sz : Sizes) (d : Directory) (flash codes marks wear pspace bspace : Li
     },
   )
 
-  module _ (n mends ops : ℕ) (r : Rewrote) (e d' : Directory) (flash' codes' marks' wear' pspace' bspace₁ bspace' : List ℕ)
+  module _ {n : ℕ} (mends : ℕ) {ops : ℕ} {r : Rewrote} {e d' : Directory} {flash' codes' marks' wear' pspace' bspace₁ bspace' : List ℕ}
       (w : BlockCleaned sz d flash codes marks wear pspace bspace (frame_at d f) f ops e r flash' codes' marks' wear' bspace₁)
       (j : JoinEntered sz true e v f pspace bspace₁ n page d' pspace' bspace') where
     worn-once : suc sz.K ≤ ops → wear' ≡ worn_by wear (frame_at d f)
@@ -228,7 +217,7 @@ plan-holds pick picks sz d s w n = let Q = PlanHolds sz d in let v : ℕ = victi
 
 -- ---- a plan of the code, or how it makes room, and the same one shown
 
-module _ {T : Type 0} (view : T → Plan) (sz : Sizes) (d : Directory) (u : Buffers) (page : Page) (found shown : T)
+module _ {T : Type 0} (view : T → Plan) {sz : Sizes} {d : Directory} {u : Buffers} {page : Page} {found shown : T}
     (is-shown : found ≡ shown) where
   pub shown-carries : {mend : ℕ} → Carries sz d u page (view found) mend → Carries sz d u page (view shown) mend
   shown-carries {mend} q = subst (λ (t : T). Carries sz d u page (view t) mend) is-shown q

@@ -1,12 +1,11 @@
 -- What holds of a plan's victim and frame, and what the entering of a page asks and leaves, after a join or an exchange has made room.
-use Rattle.std.specs.Prelude.{◌≡◌, Bool, true, List, [], ℕ, ◌*◌, ◌<◌, length, set}
-use Rattle.model.specs.Sizes.{Sizes, vacant, InLimits}
+use Rattle.std.specs.Prelude.{◌≡◌, Bool, true, List, ℕ, ◌*◌, ◌<◌, length, set}
+use Rattle.model.specs.Sizes.{Sizes, vacant}
 use Rattle.model.specs.Directory.{Directory, frame_at}
 use Rattle.model.specs.Soundness.{Sound}
 use Rattle.model.specs.Policy.{in_slots, slot_of, slot_count}
 use Rattle.model.specs.Moves.{touched, entered}
 use Rattle.model.specs.Calls.{Page, slot_pages}
-use Rattle.cache.specs.View.{numbers}
 
 -- ---- the victim v and the frame f that takes its pages
 
@@ -25,18 +24,6 @@ pub record Changing (sz : Sizes) (d : Directory) (v f : ℕ) : Type 0 where
   pub block-lt : frame_at d f < sz.N
 
 -- ---- entering
-
--- the slots s have a vacant one
-pub record HasRoom (sz : Sizes) (s pspace : List ℕ) (page : Page) : Type 0 where
-  pub limits : InLimits sz
-  pub room : in_slots sz (numbers s [] [] [] []) vacant ≡ true
-  pub pspace-length : length pspace ≡ sz.P * sz.S
-  pub page-length : length page ≡ sz.S
-
--- the first of them has page n then
-pub record PutIn (sz : Sizes) (s pspace : List ℕ) (n : ℕ) (page : Page) (s' pspace' : List ℕ) : Type 0 where
-  pub slots-are : s' ≡ set s (slot_of sz (numbers s [] [] [] []) vacant) n
-  pub pages-are : slot_pages sz pspace' ≡ set (slot_pages sz pspace) (slot_of sz (numbers s [] [] [] []) vacant) page
 
 -- after the victim's pages have gone into frame f; t says whether that filled it
 

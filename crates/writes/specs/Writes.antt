@@ -12,6 +12,7 @@ use Rattle.model.specs.Calls.{memory_of}
 use Rattle.model.specs.Cut.{cut_write}
 use Rattle.chip.specs.declared.Seen.{Seen}
 use Rattle.chip.specs.Chip.{fault_in, mends_in, most_mends, mend_set}
+use Rattle.answer.specs.Numbers.{fault_number}
 use Rattle.answer.specs.Carried.{Ready, left_of, CarriedTo}
 use Rattle.writes.specs.Enter.{Joining, Changing}
 
@@ -30,7 +31,7 @@ state d u = record { directory = d; wear = u.wear }
 -- what was met where page n was read besides, as no use; besides is that page, or no page where it is not in flash or not read
 pub record Beside (sz : Sizes) (d : Directory) (u : Buffers) (n : ℕ) (besides : ℕ → Bool) (beside : Seen) : Type 0 where
   pub within : (i : ℕ) → besides i ≡ true → reads_page sz d n i ≡ true
-  pub fault-is : beside.fault ≡ fault_in sz u besides
+  pub fault-is : fault_number beside.fault ≡ fault_in sz u besides
   pub mends-are : beside.mends ≡ mends_in sz u besides
 
 abbrev pub write_reads : Sizes → Directory → Plan → (ℕ → Bool) → ℕ → Bool
@@ -84,13 +85,8 @@ PlanHolds sz d (evict v f) = Changing sz d v f × (0 < slot_count sz d v)
 
 -- the pages that want mending in a write by plan p
 abbrev pub mend_by : Sizes → Directory → List ℕ → List ℕ → Plan → ℕ
-mend_by sz d flash codes (slot_hit i) = 0
-mend_by sz d flash codes (frame_hit f) = 0
-mend_by sz d flash codes (free_slot i) = 0
-mend_by sz d flash codes (join v f) = 0
-mend_by sz d flash codes (fill v f) = 0
-mend_by sz d flash codes (exchange v f) = 0
 mend_by sz d flash codes (evict v f) = mend_set sz flash codes (frame_at d f) (valid_at (joined sz d (frame_at d f) f) f)
+mend_by sz d flash codes _ = 0
 
 -- plan p may be carried out: the block that it erases is not worn, its merge reads meet no refusal, and mend has those that want mending
 pub record Carries (sz : Sizes) (d : Directory) (u : Buffers) (page : Page) (p : Plan) (mend : ℕ) : Type 0 where

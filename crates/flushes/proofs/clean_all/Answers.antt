@@ -1,51 +1,50 @@
 use native.Mathlib.Omega.{arith}
-use mathlib.Core.Path.{◌≡◌, sym, ap, ◌∙◌}
-use Rattle.model.specs.Policy.{policy_choice, due, due_of}
-use Rattle.cache.specs.View.{sizes_of, numbers}
-use Rattle.policy.specs.Views.{due_view}
-use Rattle.flushes.proofs.Stepping.{due-same}
+use borrow.Author.Rules.{rules}
+use mathlib.Core.Path.{refl, ◌∙◌}
 use Rattle.flushes.proofs.Flushing.{fits_kept, begins, flush-done, flush-cut, lookable, mends-due, cleanable, left, turns}
 use Rattle.flushes.proofs.clean_all.Goals as goal
-use Rattle.flushes.proofs.clean_all.Goals.{In-Block}
 
--- the block and the frame that are due
-found : (c : In-Block) → due c.in-Block.b.0 c.in-Block.f
-    ≡ due_of policy_choice (sizes_of c.args.z) (numbers c.loop-b.slots c.loop-b.frames c.loop-b.valid c.args.recency.now c.loop-b.uses)
-found c = sym (ap due_view c.in-Block.is) ∙ c.due-due.ensures ∙ due-same _ _ _ _ _ _
-
-pub loop-b-init : goal.loop-b-init
-loop-b-init c = begins c.args.ops c.requires
-
-pub returns-in_default : goal.returns-in_default
-returns-in_default c =
-    flush-done c.loop-b.invariant c.requires (sym (ap due_view c.in_default.is) ∙ c.due-due.ensures ∙ due-same _ _ _ _ _ _)
+pub loop-due-init : goal.loop-due-init
+loop-due-init c = (search rules, begins c.args.ops c.requires, refl)
 
 pub mend_due-mend-requires : goal.mend_due-mend-requires
 mend_due-mend-requires c =
-    let at = (goal.at.mend_due-mend-requires c).In-Block in
-    let k = c.loop-b.invariant in
-    (lookable k _ _ (found at), mends-due k _ _ (found at))
+    let b = c.in-Some.ensures in
+    let k = c.loop-due.invariant in
+    let v = c.view.ensures in
+    rw (v.sizes, k.0.sizes, v.flash, v.codes, v.marks) (lookable k.1 _ _ b, mends-due k.1 _ _ b)
 
-pub clean_block-done-requires : goal.clean_block-done-requires
-clean_block-done-requires c =
-    let at = (goal.at.clean_block-done-requires c).In-Block in
-    cleanable c.loop-b.invariant _ _ (found at) _ c.mend_due-mend.ensures
+pub clean_block-rewrote-requires : goal.clean_block-rewrote-requires
+clean_block-rewrote-requires c =
+    let k = c.loop-due.invariant in
+    let v = c.view.ensures in
+    rw k.0.sizes (cleanable k.1 _ _ c.in-Some.ensures _
+    (rw (v.sizes, k.0.sizes, v.flash, v.codes) at c.mend_due-mend.ensures))
 
-pub returns-then-left-z : goal.returns-then-left-z
-returns-then-left-z c =
-    let at = (goal.at.returns-then-left-z c).In-Block in
-    flush-cut c.loop-b.invariant _ _ (found at) c.clean_block-done.ensures c.requires c.if-left-z.true _ _
+pub returns-then-left-z-clause-carried : goal.returns-then-left-z-clause-carried
+returns-then-left-z-clause-carried c =
+    let k = c.loop-due.invariant in
+    rw k.2 (flush-cut k.1 _ _ c.in-Some.ensures
+    (rw k.0.sizes at c.clean_block-rewrote.ensures.cleaned) c.requires c.if-left-z.true _ _)
 
-pub loop-b-smaller : goal.loop-b-smaller
-loop-b-smaller c =
-    let at = (goal.at.loop-b-smaller c).In-Block in
-    let l = left c.loop-b.invariant _ _ (found at) in
+pub loop-due-smaller : goal.loop-due-smaller
+loop-due-smaller c =
+    let l = left c.loop-due.invariant.1 _ _ c.in-Some.ensures in
     omega arith
 
-pub loop-b-preserved : goal.loop-b-preserved
-loop-b-preserved c =
-    let at = (goal.at.loop-b-preserved c).In-Block in
-    let cleaned = c.clean_block-done in
-    let k = cleaned.auto in
-    turns c.loop-b.invariant _ _ (found at) cleaned.ensures c.if-left-z.false (fits_kept _ _ _ _ _ c.loop-b.invariant.ready.fits
-    k.flash k.codes k.marks k.wear k.bspace) _ _ (omega arith) (omega arith)
+pub loop-due-preserved : goal.loop-due-preserved
+loop-due-preserved c =
+    let k = c.loop-due.invariant in
+    let w = c.clean_block-rewrote in
+    let e = w.ensures.loan.sizes ∙ k.0.sizes in
+    let fits = fits_kept k.1.ready.fits (rw e at w.new.chip.lent) (rw e at w.new.chip.wear_length) w.auto.bspace in (
+      search rules,
+      turns k.1 _ _ c.in-Some.ensures (rw k.0.sizes at w.ensures.cleaned) c.if-left-z.false fits _ _
+          (omega arith) (omega arith),
+      k.2,
+    )
+
+pub returns-clause-carried : goal.returns-clause-carried
+returns-clause-carried c =
+    let k = c.loop-due.invariant in
+    rw k.2 (flush-done k.1 c.requires c.in_default.ensures)

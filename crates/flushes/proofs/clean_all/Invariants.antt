@@ -1,17 +1,17 @@
+use mathlib.Core.Path.{◌≡◌}
 use Prim.Native.Nat.{◌-◌}
-use Rattle.answer.specs.Carried.{buffers}
-use Rattle.cache.specs.View.{sizes_of, numbers}
+use Rattle.cache.specs.View.{sizes_of, directory_of}
+use Rattle.chip.specs.Loan.{IsSameLoan, buffers_of}
 use Rattle.flushes.proofs.Flushing.{Underway}
 use Rattle.flushes.proofs.clean_all.Given as goal
 
 -- the steps done and those still due are together the whole flush, in numbers and in pages; no cached block is worn, and what is still to
 -- be merged meets no refusal
-abbrev pub invariant-loop-b : goal.invariant-loop-b
-invariant-loop-b l =
-    Underway (sizes_of l.z) (numbers l.initial.slots l.initial.frames l.initial.valid l.recency l.initial.uses)
-    (buffers l.initial.flash l.initial.codes l.initial.marks l.initial.wear l.pspace l.initial.bspace) l.mends l.ops
-    (numbers l.slots l.frames l.valid l.recency l.uses)
-    (buffers l.flash l.codes l.marks l.wear l.pspace l.bspace) l.rewrites l.merged l.left
+abbrev pub invariant-loop-due : goal.invariant-loop-due
+invariant-loop-due l = let old = l.initial.chip in
+    IsSameLoan old l.chip × Underway (sizes_of old.sizes) (directory_of l.initial.directory) (buffers_of old l.pspace l.initial.bspace)
+    l.mends l.ops (directory_of l.directory) (buffers_of l.chip l.pspace l.bspace) l.done.rewrites l.done.merged l.left
+    × (l.done.mends ≡ l.mends)
 
-abbrev pub decreases-loop-b : goal.decreases-loop-b
-decreases-loop-b l = l.z.blocks - l.rewrites
+abbrev pub decreases-loop-due : goal.decreases-loop-due
+decreases-loop-due l = l.z.blocks - l.done.rewrites

@@ -1,51 +1,41 @@
-use mathlib.Core.Path.{◌≡◌, sym, ap, ◌∙◌}
-use Rattle.model.specs.Policy.{policy_choice, due, due_of}
-use Rattle.cache.specs.View.{sizes_of, numbers}
-use Rattle.policy.specs.Views.{due_view}
-use Rattle.flushes.proofs.Stepping.{due-same, due-lookable, step-clean, has-wear, step-worn, step-late, cleanable, step-done}
+use mathlib.Core.Path.{sym, ◌∙◌}
+use Rattle.cache.specs.View.{sizes_of, directory_of}
+use Rattle.clean.specs.Clean.{MergesLooked}
+use Rattle.flushes.proofs.Stepping.{due-lookable, step-clean, has-wear, step-worn, step-late, cleanable, step-done}
 use Rattle.flushes.proofs.step.Goals as goal
-use Rattle.flushes.proofs.step.Goals.{In-Block}
+use Rattle.flushes.proofs.step.Goals.{After-look-seen}
 
--- the block and the frame that are due
-found : (c : In-Block)
-    → due c.in-Block.b.0 c.in-Block.f
-    ≡ due_of policy_choice (sizes_of c.args.z)
-    (numbers c.args.slots.now c.args.frames.now c.args.valid.now c.args.recency.now c.args.uses.now)
-found c = sym (ap due_view c.in-Block.is) ∙ c.due-due.ensures ∙ due-same _ _ _ _ _ _
+looked : (c : After-look-seen) → MergesLooked (sizes_of c.args.chip.now.sizes) (directory_of c.args.directory.now) c.args.chip.now.flash.now
+    c.args.chip.now.codes.now c.args.chip.now.marks.now c.in-Some.due.block.0 c.in-Some.due.frame c.look-seen.result
+looked c = let v = c.view.ensures in rw (v.sizes, v.flash, v.codes, v.marks) at c.look-seen.ensures
 
-pub returns-in_default : goal.returns-in_default
-returns-in_default c =
-    step-clean c.requires _ (sym (ap due_view c.in_default.is) ∙ c.due-due.ensures ∙ due-same _ _ _ _ _ _)
+pub returns-in_default-clause-carried : goal.returns-in_default-clause-carried
+returns-in_default-clause-carried c = step-clean c.requires _ c.in_default.ensures
 
 pub is_worn-requires : goal.is_worn-requires
-is_worn-requires c =
-    let at = (goal.at.is_worn-requires c).In-Block in
-    has-wear c.requires 0 _ _ (found at)
+is_worn-requires c = has-wear c.requires 0 _ _ c.in-Some.ensures
 
-pub returns-then-is_worn : goal.returns-then-is_worn
-returns-then-is_worn c =
-    let at = (goal.at.returns-then-is_worn c).In-Block in
-    step-worn c.requires _ _ _ (found at) (sym c.is_worn.ensures ∙ c.if-is_worn.true)
+pub returns-then-is_worn-clause-carried : goal.returns-then-is_worn-clause-carried
+returns-then-is_worn-clause-carried c =
+    step-worn c.requires _ _ _ c.in-Some.ensures (sym c.is_worn.ensures ∙ c.if-is_worn.true)
 
 pub look-seen-requires : goal.look-seen-requires
-look-seen-requires c =
-    let at = (goal.at.look-seen-requires c).In-Block in
-    due-lookable c.requires _ _ (found at)
+look-seen-requires c = rw c.view.ensures.sizes (due-lookable c.requires _ _ c.in-Some.ensures)
 
-pub returns-then-seen-ne0 : goal.returns-then-seen-ne0
-returns-then-seen-ne0 c =
-    let at = (goal.at.returns-then-seen-ne0 c).In-Block in
-    rw c.late.ensures (step-late c.requires _ _ _ (found at) (sym c.is_worn.ensures ∙ c.if-is_worn.false) _
-    c.look-seen.ensures c.if-seen-ne0.true)
+pub returns-in-Some-fault-clause-carried : goal.returns-in-Some-fault-clause-carried
+returns-in-Some-fault-clause-carried c =
+    let at = goal.at.returns-in-Some-fault-clause-carried c in
+    rw c.into.ensures (step-late c.requires _ _ _ c.in-Some.ensures (sym c.is_worn.ensures ∙ c.if-is_worn.false) _
+    (looked at.After-look-seen) _ c.in-Some-fault.is)
 
 pub clean_block-done-requires : goal.clean_block-done-requires
 clean_block-done-requires c =
-    let at = (goal.at.clean_block-done-requires c).In-Block in
-    cleanable c.requires 0 _ _ (found at) (sym c.is_worn.ensures ∙ c.if-is_worn.false) _ c.look-seen.ensures
-    c.if-seen-ne0.false
+    let at = goal.at.clean_block-done-requires c in
+    cleanable c.requires 0 _ _ c.in-Some.ensures (sym c.is_worn.ensures ∙ c.if-is_worn.false) _ (looked at.After-look-seen)
+    c.in_default-fault.is
 
-pub returns : goal.returns
-returns c =
-    let at = (goal.at.returns c).In-Block in
-    step-done c.requires _ _ _ (found at) (sym c.is_worn.ensures ∙ c.if-is_worn.false) _ c.look-seen.ensures
-    c.if-seen-ne0.false c.clean_block-done.ensures
+pub returns-clause-carried : goal.returns-clause-carried
+returns-clause-carried c =
+    let at = goal.at.returns-clause-carried c in
+    step-done c.requires _ _ _ c.in-Some.ensures (sym c.is_worn.ensures ∙ c.if-is_worn.false) _ (looked at.After-look-seen)
+    c.in_default-fault.is c.clean_block-done.ensures.cleaned

@@ -1,23 +1,25 @@
 use native.Mathlib.Omega.{arith}
-use Rattle.model.specs.Calls.{Buffers}
-use Rattle.answer.specs.Carried.{buffers}
-use Rattle.parts.proofs.Parts.{part-writable, few-met, part-wrote}
+use Rattle.std.proofs.lemmas.Result.{err_from_is_err_and}
+use Rattle.chip.specs.Loan.{buffers_of}
+use Rattle.answer.proofs.Refusals.{why_refused}
+use Rattle.parts.proofs.Parts.{accepted, few-met, part-wrote}
 use Rattle.parts.proofs.write_combined.Goals as goal
-use Rattle.parts.proofs.write_combined.Goals.{Start}
 
-abbrev lent_buffers : Start → Buffers
-lent_buffers s = let a = s.args in buffers a.flash.now a.codes.now a.marks.now a.wear.now a.pspace.now a.bspace.now
+pub write-requires : goal.write-requires
+write-requires c = let p = c.requires.0 in let u = buffers_of c.args.chip.now c.args.pspace.now c.args.bspace.now in record {
+  ready = p.ready;
+  page-lt = p.page-lt;
+  page-length = omega (arith, c.combine-seen.auto);
+  few = few-met _ _ u _ _ _ _ _ c.combine-seen.ensures p.ready.sound.limits;
+}
 
-pub write-answer-requires : goal.write-answer-requires
-write-answer-requires c =
-    let start : Start = search in
-    let p = start.requires in
-    part-writable _ _ _ _ _ _ _ p.0 _ (omega (arith, c.combine-seen.auto, p)) _
-    (few-met _ _ _ _ start.args.recency.now start.args.uses.now (lent_buffers start) _ _ _ _ _ c.combine-seen.ensures
-    p.0.ready.sound.limits)
+pub returns-in_err-answer-clause-wrote : goal.returns-in_err-answer-clause-wrote
+returns-in_err-answer-clause-wrote c =
+    let p = err_from_is_err_and c.from_residual.result c.from_residual.ensures.1 in
+    rw (p.1, p.2) (part-wrote _ _ _ _ _ _ _ _ c.combine-seen.ensures _ _ _ _ _ _ _ c.in_err-answer.ensures.wrote
+    (rw why_refused))
 
-pub returns : goal.returns
-returns c =
-    let start : Start = search in
-    part-wrote _ _ _ _ _ _ (lent_buffers start) _ _ _ _ _ c.combine-seen.ensures _ _ _ _ _ _ _ c.write-answer.ensures
-    c.deliver.ensures
+pub returns-clause-wrote : goal.returns-clause-wrote
+returns-clause-wrote c =
+    part-wrote _ _ _ _ _ _ _ _ c.combine-seen.ensures _ _ _ _ _ _ _ c.in_ok-answer.ensures.wrote
+    (rw accepted c.copy_from_slice.ensures.after)

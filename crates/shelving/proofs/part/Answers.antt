@@ -1,17 +1,16 @@
-use mathlib.Core.Path.{sym, ◌∙◌}
+use Rattle.std.proofs.lemmas.Result.{err_from_is_err_and}
 use Rattle.model.specs.Calls as calls
 use Rattle.model.specs.Shelf.{plainly}
 use Rattle.shelving.proofs.OnLists.{part-quiet, turned_down_lem, plainly-on}
 use Rattle.shelving.proofs.part.Goals as goal
 
-pub returns-then-not-fitting : goal.returns-then-not-fitting
-returns-then-not-fitting c =
-    let a = c.args in
-    turned_down_lem _ _ _ _ _ _ (plainly (calls.part a.n.0 a.first a.bytes.now a.page.now)) (sym c.fitting.ensures ∙ c.if-not-fitting.true)
-    c.refusal-why.result c.refusal-why.ensures
+pub returns-in_err-fitting-clause-shelved : goal.returns-in_err-fitting-clause-shelved
+returns-in_err-fitting-clause-shelved c =
+    let p = err_from_is_err_and c.from_residual.result c.from_residual.ensures.1 in let e = c.in_err-fitting.ensures in
+    rw (p.1, p.2) (turned_down_lem _ _ _ _ _ _ (plainly (calls.part c.args.n.0 c.args.first c.args.bytes.now c.args.page.now)) e.0 _ e.1)
 
-pub returns : goal.returns
-returns c =
+pub returns-clause-shelved : goal.returns-clause-shelved
+returns-clause-shelved c =
     let a = c.args in
-    plainly-on _ _ _ _ _ (sym c.fitting.ensures ∙ c.if-not-fitting.false) _ (calls.part a.n.0 a.first a.bytes.now a.page.now)
-    (part-quiet a.z.shelf_pages a.n.0 a.bytes.now c.if-z-bytes.false) _ _ _ _ _ c.write.ensures
+    plainly-on _ _ _ _ _ c.in_ok-fitting.ensures _ (calls.part a.n.0 a.first a.bytes.now a.page.now)
+    (part-quiet a.z.shelf_pages a.n.0 a.bytes.now (rw (← c.is_empty.ensures) c.if-z-is_empty.false)) _ _ _ _ _ c.write.ensures.called

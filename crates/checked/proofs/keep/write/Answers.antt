@@ -1,126 +1,48 @@
 use native.Mathlib.Omega.{arith}
-use Rattle.model.specs.Formats.{store_format}
-use mathlib.Core.Path.{sym, ◌∙◌}
 use lib.ListN.{length-take}
 use lib.Seq.{length-take-le}
-use Rattle.model.specs.Policy.{policy_choice}
-use Rattle.model.specs.Calls.{write}
-use Rattle.model.proofs.Soundness.{sound-facts, pages-small}
+use Rattle.std.proofs.Common.{rules}
+use Rattle.model.specs.Formats.{store_format}
+use Rattle.model.specs.Calls.{Store}
+use Rattle.model.proofs.Soundness.{sound-facts}
 use Rattle.model.proofs.Buffers.{fits-of}
-use Rattle.cache.specs.View.{sizes_of, numbers}
-use Rattle.answer.specs.Carried.{buffers}
-use Rattle.checked.specs.Lists.{store_with}
-use Rattle.lent.proofs.Lengths.{lengths-lent}
-use Rattle.checked.proofs.Carrying.{ready, write_checked, reading-record, reading-buffer, reading-page_buffer, reading-page}
-use Rattle.checked.proofs.Keeping.{front-page, refused-keeps, write_keeps}
+use Rattle.cache.specs.View.{directory_of}
+use Rattle.lent.specs.Loan.{buffers_of}
+use Rattle.chip.specs.Loan as loan
+use Rattle.checked.specs.Called.{store_with}
+use Rattle.checked.proofs.Carrying.{passed-at, chip-fits, fits-after, ready}
+use Rattle.checked.proofs.Keeping.{front-page, keeping-as, write_keeps}
 use Rattle.checked.proofs.keep.write.Goals as goal
+use Rattle.checked.proofs.keep.write.Goals.{Start}
 
-pub returns-then-not-lists_sound : goal.returns-then-not-lists_sound
-returns-then-not-lists_sound c =
-    let a = c.args in
-    let s = store_with a.z (numbers a.slots.now a.frames.now a.valid.now a.recency.now a.uses.now)
-    (buffers a.flash.now a.codes.now a.marks.now a.wear.now a.pspace.now a.bspace.now) in
-    refused-keeps a.z _ _ a.n.0 _ (write a.n.0 a.page.now) 4 _
-    (λ b. reading-record policy_choice s _ b (sym c.lists_sound.ensures ∙ c.if-not-lists_sound.true))
+-- as the call began
+abbrev store : Start → Store
+store s = let a = s.args in store_with a.z (directory_of a.directory.now) (buffers_of a.lent.now a.pspace.now)
 
-pub lengths_ok-requires : goal.lengths_ok-requires
-lengths_ok-requires c =
-    let sound-is = sym c.lists_sound.ensures ∙ c.if-not-lists_sound.false in
-    (sound-facts _ _ sound-is).limits
-
-pub returns-then-not-lengths_ok : goal.returns-then-not-lengths_ok
-returns-then-not-lengths_ok c =
-    let a = c.args in
-    let s = store_with a.z (numbers a.slots.now a.frames.now a.valid.now a.recency.now a.uses.now)
-    (buffers a.flash.now a.codes.now a.marks.now a.wear.now a.pspace.now a.bspace.now) in
-    let sound-is = sym c.lists_sound.ensures ∙ c.if-not-lists_sound.false in
-    refused-keeps a.z _ _ a.n.0 _ (write a.n.0 a.page.now) 2 _
-    (λ b. reading-buffer policy_choice s _ b sound-is (sym (lengths-lent (sizes_of a.z) a.flash.now a.codes.now
-    a.marks.now a.wear.now a.pspace.now a.bspace.now)
-    ∙ sym c.lengths_ok.ensures ∙ c.if-not-lengths_ok.true))
-
-pub returns-then-page-z : goal.returns-then-page-z
-returns-then-page-z c =
-    let a = c.args in
-    let s = store_with a.z (numbers a.slots.now a.frames.now a.valid.now a.recency.now a.uses.now)
-    (buffers a.flash.now a.codes.now a.marks.now a.wear.now a.pspace.now a.bspace.now) in
-    let sound-is = sym c.lists_sound.ensures ∙ c.if-not-lists_sound.false in
-    let fits-is = sym (lengths-lent (sizes_of a.z) a.flash.now a.codes.now a.marks.now a.wear.now a.pspace.now a.bspace.now)
-    ∙ sym c.lengths_ok.ensures ∙ c.if-not-lengths_ok.false in
-    refused-keeps a.z _ _ a.n.0 _ (write a.n.0 a.page.now) 2 _
-    (λ b. reading-page_buffer s _ _ _ _ (write_checked s a.n.0 a.page.now) sound-is fits-is b
-    c.if-page-z.true)
-
-pub overflow_mul-z : goal.overflow_mul-z
-overflow_mul-z c =
-    let sound-is = sym c.lists_sound.ensures ∙ c.if-not-lists_sound.false in
-    let h = pages-small _ (sound-facts _ _ sound-is).limits in
-    omega arith
-
-pub returns-then-z-n : goal.returns-then-z-n
-returns-then-z-n c =
-    let a = c.args in
-    let s = store_with a.z (numbers a.slots.now a.frames.now a.valid.now a.recency.now a.uses.now)
-    (buffers a.flash.now a.codes.now a.marks.now a.wear.now a.pspace.now a.bspace.now) in
-    let sound-is = sym c.lists_sound.ensures ∙ c.if-not-lists_sound.false in
-    let fits-is = sym (lengths-lent (sizes_of a.z) a.flash.now a.codes.now a.marks.now a.wear.now a.pspace.now a.bspace.now)
-    ∙ sym c.lengths_ok.ensures ∙ c.if-not-lengths_ok.false in
-    refused-keeps a.z _ _ a.n.0 _ (write a.n.0 a.page.now) 5 _
-    (λ b. reading-page s _ _ _ _ (write_checked s a.n.0 a.page.now) sound-is fits-is b
-    c.if-page-z.false c.if-z-n.true)
-
-pub slice_bounds-write-end : goal.slice_bounds-write-end
-slice_bounds-write-end c =
-    let sound-is = sym c.lists_sound.ensures ∙ c.if-not-lists_sound.false in
-    let h = (sound-facts _ _ sound-is).limits.S_high in
-    let p = c.requires in
-    omega arith
-
-pub slice_bounds-write-end-2 : goal.slice_bounds-write-end-2
-slice_bounds-write-end-2 c =
-    let sound-is = sym c.lists_sound.ensures ∙ c.if-not-lists_sound.false in
-    let h = (sound-facts _ _ sound-is).limits.S_high in
-    let p = c.requires in
-    simp length-take (omega arith)
+pub invariant_of-chip : goal.invariant_of-chip
+invariant_of-chip c =
+    let start : Start = search in
+    let p = passed-at _ _ c.view.ensures _ _ c.in_ok-page_ready.ensures in
+    let f = chip-fits (store start) p.0 p.1 in record { lent = f.0; wear_length = f.1 }
 
 pub write-requires : goal.write-requires
 write-requires c =
-    let a = c.args in
-    let s = store_with a.z (numbers a.slots.now a.frames.now a.valid.now a.recency.now a.uses.now)
-    (buffers a.flash.now a.codes.now a.marks.now a.wear.now a.pspace.now a.bspace.now) in
-    let sound-is = sym c.lists_sound.ensures ∙ c.if-not-lists_sound.false in
-    let fits-is = sym (lengths-lent (sizes_of a.z) a.flash.now a.codes.now a.marks.now a.wear.now a.pspace.now a.bspace.now)
-    ∙ sym c.lengths_ok.ensures ∙ c.if-not-lengths_ok.false in
-    let h = (sound-facts _ _ sound-is).limits.S_high in
-    let p = c.requires in
-    record {
-      ready = ready s sound-is fits-is;
-      page-lt = c.if-z-n.false;
-      page-length = c.if-page-z.false;
+    let start : Start = search in
+    let p = passed-at _ _ c.view.ensures _ _ c.in_ok-page_ready.ensures in
+    let h = (sound-facts _ _ p.0).limits.S_high in record {
+      ready = ready (store start) p.0 p.1;
+      page-lt = p.3;
+      page-length = p.2;
       kept-length = simp length-take (omega arith);
     }
 
-pub returns : goal.returns
-returns c =
-    let a = c.args in
-    let s = store_with a.z (numbers a.slots.now a.frames.now a.valid.now a.recency.now a.uses.now)
-    (buffers a.flash.now a.codes.now a.marks.now a.wear.now a.pspace.now a.bspace.now) in
-    let sound-is = sym c.lists_sound.ensures ∙ c.if-not-lists_sound.false in
-    let fits-is = sym (lengths-lent (sizes_of a.z) a.flash.now a.codes.now a.marks.now a.wear.now a.pspace.now a.bspace.now)
-    ∙ sym c.lengths_ok.ensures ∙ c.if-not-lengths_ok.false in
-    let w = c.write in
-    let f = fits-of store_format _ s.lent fits-is in
-    let q = (sound-facts _ _ sound-is).limits in
-    let h = q.S_high in
-    let p = c.requires in
+pub returns-clause-called : goal.returns-clause-called
+returns-clause-called c =
+    let start : Start = search in let a = c.args in
+    let p = passed-at _ _ c.view.ensures _ _ c.in_ok-page_ready.ensures in let w = c.write in
+    let f = fits-of store_format _ _ p.1 in
+    let h = (sound-facts _ _ p.0).limits.S_high in
     let g = length-take-le a.z.page_size a.kept.now (omega arith) in
-    write_keeps a.z _ s.lent a.n.0 sound-is fits-is c.if-z-n.false _
-    (record {
-      flash-length = omega (arith, w.auto, f);
-      codes-length = omega (arith, w.auto, f);
-      marks-length = omega (arith, w.auto, f);
-      wear-length = omega (arith, w.auto, f);
-      pspace-length = omega (arith, w.auto, f);
-      bspace-length = omega (arith, w.auto, f);
-    })
-    _ _ _ _ _ _ (front-page _ _ _ (omega (arith, w.auto, g))) a.page.now c.if-page-z.false w.ensures
+    keeping-as a.z _ _ a.n.0 (search rules) (write_keeps a.z _ _ a.n.0 (loan.buffers_of w.new.chip w.new.pspace w.new.bspace)
+    (fits-after a.z w.new.chip _ _ w.ensures.loan.sizes (omega (arith, w.auto, f)) (omega (arith, w.auto, f)))
+    _ _ _ _ _ _ (front-page _ _ _ (omega (arith, w.auto, g))) a.page.now p w.ensures.wrote)

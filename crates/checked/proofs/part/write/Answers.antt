@@ -1,121 +1,55 @@
-use Rattle.model.specs.Formats.{store_format}
 use native.Mathlib.Omega.{arith}
 use mathlib.Core.Path.{sym, ◌∙◌}
-use borrow.Author.Tests.{eq-eqb, ne_eqb}
-use Rattle.model.specs.Policy.{policy_choice}
-use Rattle.model.proofs.Soundness.{sound-facts, pages-small}
+use Rattle.std.proofs.Common.{rules}
+use Rattle.model.specs.Formats.{store_format}
+use Rattle.model.specs.Calls.{Store}
 use Rattle.model.proofs.Buffers.{fits-of}
-use Rattle.cache.specs.View.{sizes_of, numbers}
-use Rattle.answer.specs.Carried.{buffers}
-use Rattle.checked.specs.Lists.{store_with}
-use Rattle.lent.proofs.Lengths.{lengths-lent}
-use Rattle.checked.proofs.Carrying.{refused-to, call-record, call_buffer, call-page_buffer, call-page, part-checked, call-reach}
-use Rattle.checked.proofs.Carrying.{nothing-to}
-use Rattle.checked.proofs.Carrying.{part-ready, part-done}
+use Rattle.cache.specs.View.{directory_of}
+use Rattle.lent.specs.Loan.{buffers_of}
+use Rattle.chip.specs.Loan as loan
+use Rattle.answer.specs.declared.Refusal.TheVariants as refusals
+use Rattle.checked.specs.Called.{store_with}
+use Rattle.checked.proofs.Carrying.{turned-to, passed-at, chip-fits, fits-after, called-as}
+use Rattle.checked.proofs.Carrying.{reading-reach, nothing-to, part-ready, part-done}
 use Rattle.checked.proofs.part.write.Goals as goal
+use Rattle.checked.proofs.part.write.Goals.{Start}
 
-pub returns-then-not-lists_sound : goal.returns-then-not-lists_sound
-returns-then-not-lists_sound c =
-    refused-to _ _ _ 4 (call-record policy_choice _ _ (sym c.lists_sound.ensures ∙ c.if-not-lists_sound.true))
+-- as the call began
+abbrev store : Start → Store
+store s = let a = s.args in store_with a.z (directory_of a.directory.now) (buffers_of a.lent.now a.pspace.now)
 
-pub lengths_ok-requires : goal.lengths_ok-requires
-lengths_ok-requires c =
-    let sound-is = sym c.lists_sound.ensures ∙ c.if-not-lists_sound.false in
-    (sound-facts _ _ sound-is).limits
+pub returns-then-not-reach_ok-clause-called : goal.returns-then-not-reach_ok-clause-called
+returns-then-not-reach_ok-clause-called c =
+    let start : Start = search in let a = c.args in
+    let p = passed-at _ _ c.view.ensures _ _ c.in_ok-page_ready.ensures in
+    turned-to _ _ _ _ refusals.Buffer (λ besides. reading-reach (store start) a.n.0 a.first a.bytes.now a.page.now p
+    (sym c.reach_ok.ensures ∙ c.if-not-reach_ok.true) besides)
 
-pub returns-then-not-lengths_ok : goal.returns-then-not-lengths_ok
-returns-then-not-lengths_ok c =
-    let a = c.args in
-    let s = store_with a.z (numbers a.slots.now a.frames.now a.valid.now a.recency.now a.uses.now)
-    (buffers a.flash.now a.codes.now a.marks.now a.wear.now a.pspace.now a.bspace.now) in
-    let sound-is = sym c.lists_sound.ensures ∙ c.if-not-lists_sound.false in
-    refused-to _ _ _ 2 (call_buffer policy_choice s _ sound-is (sym
-    (lengths-lent (sizes_of a.z) a.flash.now a.codes.now a.marks.now a.wear.now a.pspace.now a.bspace.now)
-    ∙ sym c.lengths_ok.ensures ∙ c.if-not-lengths_ok.true))
+pub returns-then-is_empty-clause-called : goal.returns-then-is_empty-clause-called
+returns-then-is_empty-clause-called c =
+    let start : Start = search in let a = c.args in
+    let p = passed-at _ _ c.view.ensures _ _ c.in_ok-page_ready.ensures in
+    nothing-to (store start) a.n.0 a.first a.bytes.now a.page.now p (sym c.reach_ok.ensures ∙ c.if-not-reach_ok.false) _
+    (sym c.is_empty.ensures ∙ c.if-is_empty.true)
 
-pub returns-then-page-z : goal.returns-then-page-z
-returns-then-page-z c =
-    let a = c.args in
-    let s = store_with a.z (numbers a.slots.now a.frames.now a.valid.now a.recency.now a.uses.now)
-    (buffers a.flash.now a.codes.now a.marks.now a.wear.now a.pspace.now a.bspace.now) in
-    let sound-is = sym c.lists_sound.ensures ∙ c.if-not-lists_sound.false in
-    let fits-is = sym (lengths-lent (sizes_of a.z) a.flash.now a.codes.now a.marks.now a.wear.now a.pspace.now a.bspace.now)
-    ∙ sym c.lengths_ok.ensures ∙ c.if-not-lengths_ok.false in
-    refused-to _ _ _ 2 (call-page_buffer s _ _ _ _ (part-checked s a.n.0 a.first a.bytes.now
-    a.page.now) sound-is fits-is c.if-page-z.true)
-
-pub overflow_mul-z : goal.overflow_mul-z
-overflow_mul-z c =
-    let sound-is = sym c.lists_sound.ensures ∙ c.if-not-lists_sound.false in
-    let h = pages-small _ (sound-facts _ _ sound-is).limits in
-    omega arith
-
-pub returns-then-z-n : goal.returns-then-z-n
-returns-then-z-n c =
-    let a = c.args in
-    let s = store_with a.z (numbers a.slots.now a.frames.now a.valid.now a.recency.now a.uses.now)
-    (buffers a.flash.now a.codes.now a.marks.now a.wear.now a.pspace.now a.bspace.now) in
-    let sound-is = sym c.lists_sound.ensures ∙ c.if-not-lists_sound.false in
-    let fits-is = sym (lengths-lent (sizes_of a.z) a.flash.now a.codes.now a.marks.now a.wear.now a.pspace.now a.bspace.now)
-    ∙ sym c.lengths_ok.ensures ∙ c.if-not-lengths_ok.false in
-    refused-to _ _ _ 5 (call-page s _ _ _ _ (part-checked s a.n.0 a.first a.bytes.now
-    a.page.now)
-    sound-is fits-is c.if-page-z.false c.if-z-n.true)
-
-pub returns-then-not-reach_ok : goal.returns-then-not-reach_ok
-returns-then-not-reach_ok c =
-    let a = c.args in
-    let s = store_with a.z (numbers a.slots.now a.frames.now a.valid.now a.recency.now a.uses.now)
-    (buffers a.flash.now a.codes.now a.marks.now a.wear.now a.pspace.now a.bspace.now) in
-    let sound-is = sym c.lists_sound.ensures ∙ c.if-not-lists_sound.false in
-    let fits-is = sym (lengths-lent (sizes_of a.z) a.flash.now a.codes.now a.marks.now a.wear.now a.pspace.now a.bspace.now)
-    ∙ sym c.lengths_ok.ensures ∙ c.if-not-lengths_ok.false in
-    refused-to _ _ _ 2 (call-reach s a.n.0 a.first a.bytes.now a.page.now sound-is
-    fits-is
-    c.if-page-z.false c.if-z-n.false (sym c.reach_ok.ensures ∙ c.if-not-reach_ok.true))
-
-pub returns-then-bytes-eq0 : goal.returns-then-bytes-eq0
-returns-then-bytes-eq0 c =
-    let a = c.args in
-    let s = store_with a.z (numbers a.slots.now a.frames.now a.valid.now a.recency.now a.uses.now)
-    (buffers a.flash.now a.codes.now a.marks.now a.wear.now a.pspace.now a.bspace.now) in
-    let sound-is = sym c.lists_sound.ensures ∙ c.if-not-lists_sound.false in
-    let fits-is = sym (lengths-lent (sizes_of a.z) a.flash.now a.codes.now a.marks.now a.wear.now a.pspace.now a.bspace.now)
-    ∙ sym c.lengths_ok.ensures ∙ c.if-not-lengths_ok.false in
-    nothing-to s a.n.0 a.first a.bytes.now a.page.now sound-is fits-is
-    c.if-page-z.false c.if-z-n.false (sym c.reach_ok.ensures ∙ c.if-not-reach_ok.false) _
-    (eq-eqb _ 0 c.if-bytes-eq0.true)
+pub invariant_of-chip : goal.invariant_of-chip
+invariant_of-chip c =
+    let start : Start = search in
+    let p = passed-at _ _ c.view.ensures _ _ c.in_ok-page_ready.ensures in
+    let f = chip-fits (store start) p.0 p.1 in record { lent = f.0; wear_length = f.1 }
 
 pub write-requires : goal.write-requires
 write-requires c =
-    let a = c.args in
-    let s = store_with a.z (numbers a.slots.now a.frames.now a.valid.now a.recency.now a.uses.now)
-    (buffers a.flash.now a.codes.now a.marks.now a.wear.now a.pspace.now a.bspace.now) in
-    let sound-is = sym c.lists_sound.ensures ∙ c.if-not-lists_sound.false in
-    let fits-is = sym (lengths-lent (sizes_of a.z) a.flash.now a.codes.now a.marks.now a.wear.now a.pspace.now a.bspace.now)
-    ∙ sym c.lengths_ok.ensures ∙ c.if-not-lengths_ok.false in
-    part-ready s a.n.0 a.first a.bytes.now a.page.now sound-is fits-is
-    c.if-page-z.false c.if-z-n.false (sym c.reach_ok.ensures ∙ c.if-not-reach_ok.false)
+    let start : Start = search in let a = c.args in
+    let p = passed-at _ _ c.view.ensures _ _ c.in_ok-page_ready.ensures in
+    part-ready (store start) a.n.0 a.first a.bytes.now a.page.now p (sym c.reach_ok.ensures ∙ c.if-not-reach_ok.false)
 
-pub returns : goal.returns
-returns c =
-    let a = c.args in
-    let s = store_with a.z (numbers a.slots.now a.frames.now a.valid.now a.recency.now a.uses.now)
-    (buffers a.flash.now a.codes.now a.marks.now a.wear.now a.pspace.now a.bspace.now) in
-    let sound-is = sym c.lists_sound.ensures ∙ c.if-not-lists_sound.false in
-    let fits-is = sym (lengths-lent (sizes_of a.z) a.flash.now a.codes.now a.marks.now a.wear.now a.pspace.now a.bspace.now)
-    ∙ sym c.lengths_ok.ensures ∙ c.if-not-lengths_ok.false in
-    let w = c.write in
-    let f = fits-of store_format _ s.lent fits-is in
-    part-done s a.n.0 a.first a.bytes.now a.page.now sound-is fits-is
-    c.if-page-z.false c.if-z-n.false (sym c.reach_ok.ensures ∙ c.if-not-reach_ok.false)
-    (ne_eqb _ 0 c.if-bytes-eq0.false) _
-    (record {
-      flash-length = omega (arith, w.auto, f);
-      codes-length = omega (arith, w.auto, f);
-      marks-length = omega (arith, w.auto, f);
-      wear-length = omega (arith, w.auto, f);
-      pspace-length = omega (arith, w.auto, f);
-      bspace-length = omega (arith, w.auto, f);
-    })
-    _ _ _ _ _ w.ensures
+pub returns-clause-called : goal.returns-clause-called
+returns-clause-called c =
+    let start : Start = search in let a = c.args in
+    let p = passed-at _ _ c.view.ensures _ _ c.in_ok-page_ready.ensures in let w = c.write in
+    let f = fits-of store_format _ _ p.1 in
+    called-as (search rules) (part-done (store start) a.n.0 a.first a.bytes.now a.page.now p
+    (sym c.reach_ok.ensures ∙ c.if-not-reach_ok.false) (sym c.is_empty.ensures ∙ c.if-is_empty.false)
+    (loan.buffers_of w.new.chip w.new.pspace w.new.bspace)
+    (fits-after a.z w.new.chip _ _ w.ensures.loan.sizes (omega (arith, w.auto, f)) (omega (arith, w.auto, f))) _ _ _ _ _ w.ensures.wrote)

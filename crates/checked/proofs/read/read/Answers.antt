@@ -1,90 +1,41 @@
-use native.Mathlib.Omega.{arith}
-use mathlib.Core.Path.{sym, ◌∙◌}
-use Rattle.model.specs.Policy.{policy_choice}
-use Rattle.model.proofs.Soundness.{sound-facts, pages-small}
-use Rattle.cache.specs.View.{sizes_of, numbers}
-use Rattle.answer.specs.Carried.{buffers}
-use Rattle.checked.specs.Lists.{store_with}
-use Rattle.lent.proofs.Lengths.{lengths-lent}
-use Rattle.checked.proofs.Carrying.{read-checked, readable, read-late, read_done_lem, call-record, call_buffer}
-use Rattle.checked.proofs.Carrying.{call-page_buffer, call-page}
+use mathlib.Core.Path.{refl, sym}
+use Rattle.std.proofs.lemmas.Result.{err_from_is_err_and}
+use Rattle.model.specs.Calls.{Store, read, call}
+use Rattle.cache.specs.View.{directory_of}
+use Rattle.lent.specs.Loan.{buffers_seen}
+use Rattle.checked.specs.Called.{store_with}
+use Rattle.checked.proofs.Carrying.{readable, chip-fits, read_done_lem, read-late}
 use Rattle.checked.proofs.read.read.Goals as goal
+use Rattle.checked.proofs.read.read.Goals.{Start}
 
-pub returns-then-not-lists_sound : goal.returns-then-not-lists_sound
-returns-then-not-lists_sound c =
-    sym (call-record policy_choice _ _ (sym c.lists_sound.ensures ∙ c.if-not-lists_sound.true))
+-- as the call began
+abbrev store : Start → Store
+store s = let a = s.args in store_with a.z (directory_of a.directory.now) (buffers_seen a.lent)
 
-pub lengths_ok-requires : goal.lengths_ok-requires
-lengths_ok-requires c =
-    let sound-is = sym c.lists_sound.ensures ∙ c.if-not-lists_sound.false in
-    (sound-facts _ _ sound-is).limits
+pub returns-in_err-page_ready : goal.returns-in_err-page_ready
+unfolding call
+returns-in_err-page_ready c =
+    let p = err_from_is_err_and c.from_residual.result c.from_residual.ensures.1 in
+    rw (p.1, p.2) (sym (c.in_err-page_ready.ensures (read c.args.n.0 c.args.page.now) (refl, refl) _))
 
-pub returns-then-not-lengths_ok : goal.returns-then-not-lengths_ok
-returns-then-not-lengths_ok c =
-    let a = c.args in
-    let s = store_with a.z (numbers a.slots.now a.frames.now a.valid.now a.recency.now a.uses.now)
-    (buffers a.flash.now a.codes.now a.marks.now a.wear.now a.pspace.now a.bspace.now) in
-    let sound-is = sym c.lists_sound.ensures ∙ c.if-not-lists_sound.false in
-    sym (call_buffer policy_choice s _ sound-is (sym
-    (lengths-lent (sizes_of a.z) a.flash.now a.codes.now a.marks.now a.wear.now a.pspace.now a.bspace.now)
-    ∙ sym c.lengths_ok.ensures ∙ c.if-not-lengths_ok.true))
-
-pub returns-then-page-z : goal.returns-then-page-z
-returns-then-page-z c =
-    let a = c.args in
-    let s = store_with a.z (numbers a.slots.now a.frames.now a.valid.now a.recency.now a.uses.now)
-    (buffers a.flash.now a.codes.now a.marks.now a.wear.now a.pspace.now a.bspace.now) in
-    let sound-is = sym c.lists_sound.ensures ∙ c.if-not-lists_sound.false in
-    let fits-is = sym (lengths-lent (sizes_of a.z) a.flash.now a.codes.now a.marks.now a.wear.now a.pspace.now a.bspace.now)
-    ∙ sym c.lengths_ok.ensures ∙ c.if-not-lengths_ok.false in
-    sym (call-page_buffer s _ _ _ _ (read-checked s a.n.0 a.page.now) sound-is fits-is
-    c.if-page-z.true)
-
-pub overflow_mul-z : goal.overflow_mul-z
-overflow_mul-z c =
-    let sound-is = sym c.lists_sound.ensures ∙ c.if-not-lists_sound.false in
-    let h = pages-small _ (sound-facts _ _ sound-is).limits in
-    omega arith
-
-pub returns-then-z-n : goal.returns-then-z-n
-returns-then-z-n c =
-    let a = c.args in
-    let s = store_with a.z (numbers a.slots.now a.frames.now a.valid.now a.recency.now a.uses.now)
-    (buffers a.flash.now a.codes.now a.marks.now a.wear.now a.pspace.now a.bspace.now) in
-    let sound-is = sym c.lists_sound.ensures ∙ c.if-not-lists_sound.false in
-    let fits-is = sym (lengths-lent (sizes_of a.z) a.flash.now a.codes.now a.marks.now a.wear.now a.pspace.now a.bspace.now)
-    ∙ sym c.lengths_ok.ensures ∙ c.if-not-lengths_ok.false in
-    sym (call-page s _ _ _ _ (read-checked s a.n.0 a.page.now) sound-is fits-is
-    c.if-page-z.false c.if-z-n.true)
+pub invariant_of-view : goal.invariant_of-view
+invariant_of-view c =
+    let start : Start = search in let p = c.in_ok-page_ready.ensures in
+    record { lent = (chip-fits (store start) p.0 p.1).0 }
 
 pub read-done-requires : goal.read-done-requires
 read-done-requires c =
-    let a = c.args in
-    let s = store_with a.z (numbers a.slots.now a.frames.now a.valid.now a.recency.now a.uses.now)
-    (buffers a.flash.now a.codes.now a.marks.now a.wear.now a.pspace.now a.bspace.now) in
-    let sound-is = sym c.lists_sound.ensures ∙ c.if-not-lists_sound.false in
-    let fits-is = sym (lengths-lent (sizes_of a.z) a.flash.now a.codes.now a.marks.now a.wear.now a.pspace.now a.bspace.now)
-    ∙ sym c.lengths_ok.ensures ∙ c.if-not-lengths_ok.false in
-    (sound-facts _ _ sound-is, readable s a.n.0 a.page.now sound-is fits-is c.if-page-z.false c.if-z-n.false)
+    let start : Start = search in let p = c.in_ok-page_ready.ensures in
+    readable (store start) _ _ p
 
-pub returns-then-done-ne0 : goal.returns-then-done-ne0
-returns-then-done-ne0 c =
-    let a = c.args in
-    let s = store_with a.z (numbers a.slots.now a.frames.now a.valid.now a.recency.now a.uses.now)
-    (buffers a.flash.now a.codes.now a.marks.now a.wear.now a.pspace.now a.bspace.now) in
-    let sound-is = sym c.lists_sound.ensures ∙ c.if-not-lists_sound.false in
-    let fits-is = sym (lengths-lent (sizes_of a.z) a.flash.now a.codes.now a.marks.now a.wear.now a.pspace.now a.bspace.now)
-    ∙ sym c.lengths_ok.ensures ∙ c.if-not-lengths_ok.false in
-    rw c.late.ensures (read-late s a.n.0 a.page.now sound-is fits-is c.if-page-z.false
-    c.if-z-n.false _ _ _ c.read-done.ensures c.if-done-ne0.true)
+pub returns-in-Some : goal.returns-in-Some
+returns-in-Some c =
+    let start : Start = search in let p = c.in_ok-page_ready.ensures in
+    rw c.into.ensures (read-late (store start) c.args.n.0 c.args.page.now
+    p _ _ _ c.read-done.ensures _ c.in-Some.is)
 
-pub returns : goal.returns
-returns c =
-    let a = c.args in
-    let s = store_with a.z (numbers a.slots.now a.frames.now a.valid.now a.recency.now a.uses.now)
-    (buffers a.flash.now a.codes.now a.marks.now a.wear.now a.pspace.now a.bspace.now) in
-    let sound-is = sym c.lists_sound.ensures ∙ c.if-not-lists_sound.false in
-    let fits-is = sym (lengths-lent (sizes_of a.z) a.flash.now a.codes.now a.marks.now a.wear.now a.pspace.now a.bspace.now)
-    ∙ sym c.lengths_ok.ensures ∙ c.if-not-lengths_ok.false in
-    read_done_lem s a.n.0 a.page.now sound-is fits-is c.if-page-z.false c.if-z-n.false _ _ _
-    c.read-done.ensures c.if-done-ne0.false
+pub returns-in-None : goal.returns-in-None
+returns-in-None c =
+    let start : Start = search in let p = c.in_ok-page_ready.ensures in
+    read_done_lem (store start) c.args.n.0 c.args.page.now p
+    _ _ _ c.read-done.ensures c.in-None.is

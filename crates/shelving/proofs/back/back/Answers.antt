@@ -1,80 +1,79 @@
 use native.Mathlib.Omega.{arith}
-use mathlib.Core.Path.{sym, ap, ◌∙◌}
-use Prim.Native.Nat.{ℕ}
-use Rattle.model.specs.Sizes.{vacant}
-use Rattle.model.specs.Calls.{refused}
+use mathlib.Core.Path.{◌≡◌, refl}
+use Prim.Native.Nat.{◌+◌, ◌-◌, ◌*◌}
+use Rattle.std.proofs.lemmas.Result.{err_from_is_err_and}
+use Rattle.prelude.specs.Pages.{page_at}
+use Rattle.prelude.proofs.Pages.{length-page_at}
 use Rattle.model.specs.Shelf as model
-use Rattle.cache.specs.View.{sizes_of, numbers}
-use Rattle.lent.proofs.Lengths.{lengths-lent}
-use Rattle.answer.specs.Carried.{buffers}
-use Rattle.shelving.proofs.OnLists.{turned_down_lem, nothing-back, latest-page, latest-small, latest-there, back_on}
-use Rattle.shelving.proofs.Early.{early_empty}
+use Rattle.cache.specs.View.{directory_of}
+use Rattle.lent.specs.Loan.{buffers_of}
+use Rattle.answer.specs.declared.Refusal.TheVariants as refusals
+use Rattle.checked.proofs.Carrying.{checked-at, down-at}
+use Rattle.shelving.proofs.OnLists.{turned_down_lem, down-back, nothing-back, latest-page, latest-small, latest-there, back_on}
 use Rattle.shelving.proofs.back.back.Goals as goal
 
-pub returns-then-not-fitting : goal.returns-then-not-fitting
-returns-then-not-fitting c =
-    turned_down_lem _ _ _ _ _ _ model.back (sym c.fitting.ensures ∙ c.if-not-fitting.true) c.refusal-why.result
-    c.refusal-why.ensures
+pub returns-in_err-fitting-clause-shelved : goal.returns-in_err-fitting-clause-shelved
+returns-in_err-fitting-clause-shelved c =
+    let p = err_from_is_err_and c.from_residual.result c.from_residual.ensures.1 in let e = c.in_err-fitting.ensures in
+    rw (p.1, p.2) (turned_down_lem _ _ _ _ _ _ model.back e.0 _ e.1)
 
-pub returns-then-k-eq0 : goal.returns-then-k-eq0
-returns-then-k-eq0 c =
-    let checks = c.early-early.ensures
-    ∙ rw (lengths-lent (sizes_of c.args.z) c.args.flash.now c.args.codes.now c.args.marks.now
-    c.args.wear.now c.args.pspace.now c.args.bspace.now) in
-    let fitted = sym c.fitting.ensures ∙ c.if-not-fitting.false in
-    let a = c.args in
-    let d = numbers a.slots.now a.frames.now a.valid.now a.recency.now a.uses.now in
-    let u = buffers a.flash.now a.codes.now a.marks.now a.wear.now a.pspace.now a.bspace.now in
-    nothing-back _ _ _ _ _ fitted _ _ c.used-k.ensures c.if-k-eq0.true c.empty-why.result
-    (c.empty-why.ensures ∙ ap (λ (n : ℕ). refused n vacant) (early_empty (sizes_of a.z) d u _ checks))
+pub returns-in_err-ready-clause-shelved : goal.returns-in_err-ready-clause-shelved
+returns-in_err-ready-clause-shelved c =
+    let p = err_from_is_err_and c.from_residual-in_err-ready.result c.from_residual-in_err-ready.ensures.1 in
+    let a = c.args in let d = directory_of a.directory.now in let same = c.view.ensures in
+    rw (p.1, p.2) (down-back a.z d _ _ _ c.in_ok-fitting.ensures _ _ refl _ (rw (← same) c.in_err-ready.ensures.0)
+    (λ k. down-at a.z d same k _ (c.in_err-ready.ensures.1 k)))
+
+pub returns-then-used-eq0-clause-shelved : goal.returns-then-used-eq0-clause-shelved
+returns-then-used-eq0-clause-shelved c =
+    let p = checked-at c.args.z (directory_of c.args.directory.now) c.view.ensures c.in_ok-ready.ensures in
+    nothing-back _ _ _ _ _ c.in_ok-fitting.ensures _ _ c.used-used.ensures c.if-used-eq0.true refusals.Empty (rw (p.0, p.1))
 
 pub offset_bounds-entries-latest : goal.offset_bounds-entries-latest
 offset_bounds-entries-latest c =
-    let fitted = sym c.fitting.ensures ∙ c.if-not-fitting.false in
     let a = c.args in
-    let l = latest-small a.z (numbers a.slots.now a.frames.now a.valid.now a.recency.now a.uses.now) a.entries.now
-    (buffers a.flash.now a.codes.now a.marks.now a.wear.now a.pspace.now a.bspace.now)
-    a.shelf.now fitted _ c.used-k.ensures c.if-k-eq0.false in
-    omega arith
+    let l = latest-small a.z a.entries.now a.shelf.now c.in_ok-fitting.ensures _ c.used-used.ensures c.if-used-eq0.false in omega arith
 
 pub bounds-entries-latest : goal.bounds-entries-latest
 bounds-entries-latest c =
-    let fitted = sym c.fitting.ensures ∙ c.if-not-fitting.false in
-    let a = c.args in
-    latest-small a.z (numbers a.slots.now a.frames.now a.valid.now a.recency.now a.uses.now) a.entries.now
-    (buffers a.flash.now a.codes.now a.marks.now a.wear.now a.pspace.now a.bspace.now) a.shelf.now
-    fitted _ c.used-k.ensures c.if-k-eq0.false
+    let a = c.args in latest-small a.z a.entries.now a.shelf.now c.in_ok-fitting.ensures _ c.used-used.ensures c.if-used-eq0.false
 
-pub write_shelved-answer-requires : goal.write_shelved-answer-requires
-write_shelved-answer-requires c =
-    let checks = c.early-early.ensures
-    ∙ rw (lengths-lent (sizes_of c.args.z) c.args.flash.now c.args.codes.now c.args.marks.now
-    c.args.wear.now c.args.pspace.now c.args.bspace.now) in
-    let fitted = sym c.fitting.ensures ∙ c.if-not-fitting.false in
+pub overflow_mul-a : goal.overflow_mul-a
+overflow_mul-a c =
     let a = c.args in
-    let d = numbers a.slots.now a.frames.now a.valid.now a.recency.now a.uses.now in
-    let u = buffers a.flash.now a.codes.now a.marks.now a.wear.now a.pspace.now a.bspace.now in (
-      checks,
-      latest-page a.z d a.entries.now u a.shelf.now fitted _ c.used-k.ensures c.if-k-eq0.false,
-      latest-small a.z d a.entries.now u a.shelf.now fitted _ c.used-k.ensures c.if-k-eq0.false,
-      latest-there a.z d a.entries.now u a.shelf.now fitted _ c.used-k.ensures c.if-k-eq0.false,
+    let l = latest-page a.z a.entries.now a.shelf.now c.in_ok-fitting.ensures _ c.used-used.ensures c.if-used-eq0.false in omega arith
+
+pub overflow_add-page : goal.overflow_add-page
+overflow_add-page c =
+    let a = c.args in
+    let l = latest-page a.z a.entries.now a.shelf.now c.in_ok-fitting.ensures _ c.used-used.ensures c.if-used-eq0.false in omega arith
+
+pub slice_bounds-page-end : goal.slice_bounds-page-end
+slice_bounds-page-end c =
+    let a = c.args in
+    let l = latest-page a.z a.entries.now a.shelf.now c.in_ok-fitting.ensures _ c.used-used.ensures c.if-used-eq0.false in omega arith
+
+pub carry-answer-requires : goal.carry-answer-requires
+unfolding page_at
+carry-answer-requires c =
+    let a = c.args in let k = c.used-used.result in
+    let p = checked-at a.z (directory_of a.directory.now) c.view.ensures c.in_ok-ready.ensures in
+    let q : (k - 1) * a.z.page_size + a.z.page_size - (k - 1) * a.z.page_size ≡ a.z.page_size = omega arith in
+    let l = latest-page a.z a.entries.now a.shelf.now c.in_ok-fitting.ensures _ c.used-used.ensures c.if-used-eq0.false in (
+      p.0,
+      p.1,
+      rw q (length-page_at _ _ _ l),
+      latest-there a.z a.entries.now a.shelf.now c.in_ok-fitting.ensures _ c.used-used.ensures c.if-used-eq0.false,
     )
 
 pub drop_latest-requires : goal.drop_latest-requires
 drop_latest-requires c =
-    let fitted = sym c.fitting.ensures ∙ c.if-not-fitting.false in
-    let a = c.args in (
-      c.requires.1,
-      latest-small a.z (numbers a.slots.now a.frames.now a.valid.now a.recency.now a.uses.now) a.entries.now
-          (buffers a.flash.now a.codes.now a.marks.now a.wear.now a.pspace.now
-          a.bspace.now) a.shelf.now fitted _ c.used-k.ensures c.if-k-eq0.false,
-    )
+    let a = c.args in latest-small a.z a.entries.now a.shelf.now c.in_ok-fitting.ensures _ c.used-used.ensures c.if-used-eq0.false
 
-pub returns : goal.returns
-returns c =
-    let fitted = sym c.fitting.ensures ∙ c.if-not-fitting.false in
-    let a = c.args in
-    back_on a.z (numbers a.slots.now a.frames.now a.valid.now a.recency.now a.uses.now) a.entries.now
-    (buffers a.flash.now a.codes.now a.marks.now a.wear.now a.pspace.now a.bspace.now) a.shelf.now
-    fitted _ c.used-k.ensures c.if-k-eq0.false
-    _ _ _ _ _ _ _ c.drop_latest.ensures c.write_shelved-answer.ensures
+pub returns-clause-shelved : goal.returns-clause-shelved
+unfolding page_at
+returns-clause-shelved c =
+    let a = c.args in let k = c.used-used.result in
+    let q : (k - 1) * a.z.page_size + a.z.page_size - (k - 1) * a.z.page_size ≡ a.z.page_size = omega arith in
+    back_on a.z _ a.entries.now (buffers_of a.lent.now a.pspace.now) a.shelf.now c.in_ok-fitting.ensures
+    _ c.used-used.ensures c.if-used-eq0.false _ _ _ _ _ _ _ c.drop_latest.ensures (rw q at c.carry-answer.ensures.called)

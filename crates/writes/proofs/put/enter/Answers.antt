@@ -1,16 +1,11 @@
-use native.Mathlib.Omega.{arith}
-use Rattle.writes.proofs.Entering.{slot_small, over}
+use Rattle.writes.proofs.Listed.{placed}
+use Rattle.writes.proofs.Entering.{first-slot, some-slot, enter-is}
 use Rattle.writes.proofs.put.enter.Goals as goal
 
-pub over_slot-requires : goal.over_slot-requires
-over_slot-requires c =
-    over _ _ _ _ c.requires _ c.free_slot-i.ensures
+pub unwrap-i-requires : goal.unwrap-i-requires
+unwrap-i-requires c = some-slot _ c.requires c.used.ensures _ c.free_slot.ensures.found
 
-pub offset_bounds-slots-i : goal.offset_bounds-slots-i
-offset_bounds-slots-i c =
-    let l = slot_small _ _ _ _ c.requires _ c.free_slot-i.ensures in
-    record { fits = omega arith }
-
-pub bounds-slots-i : goal.bounds-slots-i
-bounds-slots-i c =
-    slot_small _ _ _ _ c.requires _ c.free_slot-i.ensures
+pub returns : goal.returns
+returns c =
+    let i = first-slot _ c.requires c.used.ensures c.unwrap-i.ensures c.free_slot.ensures.found in
+    rw (placed c.used.new.directory c.unwrap-i.result c.args.n) (enter-is _ c.requires c.used.ensures i c.over_slot.ensures)

@@ -63,7 +63,6 @@ module _ (s : ShelfStore) (c : ℕ) (x : Page) (m : List ℕ) (st : Settled s c 
   pub few-mends : Few c m
   few-mends = record {
     few = st.ready.few;
-    long = st.mends-length;
     each = λ i l. rw (st.mended i l) (mends-low s x any_call st.ready.sounds st.ready.lends _);
   }
 

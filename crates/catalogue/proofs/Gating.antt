@@ -1,50 +1,43 @@
 -- The checks before the sheets are read, as the code makes them.
 use mathlib.Core.Path.{◌≡◌, sym, ap, ◌∙◌}
-use mathlib.Core.Bool.{Bool, true, false, ◌&&◌}
-use mathlib.Core.List.{[], ◌∷◌}
-use Prim.Native.Nat.{ℕ, ◌*◌}
-use lib.Dec.{leb, ltb}
-use Rattle.prelude.proofs.Tests.{clash, chain-every}
-use Rattle.model.specs.Sizes.{Sizes, vacant, InLimits}
+use mathlib.Core.Bool.{Bool, true, false}
+use Rattle.prelude.proofs.Tests.{clash}
+use Rattle.model.specs.Sizes.{vacant, InLimits}
 use Rattle.model.specs.Policy.{policy_choice}
 use Rattle.model.specs.Calls.{Answer, refused, is_refused, read, Page}
 use Rattle.model.specs.Shelf.{plainly, ShelfResult, ShelfStore, store_call}
 use Rattle.model.proofs.Soundness.{sound-facts}
 use Rattle.answer.specs.declared.Refusal.{Refusal}
 use Rattle.answer.specs.declared.Read.{Read}
-use Rattle.answer.specs.declared.Read.TheVariants.{Done, Refused}
+use Rattle.answer.specs.declared.Refusal.TheVariants as whys
 use Rattle.answer.specs.Numbers.{refusal_of, read_of}
 use Rattle.store.specs.declared.Cache.{Cache}
-use Rattle.store.specs.declared.ReadOut.{ReadOut}
-use Rattle.store.specs.View.{Lent, store_of, read_result}
+use Rattle.store.specs.View.{Lent, ReadOut, store_of, read_result}
 use Rattle.runs.specs.Verdict.{Check, passed, stopped}
-use Rattle.over.specs.Catalogue.{sizes_fit, asking, sizes_in, directory_in, entering}
+use Rattle.over.specs.Catalogue.{asking, sizes_in, directory_in, entering}
 use Rattle.over.proofs.Checks.{asked-on, asked-off, Enters, enters_on, enters_off}
-use Rattle.catalogue.specs.declared.gate.Gate.{Gate}
+use Rattle.std.specs.Prelude.{Result, Ok, Err}
+use Rattle.catalogue.specs.declared.Turned.{Turned}
 use Rattle.catalogue.specs.View.{gate_of, past_entry}
 use Rattle.catalogue.proofs.Stepping.{no-page, no_page-kept}
 
 -- a read of no page, by its contract
 module _ (cache : Cache) (u : Lent) (page page' : Page) (out : ReadOut)
     (h : read_result out u page' ≡ store_call policy_choice (store_of cache u) (plainly (read vacant page))) where
-  pub never_read : {X : Type 0} (way mends : ℕ) → out.answer ≡ Done way mends → X
-  never_read way mends e = clash (ap (λ (r : ShelfResult). is_refused r.answer) h ∙ (no-page (store_of cache u) page).0)
-      (ap (λ (r : Read). is_refused (read_of r)) e)
+  pub never_read : (done : Read) → out.answer ≡ Ok done → ⊥
+  never_read done e = clash (ap (λ (r : ShelfResult). is_refused r.answer) h ∙ (no-page (store_of cache u) page).0)
+      (ap (λ (r : Result Read Refusal). is_refused (read_of r)) e)
 
-  pub entry-gate : (why : Refusal) → out.answer ≡ Refused why → (g : Gate) → gate_of g ≡ past_entry (refusal_of why)
+  pub entry_gate : (why : Refusal) → out.answer ≡ Err why → (g : Result Unit Turned) → gate_of g ≡ past_entry (refusal_of why)
       → (gate_of g ≡ entering (store_of cache u) page passed) × (page' ≡ page)
-  entry-gate why e g k = (
-    k ∙ sym (ap (λ (r : Read). past_entry (read_of r)) e) ∙ ap (λ (r : ShelfResult). past_entry r.answer) h
+  entry_gate why e g k = (
+    k ∙ sym (ap (λ (r : Result Read Refusal). past_entry (read_of r)) e) ∙ ap (λ (r : ShelfResult). past_entry r.answer) h
         ∙ (no-page (store_of cache u) page).1,
     ap (λ (r : ShelfResult). r.page) h ∙ no_page-kept (store_of cache u) page,
   )
 
-pub fit-chain : (sz : Sizes) (c : ℕ) → (((leb 28 sz.S && leb 1 c) && leb c 256) && ltb c (sz.N * sz.K)) ≡ sizes_fit sz c
-unfolding sizes_fit
-fit-chain sz c = chain-every (leb 28 sz.S ∷ leb 1 c ∷ leb c 256 ∷ ltb c (sz.N * sz.K) ∷ [])
-
 -- where the store's checks stop a call, and where they pass
-module _ (s : ShelfStore) (x : Page) (g : Gate) (h : gate_of g ≡ entering s x passed) where
+module _ (s : ShelfStore) (x : Page) (g : Result Unit Turned) (h : gate_of g ≡ entering s x passed) where
   pub gate_stops : (a : Answer) → gate_of g ≡ stopped a → (k : Check Answer) → stopped a ≡ entering s x k
   gate_stops a e k = sym (enters_off s x a (sym h ∙ e) k)
 

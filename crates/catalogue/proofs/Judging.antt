@@ -4,30 +4,30 @@ use mathlib.Core.Bool.{Bool, true, false, not, cond}
 use mathlib.Core.List.{List, [], ◌∷◌}
 use Prim.Native.Nat.{ℕ, ◌+◌, ◌*◌}
 use native.Mathlib.Omega.{arith}
-use lib.Dec.{leb, ltb, eqb}
-use lib.ListN.{length}
+use lib.Dec.{leb, ltb}
+use lib.ListN.{length, take}
+use Rattle.std.proofs.lemmas.List.{length-map}
+use Rattle.prelude.proofs.Tab.{length-tab}
 use borrow.Author.Tests.{leb-true, ltb-true}
-use Rattle.prelude.specs.Scan.{first, tab}
 use Rattle.prelude.proofs.Tests.{by-test, each, and_l, not_f}
 use Rattle.model.specs.Sizes.{Sizes, vacant, InLimits}
-use Rattle.model.specs.Directory.{Directory, inFrame}
+use Rattle.model.specs.Directory.{Directory}
 use Rattle.model.specs.Soundness.{sound}
-use Rattle.model.specs.Policy.{slot_of, in_slots, frame_with, read_way}
-use Rattle.model.specs.Moves.{read_page}
 use Rattle.model.specs.Formats.{store_format}
-use Rattle.model.specs.Calls.{Answer, refused, Page, lent_ok, Fits, memory_of, flash_cells, reads_page, page_seen}
+use Rattle.model.specs.Calls.{Answer, refused, Page, lent_ok, Fits, memory_of, flash_cells, page_seen}
 use Rattle.model.specs.Shelf.{ShelfStore}
 use Rattle.model.proofs.Soundness.{sound-facts}
 use Rattle.model.proofs.Buffers.{fits-of}
-use Rattle.cache.specs.View.{sizes_of, directory_of, numbers}
+use Rattle.cache.specs.View.{sizes_of, directory_of}
+use Rattle.chip.specs.Chip as chip
 use Rattle.chip.proofs.Cells.{lent_of}
-use Rattle.chip.proofs.Looking.{met-late}
-use Rattle.reads.specs.Reads.{fault_read, mends_read}
-use Rattle.answer.specs.declared.Refusal.{Refusal}
-use Rattle.answer.specs.Numbers.{refusal_of}
+use Rattle.chip.proofs.Cells.{number-some}
+use Rattle.answer.specs.declared.fault.Fault.{Fault}
+use Rattle.answer.specs.Numbers.{refusal_of, refusal_for}
+use Rattle.answer.proofs.Refusals.{fault_refused}
 use Rattle.store.specs.declared.Cache.{Cache}
 use Rattle.store.specs.View.{Lent, store_of}
-use Rattle.runs.specs.Sheet.{Sheet, sheet_of}
+use Rattle.runs.specs.Sheet.{Sheet}
 use Rattle.runs.specs.Runs.{sheet_at, known, find, first_empty, largest, full, position}
 use Rattle.runs.specs.Ranges.{range_ok, index_ok}
 use Rattle.runs.specs.Roles as roles
@@ -39,12 +39,14 @@ use Rattle.over.specs.Catalogue.{sizes_fit, asking, sizes_in, entering, fault_at
 use Rattle.over.specs.Catalogue.{mends_from, turned_down, last_step, catalogue_call}
 use Rattle.over.proofs.Checks.{by-check, not_stopped, asked-on, asked-off, fit-facts, enters_on, enters_off, sheets-pass, sheets-stop}
 use Rattle.over.proofs.Checks.{lowest-fault}
+use Rattle.sheets.specs.declared.Sheet as code
+use Rattle.sheets.specs.declared.verdict.Verdict as judged
 use Rattle.sheets.specs.declared.roles.Caller.{Caller}
-use Rattle.sheets.specs.View.{sheets_of, caller_of, verdict_of}
-use Rattle.gather.specs.Gather.{Gatherable, fault_met_first, page_read, Gathered}
-use Rattle.catalogue.specs.declared.gate.Gate.{Gate}
-use Rattle.catalogue.specs.declared.judge.Judged.{Judged}
-use Rattle.catalogue.specs.declared.judge.Judged.TheVariants as judgeds
+use Rattle.sheets.specs.View.{fields_of, sheets_of, caller_of, cause_of, decided_of}
+use Rattle.gather.specs.Gather.{Gatherable, fault_met_first, Gathered}
+use Rattle.std.specs.Prelude.{Some, Result, Ok, Err}
+use Rattle.catalogue.specs.declared.Turned.{Turned}
+use Rattle.catalogue.specs.declared.Turned.TheVariants.{Denied, Stopped}
 use Rattle.catalogue.specs.View.{called, stepped, gate_of}
 use Rattle.catalogue.specs.Kinds.{LookKind, ListKind, FetchKind, PutKind, Kind, Ready, Mended, Decides, Judges}
 
@@ -107,7 +109,7 @@ module _ (cache : Cache) (u : Lent) (c : ℕ) (w : Caller) (op : Operation) (pag
   unfolding catalogue_call judged in_order
   by-sheets e h v is = rw (e, h, catalogue_call) (ap (stepped cache u c page) is)
 
-  module _ (g : Gate) (h : gate_of g ≡ entering s page (asking (sizes_fit (sizes_in s) c) 1 passed)) where
+  module _ (g : Result Unit Turned) (h : gate_of g ≡ entering s page (asking (sizes_fit (sizes_in s) c) 1 passed)) where
     -- what the gate stops, it stops
     pub gate_out : (a : Answer) → gate_of g ≡ stopped a → outside_of s c page ≡ stopped a
     unfolding outside_of
@@ -131,67 +133,54 @@ module _ (cache : Cache) (u : Lent) (c : ℕ) (w : Caller) (op : Operation) (pag
 
 -- ---- the sheets read by the code
 
-module _ (cache : Cache) (u : Lent) (c : ℕ) (sl fr va re us : List ℕ) (is : numbers sl fr va re us ≡ directory_of cache.directory) where
+module _ (cache : Cache) (u : Lent) (c : ℕ) where
   abbrev store : ShelfStore
   store = store_of cache u
-
-  abbrev lists : Directory
-  lists = numbers sl fr va [] []
 
   abbrev sz : Sizes
   sz = sizes_of cache.sizes
 
-  same-fault : (i : ℕ) → fault_read sz lists u.below.flash u.below.codes u.below.marks i ≡ fault_at store i
-  unfolding fault_at reads_page read_way in_slots slot_of frame_with inFrame flash_cells
-  same-fault i = ap (λ (d : Directory). fault_read sz d u.below.flash u.below.codes u.below.marks i) is
+  abbrev d : Directory
+  d = directory_of cache.directory
 
-  same-mends : (i : ℕ) → mends_read sz lists u.below.flash u.below.codes u.below.marks i
-      ≡ mends_from store (reads_page sz (directory_of cache.directory) i)
-  unfolding mends_from reads_page read_way in_slots slot_of frame_with inFrame flash_cells
-  same-mends i = ap (λ (d : Directory). mends_read sz d u.below.flash u.below.codes u.below.marks i) is
+  abbrev low : ℕ
+  low = lowest_refused store c
 
-  same-sheets : tab c (λ i. sheet_of (page_read sz lists u.below.flash u.below.codes u.below.marks u.below.pspace
-      u.below.bspace i)) ≡ stored store c
-  unfolding stored page_seen memory_of read_page in_slots slot_of frame_with inFrame flash_cells
-  same-sheets = ap (λ (d : Directory). tab c (λ i. sheet_of (page_read sz d u.below.flash u.below.codes u.below.marks
-      u.below.pspace u.below.bspace i))) is
+  same-lowest : fault_met_first sz d u.below.flash u.below.codes u.below.marks c ≡ cond (ltb low c) (fault_at store low) 0
+  unfolding lowest_refused fault_at flash_cells
+  same-lowest = refl
 
-  same-lowest : fault_met_first sz lists u.below.flash u.below.codes u.below.marks c
-      ≡ cond (ltb (lowest_refused store c) c) (fault_at store (lowest_refused store c)) 0
-  unfolding lowest_refused
-  same-lowest = λ k. let low = first c (λ i. not (eqb (same-fault i k) 0)) in cond (ltb low c) (same-fault low k) 0
+  module _ (t : List code.Sheet) (m : List ℕ) where
+    abbrev With : Result Unit Fault → Type 0
+    With r = Gathered sz d u.below.flash u.below.codes u.below.marks u.below.pspace u.below.bspace c r t m
 
-  module _ (fault : ℕ) (t m : List ℕ) (g : Gathered sz lists u.below.flash u.below.codes u.below.marks u.below.pspace
-      u.below.bspace c fault t m) where
-    abbrev low : ℕ
-    low = lowest_refused store c
+    pub refused_sheet : (fault : Fault) → With (Err fault) → stopped (refusal_of (refusal_for fault)) ≡ sheets_check store c
+    refused_sheet fault g = let e = g.fault-is ∙ same-lowest in by-test (ltb low c)
+        (λ q. ap stopped (fault_refused fault ∙ ap (λ (x : ℕ). refused x vacant)
+        (e ∙ ap (λ (b : Bool). cond b (fault_at store low) 0) q)) ∙ sym (sheets-stop store c q))
+        (λ q. absurd (number-some (Some fault) refl (e ∙ ap (λ (b : Bool). cond b (fault_at store low) 0) q)))
 
-    fault-is : fault ≡ cond (ltb low c) (fault_at store low) 0
-    fault-is = g.fault-is ∙ same-lowest
+    module _ (g : With (Ok tt)) where
+      pub passed_sheets : passed ≡ sheets_check store c
+      passed_sheets = sym (sheets-pass store c (by-test (ltb low c)
+          (λ q. absurd (lowest-fault store c q (sym (g.fault-is ∙ same-lowest ∙ ap (λ (b : Bool). cond b (fault_at store low) 0) q))))
+          (λ q. q)))
 
-    late-fault : (fault_at store low ≡ 0 → ⊥) → fault_at store low ≡ cond (eqb (fault_at store low) 7) 7 14
-    unfolding fault_at
-    late-fault ne = sym (met-late sz _ _ ne)
+      same-sheets : sheets_of (take c t) ≡ stored store c
+      unfolding stored page_seen memory_of flash_cells
+      same-sheets = g.sheets-are
 
-    pub refused-sheet : (fault ≡ 0 → ⊥) → (why : Refusal) → refusal_of why ≡ refused (cond (eqb fault 7) 7 14) vacant
-        → stopped (refusal_of why) ≡ sheets_check store c
-    refused-sheet ne why e = by-test (ltb low c)
-        (λ t. let f : fault ≡ fault_at store low = fault-is ∙ ap (λ (b : Bool). cond b (fault_at store low) 0) t in
-        ap stopped (e ∙ ap (λ (x : ℕ). refused (cond (eqb x 7) 7 14) vacant) f
-        ∙ ap (λ (x : ℕ). refused x vacant) (sym (late-fault (λ z. ne (f ∙ z))))) ∙ sym (sheets-stop store c t))
-        (λ t. absurd (ne (fault-is ∙ ap (λ (b : Bool). cond b (fault_at store low) 0) t)))
+      long : length (take c t) ≡ c
+      long = sym (length-map (take c t) fields_of) ∙ ap length g.sheets-are ∙ length-tab c _
 
-    pub decided-sheets : fault ≡ 0 → (w : Caller) (op : Operation) (many : ℕ) → many ≡ sz.N * sz.K → (v : Verdict)
-        → v ≡ verdict c many (sheets_of c t) (caller_of w) op
-        → (passed ≡ sheets_check store c) × (v ≡ verdict c (sz.N * sz.K) (stored store c) (caller_of w) op) × Mended store c m
-    decided-sheets none w op many me v e = (
-      sym (sheets-pass store c (by-test (ltb low c)
-          (λ t. absurd (lowest-fault store c t (sym (ap (λ (b : Bool). cond b (fault_at store low) 0) t) ∙ sym fault-is ∙ none)))
-          (λ t. t))),
-      e ∙ ap (λ (n : ℕ). verdict c n (sheets_of c t) (caller_of w) op) me
-          ∙ ap (λ (ss : List Sheet). verdict c (sz.N * sz.K) ss (caller_of w) op) (g.sheets-are none ∙ same-sheets),
-      λ i l. g.mends-are none i l ∙ same-mends i,
-    )
+      pub decided_sheets : (w : Caller) (op : Operation) (v : Verdict)
+          → v ≡ verdict (length (take c t)) (sz.N * sz.K) (sheets_of (take c t)) (caller_of w) op
+          → v ≡ verdict c (sz.N * sz.K) (stored store c) (caller_of w) op
+      decided_sheets w op v e = e ∙ (λ k. verdict (long k) (sz.N * sz.K) (same-sheets k) (caller_of w) op)
+
+      pub mended_sheets : Mended store c m
+      unfolding mends_from flash_cells
+      mended_sheets i l = g.mends-are i l
 
 -- what reading asks
 module _ (cache : Cache) (u : Lent) (c : ℕ) (r : Ready (store_of cache u) c) where
@@ -203,36 +192,40 @@ module _ (cache : Cache) (u : Lent) (c : ℕ) (r : Ready (store_of cache u) c) w
   ready-fits = fits-of store_format (sizes_of cache.sizes) u.below (and_l (lent_ok store_format (sizes_of cache.sizes) u.below) _
       r.lends)
 
-  pub gatherable : (whole t m : List ℕ) → length whole ≡ (sizes_of cache.sizes).S → length t ≡ 1792 → length m ≡ 256
-      → Gatherable (sizes_of cache.sizes) u.below.flash u.below.codes u.below.marks u.below.pspace
-      u.below.bspace whole c t m
-  gatherable whole t m wl tl ml = let q = r.fewer in record {
-    lent = lent_of (sizes_of cache.sizes) u.below ready-limits ready-fits;
+  pub ready_chip : chip.Lent (sizes_of cache.sizes) u.below.flash u.below.codes u.below.marks
+  ready_chip = lent_of (sizes_of cache.sizes) u.below ready-limits ready-fits
+
+  pub gatherable : (whole : List ℕ) → length whole ≡ (sizes_of cache.sizes).S
+      → Gatherable (sizes_of cache.sizes) u.below.pspace u.below.bspace whole c
+  gatherable whole wl = let q = r.fewer in record {
     pspace-length = ready-fits.pspace-length;
     bspace-length = ready-fits.bspace-length;
     whole_length = wl;
     wide = r.wide;
     few = r.few;
     sheets-fit = omega arith;
-    table-length = tl;
-    mends-length = ml;
   }
 
 -- ---- once the checks have passed
 
-pub judged-rest : (cache : Cache) (u : Lent) (c : ℕ) (w : Caller) (op : Operation) (page : Page) → allowed (caller_of w).role op ≡ true
-    → (g : Gate) → gate_of g ≡ entering (store_of cache u) page (asking (sizes_fit (sizes_in (store_of cache u)) c) 1 passed)
-    → gate_of g ≡ passed
-    → (j : Judged) (m : List ℕ) → length m ≡ 256 → Decides (store_of cache u) c w op j m → Judges cache u c w op page j m
-judged-rest cache u c w op page may g h e (judgeds.Denied why) m l d = absurd d
-judged-rest cache u c w op page may g h e (judgeds.Stopped why) m l d = let k = gate_in cache u c w op page g h e in record {
-  call-is = by-outside cache u c w op page may (refusal_of why) (k.2 ∙ sym d);
-  kind_is = tt;
-}
-judged-rest cache u c w op page may g h e (judgeds.Decided v) m l d = let k = gate_in cache u c w op page g h e in record {
-  call-is = by-sheets cache u c w op page may (k.2 ∙ sym d.0) (verdict_of v) d.1;
-  kind_is = (
-    subst (Kind (store_of cache u) c op) (sym d.1) (verdict-kind (store_of cache u) c (stored (store_of cache u) c) (caller_of w) op),
-    record { ready = k.0; page-length = k.1; mends-length = l; mended = d.2 },
-  );
-}
+module _ (cache : Cache) (u : Lent) (c : ℕ) (w : Caller) (op : Operation) (page : Page) (may : allowed (caller_of w).role op ≡ true)
+    (g : Result Unit Turned)
+    (h : gate_of g ≡ entering (store_of cache u) page (asking (sizes_fit (sizes_in (store_of cache u)) c) 1 passed)) (e : gate_of g ≡ passed) where
+  pub judged_rest : (j : Result judged.Verdict Turned) (m : List ℕ) → Decides (store_of cache u) c w op j m
+      → Judges cache u c w op page j m
+  unfolding last_step
+  judged_rest (Ok v) m d = let k = gate_in cache u c w op page g h e in record {
+    call-is = by-sheets cache u c w op page may (k.2 ∙ sym d.0) (decided_of v) d.1;
+    kind_is = (
+      subst (Kind (store_of cache u) c op) (sym d.1) (verdict-kind (store_of cache u) c (stored (store_of cache u) c) (caller_of w) op),
+      record { ready = k.0; page-length = k.1; mended = d.2 },
+    );
+  }
+  judged_rest (Err (Denied why)) m d = let k = gate_in cache u c w op page g h e in record {
+    call-is = by-sheets cache u c w op page may (k.2 ∙ sym d.0) (refuse (cause_of why)) d.1;
+    kind_is = tt;
+  }
+  judged_rest (Err (Stopped why)) m d = let k = gate_in cache u c w op page g h e in record {
+    call-is = by-outside cache u c w op page may (refusal_of why) (k.2 ∙ sym d);
+    kind_is = tt;
+  }

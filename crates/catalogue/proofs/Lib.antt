@@ -1,9 +1,9 @@
 pub mod Stepping
-pub mod Totals
 pub mod Gating
 pub mod Judging
+pub mod Totals
 pub mod Counting
 pub mod Ending
+pub mod PowerLoss
 pub mod Unseen
 pub mod Demand3
-pub mod PowerLoss

@@ -11,41 +11,23 @@ use Rattle.model.proofs.Cut.{cut-nothing}
 use Rattle.cache.specs.View.{sizes_of}
 use Rattle.store.specs.declared.Cache.{Cache}
 use Rattle.store.specs.View.{Lent, store_of}
-use Rattle.store.specs.PowerLoss.{CutContract, PowerLost}
+use Rattle.store.specs.PowerLoss.{PowerLost}
 use Rattle.store.proofs.PowerLoss.{power_lost}
-use Rattle.runs.specs.Sheet.{page_of}
+use Rattle.runs.specs.Sheet.{Sheet, page_of}
 use Rattle.runs.specs.Roles.{Operation}
-use Rattle.runs.specs.Verdict.{Verdict, refuse, show, tell, fetch, put}
+use Rattle.runs.specs.Verdict.{put}
 use Rattle.over.specs.Catalogue.{Out, last_step}
 use Rattle.sheets.specs.declared.roles.Caller.{Caller}
-use Rattle.sheets.specs.declared.verdict.Verdict as verdict
-use Rattle.sheets.specs.View.{verdict_of}
 use Rattle.catalogue.specs.View.{called, stepped}
 use Rattle.catalogue.specs.Histories.{Entry, look, list, read, add, replace, mark, lent_after, out_of}
-use Rattle.catalogue.specs.Kinds.{PutKind}
-use Rattle.catalogue.specs.PowerLoss.{CutVerdict, CutEntry, CutOff}
+use Rattle.catalogue.specs.PowerLoss.{CutPut, CutEntry, CutOff}
 
--- another name of the verdict, or of the page
-pub verdict-is : (cache : Cache) (u : Lent) (ops : ℕ) (r : Cache) (u' : Buffers) (v w : verdict.Verdict) → v ≡ w
-    → CutVerdict cache u ops (verdict_of w) r u' → CutVerdict cache u ops (verdict_of v) r u'
-verdict-is cache u ops r u' v w e h = subst (λ (x : verdict.Verdict). CutVerdict cache u ops (verdict_of x) r u') (sym e) h
-
-pub sheet-is : (cache : Cache) (u : Lent) (ops n : ℕ) (r : Cache) (u' : Buffers) (x y : Page) → x ≡ y
-    → CutContract cache u ops (plainly (write n x)) r u' → CutContract cache u ops (plainly (write n y)) r u'
-sheet-is cache u ops n r u' x y e h = subst (λ (p : Page). CutContract cache u ops (plainly (write n p)) r u') e h
-
--- from the last step to the call
-pub verdict-cut : (cache : Cache) (u : Lent) (c : ℕ) (w : Caller) (op : Operation) (page page' : Page) (v : Verdict) (ops : ℕ) (r : Cache)
-    (u' : Buffers) → PutKind c v → stepped cache u c page' v ≡ called cache u c w op page → CutVerdict cache u ops v r u'
-    → CutEntry cache u c w op page ops r u'
-unfolding last_step
-verdict-cut cache u c w op page page' (refuse n) ops r u' k e h =
-    inl (record { same = ap (λ (o : Out). o.store) (sym e); nothing = h })
-verdict-cut cache u c w op page page' (show sh q) ops r u' k e h = absurd k
-verdict-cut cache u c w op page page' (tell n) ops r u' k e h = absurd k
-verdict-cut cache u c w op page page' (fetch n) ops r u' k e h = absurd k
-verdict-cut cache u c w op page page' (put i sh) ops r u' k e h =
-    inr (record { at = i; sheet = sh; writes = ap (λ (o : Out). o.store) (sym e); cut = h })
+-- a call that is turned down, and one that comes to the write of a sheet
+module _ (cache : Cache) (u : Lent) (c : ℕ) (w : Caller) (op : Operation) (page : Page) (ops : ℕ) (r : Cache) where
+  pub put_cut : (i : ℕ) (sh : Sheet) → stepped cache u c page (put i sh) ≡ called cache u c w op page → (u' : Buffers)
+      → CutPut cache u ops i sh r u' → CutEntry cache u c w op page ops r u'
+  unfolding last_step
+  put_cut i sh e u' h = inr (record { at = i; sheet = sh; writes = ap (λ (o : Out). o.store) (sym e); cut = h })
 
 -- the store after a call is the one in what came out of it
 store-after : (c : Cache) (u : Lent) (e : Entry) → (out_of c u e).store.store.lent ≡ (lent_after u e).below

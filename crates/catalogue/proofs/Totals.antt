@@ -1,26 +1,19 @@
 -- The mends of a whole call: sums over the flash pages that it reads.
-use mathlib.Core.Path.{◌≡◌, refl, sym, ap, ◌∙◌}
-use mathlib.Core.Bool.{Bool, true, false, cond, ◌&&◌, ◌||◌}
+use mathlib.Core.Path.{◌≡◌, refl, ap, ◌∙◌}
+use mathlib.Core.Bool.{Bool, true, cond, ◌&&◌, ◌||◌}
 use mathlib.Core.List.{List}
 use Prim.Native.Nat.{ℕ, zero, suc, ◌+◌, ◌*◌, ◌/◌, ◌≤◌, ◌<◌}
 use native.Mathlib.Nat.{suc-mul}
 use native.Mathlib.Omega.{arith}
 use lib.Dec.{ltb, eqb}
-use lib.ListN.{get_or}
 use borrow.Author.Tests.{ltb-true, ltb-false, eqb-true, eqb-false, lt-ltb, ne_eqb}
 use Rattle.prelude.proofs.Tests.{by-test}
-use Rattle.model.specs.Sizes.{vacant}
 use Rattle.model.specs.Calls.{sum, is_refused}
-use Rattle.address.specs.declared.BlockNo.{BlockNo}
-use Rattle.address.specs.Address.{block_of}
-use Rattle.cache.specs.View.{page_no}
 use Rattle.answer.specs.declared.Refusal.{Refusal}
-use Rattle.answer.specs.declared.Refusal.TheVariants as why
 use Rattle.answer.specs.declared.Read.{Read}
-use Rattle.answer.specs.declared.Read.TheVariants as reads
 use Rattle.answer.specs.declared.Write.{Write}
-use Rattle.answer.specs.declared.Write.TheVariants as writes
-use Rattle.answer.specs.Numbers.{refusal_of, read_of, write_of, mends_of_read, mends_of_write}
+use Rattle.std.specs.Prelude.{Result}
+use Rattle.answer.specs.Numbers.{read_of, write_of, mends_of_read, mends_of_write}
 use Rattle.chip.specs.Chip.{most_mends}
 use Rattle.catalogue.specs.Kinds.{Few, kept_mends, left_mends, erased_in}
 
@@ -92,69 +85,16 @@ module _ (c k b at : ℕ) (m : List ℕ) (f : Few c m) where
   left-low zero l = omega arith
   left-low (suc i) l = let a = left-low i (omega arith) in let d = kept_low i (omega arith) in let e = suc-mul i 2097152 in omega arith
 
--- one sheet, by its block
-module _ (i k b at : ℕ) (m : List ℕ) (block : BlockNo) (is : block ≡ block_of (page_no i) k) where
-  tested : (eqb block.0 b || eqb i at) ≡ (eqb (i / k) b || eqb i at)
-  tested = ap (λ (x : BlockNo). eqb x.0 b || eqb i at) is
-
-  pub kept-none : (eqb block.0 b || eqb i at) ≡ true → 0 ≡ kept_mends k b at m i
-  unfolding kept_mends
-  kept-none h = rw (sym tested ∙ h)
-
-  pub kept-one : (eqb block.0 b || eqb i at) ≡ false → get_or m i 0 ≡ kept_mends k b at m i
-  unfolding kept_mends
-  kept-one h = rw (sym tested ∙ h)
-
 -- ---- an answer with other mends
 
-pub why_refused : (why : Refusal) → is_refused (refusal_of why) ≡ true
-why_refused why.Size = refl
-why_refused why.Buffer = refl
-why_refused why.Overworn = refl
-why_refused why.Record = refl
-why_refused why.Page = refl
-why_refused (why.Worn b) = refl
-why_refused why.Unreadable = refl
-why_refused why.Empty = refl
-why_refused why.Torn = refl
-
-module _ (answer : Read) (more : ℕ) where
-  abbrev pub ReadWith : Read → Type 0
+module _ (answer : Result Read Refusal) (more : ℕ) where
+  abbrev pub ReadWith : Result Read Refusal → Type 0
   ReadWith r = (read_of r ≡ read_of answer) × (mends_of_read r ≡ cond (is_refused (read_of answer)) 0 (mends_of_read answer + more))
 
-  pub read-with : (way mends : ℕ) → answer ≡ reads.Done way mends → ReadWith (reads.Done way (mends + more))
-  read-with way mends e = (
-    sym (ap read_of e),
-    sym (ap (λ (a : Read). cond (is_refused (read_of a)) 0 (mends_of_read a + more)) e),
-  )
-
-  pub read-refused : (why : Refusal) → answer ≡ reads.Refused why → ReadWith (reads.Refused why)
-  read-refused why e = (
-    sym (ap read_of e),
-    sym (ap (λ (a : Read). cond (is_refused (read_of a)) 0 (mends_of_read a + more)) e
-        ∙ ap (λ (t : Bool). cond t 0 (0 + more)) (why_refused why)),
-  )
-
-module _ (answer : Write) (left : ℕ → ℕ) where
-  abbrev pub WriteWith : Write → Type 0
+module _ (answer : Result Write Refusal) (left : ℕ → ℕ) where
+  abbrev pub WriteWith : Result Write Refusal → Type 0
   WriteWith r = (write_of r ≡ write_of answer)
       × (mends_of_write r ≡ cond (is_refused (write_of answer)) 0 (mends_of_write answer + left (erased_in (write_of answer))))
-
-  abbrev total_of : Write → ℕ
-  total_of a = cond (is_refused (write_of a)) 0 (mends_of_write a + left (erased_in (write_of a)))
-
-  pub write-with : (way mends more : ℕ) → answer ≡ writes.Done way mends → more ≡ left vacant → WriteWith (writes.Done way (mends + more))
-  write-with way mends more e l = (sym (ap write_of e), ap (λ (x : ℕ). mends + x) l ∙ sym (ap total_of e))
-
-  pub rewrite_with : (b : BlockNo) (merged mends more : ℕ) → answer ≡ writes.Rewrote b merged mends → more ≡ left b.0
-      → WriteWith (writes.Rewrote b merged (mends + more))
-  rewrite_with b merged mends more e l = (sym (ap write_of e), ap (λ (x : ℕ). mends + x) l ∙ sym (ap total_of e))
-
-  pub write-refused : (why : Refusal) → answer ≡ writes.Refused why → WriteWith (writes.Refused why)
-  write-refused why e = (
-    sym (ap write_of e),
-    sym (ap total_of e ∙ ap (λ (t : Bool). cond t 0 (0 + left (erased_in (refusal_of why)))) (why_refused why)),
-  )
 
 -- ---- sums of one page, and of none
 

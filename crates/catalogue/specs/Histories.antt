@@ -10,8 +10,7 @@ use Rattle.model.specs.Shelf.{ShelfReference, ShelfGives}
 use Rattle.cache.specs.declared.Sizes.{Sizes}
 use Rattle.cache.specs.View.{sizes_of}
 use Rattle.store.specs.declared.Cache.{Cache}
-use Rattle.store.specs.declared.Opened.{Opened}
-use Rattle.store.specs.View.{Lent, opened_of, store_of}
+use Rattle.store.specs.View.{Opened, Lent, opened_of, store_of}
 use Rattle.store.specs.Histories as store
 use Rattle.store.specs.Histories.{flipped_to, StillNear, OpeningContract, CodesMatch, begun}
 use Rattle.runs.specs.Sheet.{Sheet}
@@ -21,11 +20,9 @@ use Rattle.over.specs.Catalogue.{Says, Out}
 use Rattle.over.specs.Mixed.{sheets_in, Bytes, WritesBytes, NotUnreadable, Listed}
 use Rattle.over.specs.Mixed as mixed
 use Rattle.sheets.specs.declared.roles.Caller.{Caller}
-use Rattle.catalogue.specs.declared.Looked.{Looked}
-use Rattle.catalogue.specs.declared.Listed as listings
-use Rattle.catalogue.specs.declared.ReadOut.{ReadOut}
-use Rattle.catalogue.specs.declared.WriteOut.{WriteOut}
-use Rattle.catalogue.specs.View.{look_says, look_mends, list_says, list_mends, fetch_says, fetch_mends, write_says, write_mends, out_with}
+use Rattle.catalogue.specs.View as listings
+use Rattle.catalogue.specs.View.{Looked, ReadOut, WriteOut, look_says, look_mends, list_says, list_mends, fetch_says, fetch_mends}
+use Rattle.catalogue.specs.View.{write_says, write_mends, out_with}
 use Rattle.catalogue.specs.View.{asked_by, called}
 
 -- a call of a catalogue with its arguments, what it returned, and what is lent to it as `&mut`, as it left it

@@ -1,8 +1,7 @@
 -- What can come out of each operation, what the calls ask of one another, and the mends of the sheets.
-use Rattle.std.specs.Prelude.{◌≡◌, true, cond, ◌&&◌, ◌||◌, List, ℕ, ◌*◌, ◌/◌, ◌≤◌, ◌<◌, eqb, length, get_or}
+use Rattle.std.specs.Prelude.{◌≡◌, true, cond, ◌&&◌, ◌||◌, List, ℕ, ◌*◌, ◌/◌, ◌≤◌, ◌<◌, eqb, length, get_or, Result, Ok, Err}
 use Rattle.model.specs.Sizes.{Sizes, vacant}
 use Rattle.model.specs.Soundness.{sound}
-use Rattle.model.specs.Policy.{policy_choice}
 use Rattle.model.specs.Calls.{Answer, open_done, read_done, write_done, step_done, step_clean, flush_done, refused, Page, lent_ok}
 use Rattle.model.specs.Calls.{reads_page, sum}
 use Rattle.model.specs.Formats.{store_format}
@@ -13,12 +12,15 @@ use Rattle.store.specs.declared.Cache.{Cache}
 use Rattle.store.specs.View.{Lent, store_of}
 use Rattle.runs.specs.Roles.{Operation, add, look, list, read, replace, mark}
 use Rattle.runs.specs.Verdict.{Verdict, refuse, show, tell, fetch, put, verdict, passed, stopped}
-use Rattle.over.specs.Catalogue.{Says, sizes_in, directory_in, sheets_check, stored, mends_from, last_step}
+use Rattle.over.specs.Catalogue.{sizes_in, directory_in, sheets_check, stored, mends_from, turned_down}
+use Rattle.address.specs.declared.PageNo.{PageNo}
+use Rattle.sheets.specs.declared.Sheet.{Sheet}
 use Rattle.sheets.specs.declared.roles.Caller.{Caller}
-use Rattle.sheets.specs.View.{caller_of, verdict_of}
-use Rattle.catalogue.specs.declared.judge.Judged.{Judged}
-use Rattle.catalogue.specs.declared.judge.Judged.TheVariants as judged
-use Rattle.catalogue.specs.View.{out_with, called, resumed}
+use Rattle.sheets.specs.View.{fields_of, caller_of, cause_of, decided_of}
+use Rattle.sheets.specs.declared.verdict.Verdict as code
+use Rattle.catalogue.specs.declared.Turned.{Turned}
+use Rattle.catalogue.specs.declared.Turned.TheVariants.{Denied, Stopped}
+use Rattle.catalogue.specs.View.{called, stepped, resumed, turned_of}
 
 -- ---- verdicts: each operation is turned down, or comes to its own last step
 
@@ -84,35 +86,40 @@ abbrev pub Mended : ShelfStore → ℕ → List ℕ → Type 0
 Mended s c m = (i : ℕ) → i < c → get_or m i 0 ≡ mends_from s (reads_page (sizes_in s) (directory_in s) i)
 
 -- the sheets decide, or the lowest that the store refuses does
-abbrev pub Decides : ShelfStore → ℕ → Caller → Operation → Judged → List ℕ → Type 0
-Decides s c w op (judged.Denied why) m = ⊥
-Decides s c w op (judged.Stopped why) m = stopped (refusal_of why) ≡ sheets_check s c
-Decides s c w op (judged.Decided v) m = (passed ≡ sheets_check s c)
-    × (verdict_of v ≡ verdict c ((sizes_in s).N * (sizes_in s).K) (stored s c) (caller_of w) op) × Mended s c m
+abbrev pub Decides : ShelfStore → ℕ → Caller → Operation → Result code.Verdict Turned → List ℕ → Type 0
+Decides s c w op (Ok v) m = (passed ≡ sheets_check s c)
+    × (decided_of v ≡ verdict c ((sizes_in s).N * (sizes_in s).K) (stored s c) (caller_of w) op) × Mended s c m
+Decides s c w op (Err (Denied why)) m = (passed ≡ sheets_check s c)
+    × (refuse (cause_of why) ≡ verdict c ((sizes_in s).N * (sizes_in s).K) (stored s c) (caller_of w) op)
+Decides s c w op (Err (Stopped why)) m = stopped (refusal_of why) ≡ sheets_check s c
 
 -- what a last step asks
 pub record Settled (s : ShelfStore) (c : ℕ) (page : Page) (m : List ℕ) : Type 0 where
   pub ready : Ready s c
   pub page-length : length page ≡ (sizes_in s).S
-  pub mends-length : length m ≡ 256
   pub mended : Mended s c m
 
 -- a call judged: what is left of it is the call itself, and its verdict is of its kind
-abbrev pub Judgement : ShelfStore → ℕ → Operation → Page → Judged → List ℕ → Type 0
-Judgement s c op page (judged.Denied why) m = Unit {0}
-Judgement s c op page (judged.Stopped why) m = Unit {0}
-Judgement s c op page (judged.Decided v) m = Kind s c op (verdict_of v) × Settled s c page m
+abbrev pub Judgement : ShelfStore → ℕ → Operation → Page → Result code.Verdict Turned → List ℕ → Type 0
+Judgement s c op page (Ok v) m = Kind s c op (decided_of v) × Settled s c page m
+Judgement s c op page (Err why) m = Unit {0}
 
-pub record Judges (cache : Cache) (u : Lent) (c : ℕ) (w : Caller) (op : Operation) (page : Page) (j : Judged) (m : List ℕ) : Type 0 where
+pub record Judges (cache : Cache) (u : Lent) (c : ℕ) (w : Caller) (op : Operation) (page : Page) (j : Result code.Verdict Turned)
+    (m : List ℕ) : Type 0 where
   pub call-is : resumed cache u c page j ≡ called cache u c w op page
   pub kind_is : Judgement (store_of cache u) c op page j m
+
+-- a call that writes a sheet: it is turned down, or is the write of this sheet on this page
+abbrev pub Orders : Cache → Lent → ℕ → Caller → Operation → Page → Result (PageNo × Sheet) Turned → List ℕ → Type 0
+Orders cache u c w op page (Ok (n, sheet)) m = (stepped cache u c page (put n.0 (fields_of sheet)) ≡ called cache u c w op page)
+    × (n.0 < c) × Settled (store_of cache u) c page m
+Orders cache u c w op page (Err why) m = turned_down (store_of cache u) page (turned_of why) ≡ called cache u c w op page
 
 -- ---- mends
 
 -- the mends of 256 sheets at most, each with no more than a call can have
 pub record Few (c : ℕ) (m : List ℕ) : Type 0 where
   pub few : c ≤ 256
-  pub long : length m ≡ 256
   pub each : (i : ℕ) → i < c → get_or m i 0 ≤ most_mends
 
 -- the mends of sheet i; none where it is of block b, or page `at`
@@ -136,8 +143,3 @@ erased_in (refused n b) = vacant
 -- the page that a write of page n shelves, which it reads then
 unfoldable pub skipped : Sizes → ℕ → ℕ
 skipped sz n = cond (eqb sz.shelf_pages 0) vacant n
-
--- the last step of a look or a listing, whatever the store: it changes nothing
-abbrev pub Quietly : ℕ → ℕ → List ℕ → Says → ℕ → Verdict → Type 0
-Quietly c k m says mends v = (s : ShelfStore) (page : Page) → Settled s c page m
-    → out_with says mends s page ≡ last_step policy_choice c s page v

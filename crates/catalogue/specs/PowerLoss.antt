@@ -11,7 +11,6 @@ use Rattle.store.specs.View.{Lent, cache_of, store_of}
 use Rattle.store.specs.PowerLoss.{CutContract, PowerLost}
 use Rattle.runs.specs.Sheet.{Sheet, page_of}
 use Rattle.runs.specs.Roles as roles
-use Rattle.runs.specs.Verdict.{Verdict, refuse, show, tell, fetch, put}
 use Rattle.over.specs.Catalogue.{Out}
 use Rattle.sheets.specs.declared.roles.Caller.{Caller}
 use Rattle.catalogue.specs.View.{called}
@@ -26,14 +25,6 @@ pub record Nothing (u : Lent) (r : Cache) (u' : Buffers) : Type 0 where
 -- the write of a sheet as page i, cut off
 abbrev pub CutPut : Cache → Lent → ℕ → ℕ → Sheet → Cache → Buffers → Type 0
 CutPut cache u ops i sh r u' = CutContract cache u ops (plainly (write i (page_of cache.sizes.page_size sh))) r u'
-
--- the last step that the sheets decided, cut off; only a write changes anything
-abbrev pub CutVerdict : Cache → Lent → ℕ → Verdict → Cache → Buffers → Type 0
-CutVerdict cache u ops (refuse n) r u' = Nothing u r u'
-CutVerdict cache u ops (show sh q) r u' = Nothing u r u'
-CutVerdict cache u ops (tell n) r u' = Nothing u r u'
-CutVerdict cache u ops (fetch n) r u' = Nothing u r u'
-CutVerdict cache u ops (put i sh) r u' = CutPut cache u ops i sh r u'
 
 -- A call whose whole comes to o, cut off after ops operations: the whole call leaves the store as it was and so does this, or the whole
 -- call is the write of a sheet and this is that write cut off.

@@ -7,9 +7,7 @@ use Rattle.store.specs.View.{Lent, store_of}
 use Rattle.over.specs.Unseen.{Twins}
 use Rattle.sheets.specs.declared.roles.Caller.{Caller}
 use Rattle.sheets.specs.View.{caller_of}
-use Rattle.catalogue.specs.declared.Looked.{Looked}
-use Rattle.catalogue.specs.declared.Listed.{Listed}
-use Rattle.catalogue.specs.View.{look_says, look_mends, list_says, list_mends}
+use Rattle.catalogue.specs.View.{Looked, Listed, look_says, look_mends, list_says, list_mends}
 use Rattle.catalogue.specs.Histories.{Contract, look, list}
 
 -- Two stores alike but for others' trainee numbers and marks, and the codes of those sheets, give a trainee the same looks, refusals and

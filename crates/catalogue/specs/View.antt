@@ -1,10 +1,13 @@
 -- What the catalogue's calls hand back, as `over` has it.
-use Rattle.std.specs.Prelude.{true, false, ℕ, eqb}
+use Rattle.std.specs.Prelude.{true, false, List, ℕ, eqb, Result, Ok, Err}
 use Rattle.model.specs.Sizes.{vacant}
 use Rattle.model.specs.Policy.{policy_choice}
 use Rattle.model.specs.Calls.{Answer, open_done, read_done, write_done, step_done, step_clean, flush_done, refused, Page}
 use Rattle.model.specs.Shelf.{ShelfStore}
-use Rattle.answer.specs.Numbers.{refusal_of, read_of, write_of, mends_of_read, mends_of_write}
+use Rattle.answer.specs.declared.fault.Fault.{Fault}
+use Rattle.answer.specs.declared.Refusal.{Refusal}
+use Rattle.answer.specs.declared.Read.{Read}
+use Rattle.answer.specs.Numbers.{refusal_of, refusal_for, read_of, write_of, mends_of_read, mends_of_write}
 use Rattle.store.specs.declared.Cache.{Cache}
 use Rattle.store.specs.View.{Lent, store_of}
 use Rattle.runs.specs.Roles as roles
@@ -12,61 +15,92 @@ use Rattle.runs.specs.Verdict as verdicts
 use Rattle.runs.specs.Verdict.{Check, passed, stopped}
 use Rattle.over.specs.Catalogue.{Asked, Says, down, shown, listed, fetched, wrote, Out, turned_down, last_step, catalogue_call}
 use Rattle.sheets.specs.declared.roles.Caller.{Caller}
-use Rattle.sheets.specs.View.{fields_of, caller_of, cause_of, verdict_of}
-use Rattle.catalogue.specs.declared.gate.Gate.{Gate}
-use Rattle.catalogue.specs.declared.gate.Gate.TheVariants as gates
-use Rattle.catalogue.specs.declared.judge.Judged.{Judged}
-use Rattle.catalogue.specs.declared.judge.Judged.TheVariants as judged
-use Rattle.catalogue.specs.declared.Looked.{Looked}
-use Rattle.catalogue.specs.declared.Looked.TheVariants as lookeds
-use Rattle.catalogue.specs.declared.Listed.{Listed}
-use Rattle.catalogue.specs.declared.Listed.TheVariants as listeds
-use Rattle.catalogue.specs.declared.Fetched.{Fetched}
-use Rattle.catalogue.specs.declared.Fetched.TheVariants as fetcheds
-use Rattle.catalogue.specs.declared.Written.{Written}
-use Rattle.catalogue.specs.declared.Written.TheVariants as writtens
+use Rattle.sheets.specs.View.{fields_of, caller_of, cause_of, decided_of}
+use Rattle.lent.specs.declared.Lent as code
+use Rattle.lent.specs.declared.LentView.{LentView}
+use Rattle.lent.specs.Loan.{buffers_of, buffers_seen}
+use Rattle.sheets.specs.declared.verdict.Verdict.{Verdict}
+use Rattle.sheets.specs.declared.verdict.Cause.{Cause}
+use Rattle.store.specs.declared.Out as store
+use Rattle.catalogue.specs.declared.Turned.{Turned}
+use Rattle.catalogue.specs.declared.Turned.TheVariants as turned
+use Rattle.catalogue.specs.declared.Shown.{Shown}
+use Rattle.catalogue.specs.declared.Told.{Told}
+use Rattle.catalogue.specs.declared.Wrote.{Wrote}
+
+-- ---- what a call hands back
+
+abbrev pub Looked : Type 0
+Looked = Result Shown Turned
+
+abbrev pub Listed : Type 0
+Listed = Result Told Turned
+
+abbrev pub Fetched : Type 0
+Fetched = Result (Result Read Refusal) Turned
+
+abbrev pub Written : Type 0
+Written = Result Wrote Turned
+
+abbrev pub ReadOut : Type 0
+ReadOut = store.Out Fetched
+
+abbrev pub WriteOut : Type 0
+WriteOut = store.Out Written
+
+-- ---- why a call is turned down
+
+abbrev pub denied : Cause → Turned
+denied why = turned.Denied why
+
+abbrev pub met : Fault → Turned
+met fault = turned.Stopped (refusal_for fault)
+
+abbrev pub turned_of : Turned → Answer
+turned_of (turned.Denied why) = refused (cause_of why) vacant
+turned_of (turned.Stopped why) = refusal_of why
 
 -- ---- the answers, and the mends with them; a refused call reports none
 
 abbrev pub look_says : Looked → Says
-look_says (lookeds.Shown sheet current mends) = shown (fields_of sheet) current
-look_says (lookeds.Denied why) = down (refused (cause_of why) vacant)
-look_says (lookeds.Stopped why) = down (refusal_of why)
+look_says (Ok done) = shown (fields_of done.sheet) done.current
+look_says (Err why) = down (turned_of why)
 
 abbrev pub look_mends : Looked → ℕ
-look_mends (lookeds.Shown sheet current mends) = mends
-look_mends (lookeds.Denied why) = 0
-look_mends (lookeds.Stopped why) = 0
+look_mends (Ok done) = done.mends
+look_mends (Err why) = 0
 
 abbrev pub list_says : Listed → Says
-list_says (listeds.Run run mends) = listed run
-list_says (listeds.Denied why) = down (refused (cause_of why) vacant)
-list_says (listeds.Stopped why) = down (refusal_of why)
+list_says (Ok done) = listed done.run
+list_says (Err why) = down (turned_of why)
 
 abbrev pub list_mends : Listed → ℕ
-list_mends (listeds.Run run mends) = mends
-list_mends (listeds.Denied why) = 0
-list_mends (listeds.Stopped why) = 0
+list_mends (Ok done) = done.mends
+list_mends (Err why) = 0
 
 abbrev pub fetch_says : Fetched → Says
-fetch_says (fetcheds.As answer) = fetched (read_of answer)
-fetch_says (fetcheds.Denied why) = down (refused (cause_of why) vacant)
-fetch_says (fetcheds.Stopped why) = down (refusal_of why)
+fetch_says (Ok answer) = fetched (read_of answer)
+fetch_says (Err why) = down (turned_of why)
 
 abbrev pub fetch_mends : Fetched → ℕ
-fetch_mends (fetcheds.As answer) = mends_of_read answer
-fetch_mends (fetcheds.Denied why) = 0
-fetch_mends (fetcheds.Stopped why) = 0
+fetch_mends (Ok answer) = mends_of_read answer
+fetch_mends (Err why) = 0
 
 abbrev pub write_says : Written → Says
-write_says (writtens.As run answer) = wrote run (write_of answer)
-write_says (writtens.Denied why) = down (refused (cause_of why) vacant)
-write_says (writtens.Stopped why) = down (refusal_of why)
+write_says (Ok done) = wrote done.run (write_of done.answer)
+write_says (Err why) = down (turned_of why)
 
 abbrev pub write_mends : Written → ℕ
-write_mends (writtens.As run answer) = mends_of_write answer
-write_mends (writtens.Denied why) = 0
-write_mends (writtens.Stopped why) = 0
+write_mends (Ok done) = mends_of_write done.answer
+write_mends (Err why) = 0
+
+-- ---- what is lent, and the shelf with it
+
+abbrev pub lent_seen : LentView → List ℕ → Lent
+lent_seen l shelf = record { below = buffers_seen l; shelf = shelf }
+
+abbrev pub lent_to : code.Lent → List ℕ → List ℕ → Lent
+lent_to l pspace shelf = record { below = buffers_of l pspace; shelf = shelf }
 
 -- ---- the calls
 
@@ -88,10 +122,9 @@ stepped cache u c page v = last_step policy_choice c (store_of cache u) page v
 
 -- ---- the checks before the sheets are read
 
-abbrev pub gate_of : Gate → Check Answer
-gate_of gates.Passed = passed
-gate_of (gates.Denied why) = stopped (refused (cause_of why) vacant)
-gate_of (gates.Stopped why) = stopped (refusal_of why)
+abbrev pub gate_of : Result Unit Turned → Check Answer
+gate_of (Ok done) = passed
+gate_of (Err why) = stopped (turned_of why)
 
 -- what a read of no page says of the checks before its number
 abbrev pub past_entry : Answer → Check Answer
@@ -104,7 +137,6 @@ past_entry (flush_done r m) = passed
 past_entry (refused n b) = elim (eqb n 5) [ true ↦ passed | false ↦ stopped (refused n b) ]
 
 -- what is left of a call once it is judged
-abbrev pub resumed : Cache → Lent → ℕ → Page → Judged → Out
-resumed cache u c page (judged.Denied why) = turned_down (store_of cache u) page (refused (cause_of why) vacant)
-resumed cache u c page (judged.Stopped why) = turned_down (store_of cache u) page (refusal_of why)
-resumed cache u c page (judged.Decided v) = stepped cache u c page (verdict_of v)
+abbrev pub resumed : Cache → Lent → ℕ → Page → Result Verdict Turned → Out
+resumed cache u c page (Ok v) = stepped cache u c page (decided_of v)
+resumed cache u c page (Err why) = turned_down (store_of cache u) page (turned_of why)

@@ -4,66 +4,51 @@ ghost use Rattle.model.specs.Sizes.{InLimits};
 ghost use Rattle.runs.specs.Verdict.{passed};
 ghost use Rattle.over.specs.Catalogue.{sizes_fit, asking, entering};
 ghost use Rattle.cache.specs.View.{sizes_of};
+ghost use Rattle.store.specs.View.{store_of};
 ghost use Rattle.answer.specs.Numbers.{refusal_of};
-ghost use Rattle.store.specs.View.{lent, store_of};
-ghost use Rattle.catalogue.specs.View.{gate_of, past_entry};
+ghost use Rattle.catalogue.specs.View.{lent_seen, gate_of, past_entry};
 
+use crate::Turned;
 use address::PageNo;
-use answer::{Read, Refusal};
+use answer::Refusal;
 use cache::{Sizes, VACANT};
+use lent::LentView;
 use sheets::verdict::Cause;
 use store::Cache;
 
-#[derive(Clone, Copy)]
-pub enum Gate {
-    Passed,
-    Denied(Cause),
-    Stopped(Refusal),
-}
-
 // What a read of no page was refused for: its number, where nothing else was in the way.
-fn past_entry(why: Refusal) -> Gate
+fn past_entry(why: Refusal) -> Result<(), Turned>
     ensures { gate_of result ≡ past_entry (refusal_of why) }
 {
     match why {
-        Refusal::Page => Gate::Passed,
-        Refusal::Size => Gate::Stopped(Refusal::Size),
-        Refusal::Buffer => Gate::Stopped(Refusal::Buffer),
-        Refusal::Overworn => Gate::Stopped(Refusal::Overworn),
-        Refusal::Record => Gate::Stopped(Refusal::Record),
-        Refusal::Worn(b) => Gate::Stopped(Refusal::Worn(b)),
-        Refusal::Unreadable => Gate::Stopped(Refusal::Unreadable),
-        Refusal::Torn => Gate::Stopped(Refusal::Torn),
-        Refusal::Empty => Gate::Stopped(Refusal::Empty),
+        Refusal::Page => Ok(()),
+        _ => Err(Turned::Stopped(why)),
     }
 }
 
 // 4 and 2 are the store's own: it is asked to read a page that no store has, which changes nothing and is refused 5 where they pass.
-fn entry(
-    cache: Cache,
-    flash: &[u8],
-    codes: &[u8],
-    marks: &[u8],
-    wear: &[u32],
-    pspace: &[u8],
-    bspace: &[u8],
-    shelf: &[u8],
-    page: &mut [u8],
-) -> Gate
-    ensures { let u = lent flash.now codes.now marks.now
-        wear.now pspace.now bspace.now shelf.now in
-        (gate_of result ≡ entering (store_of cache u) page.old passed) × (page.new ≡ page.old) }
+fn entry(cache: Cache, lent: LentView<'_>, shelf: &[u8], page: &mut [u8]) -> Result<(), Turned>
+    ensures { (gate_of result ≡ entering (store_of cache (lent_seen lent.entry shelf.now)) page.old passed) × (page.new ≡ page.old) }
 {
-    let n = PageNo(VACANT);
-    let out = cache.read(flash, codes, marks, wear, pspace, bspace, shelf, n, page);
-    let answer = out.answer;
-    match answer {
-        Read::Done { .. } => Gate::Passed,
-        Read::Refused(why) => past_entry(why),
+    let out = cache.read(
+        lent.flash,
+        lent.codes,
+        lent.marks,
+        lent.wear,
+        lent.pspace,
+        lent.bspace,
+        shelf,
+        PageNo(VACANT),
+        page,
+    );
+    match out.answer {
+        Ok(_) => unreachable!(),
+        Err(why) => past_entry(why),
     }
 }
 
 // 1: pages of at least 28 bytes, and 1 to 256 sheets, fewer than pages.
+#[tactic(auto, unfolding(over::specs::Catalogue::sizes_fit, prelude::specs::Tests::every))]
 fn sizes_fit(z: Sizes, sheets: u32) -> bool
     requires { InLimits (sizes_of z) }
     ensures { result ≡ sizes_fit (sizes_of z) sheets }
@@ -72,36 +57,20 @@ fn sizes_fit(z: Sizes, sheets: u32) -> bool
     (28 <= z.page_size) & (1 <= sheets) & (sheets <= 256) & (sheets < pages)
 }
 
-// The record is sound; the buffers and the page buffer are in their sizes; and the sizes fit a catalogue.
+// The record is sound; the buffers and the page buffer are in their sizes; and the sizes fit a catalogue. Errors: 4, 2, 1.
 pub fn passes(
     cache: Cache,
-    flash: &[u8],
-    codes: &[u8],
-    marks: &[u8],
-    wear: &[u32],
-    pspace: &[u8],
-    bspace: &[u8],
+    lent: LentView<'_>,
     shelf: &[u8],
     sheets: u32,
     page: &mut [u8],
-) -> Gate
-    ensures { let u = lent flash.now codes.now marks.now
-        wear.now pspace.now bspace.now shelf.now in
-        (gate_of result ≡ entering (store_of cache u) page.old (asking (sizes_fit (sizes_of cache.sizes) sheets) 1 passed))
-        × (page.new ≡ page.old) }
+) -> Result<(), Turned>
+    ensures { (gate_of result ≡ entering (store_of cache (lent_seen lent.entry shelf.now)) page.old
+        (asking (sizes_fit (sizes_of cache.sizes) sheets) 1 passed)) × (page.new ≡ page.old) }
 {
-    let g = entry(
-        cache, flash, codes, marks, wear, pspace, bspace, shelf, page,
-    );
-    match g {
-        Gate::Denied(why) => Gate::Denied(why),
-        Gate::Stopped(why) => Gate::Stopped(why),
-        Gate::Passed => {
-            let z = cache.sizes;
-            if !sizes_fit(z, sheets) {
-                return Gate::Denied(Cause::Size);
-            }
-            Gate::Passed
-        }
+    entry(cache, lent, shelf, page)?;
+    if !sizes_fit(cache.sizes, sheets) {
+        return Err(Turned::Denied(Cause::Size));
     }
+    Ok(())
 }

@@ -1,17 +1,15 @@
 // A look at a run's sheet, and a listing. Neither changes anything.
-ghost use Rattle.std.specs.Prelude.{◌≡◌, ◌<◌};
+ghost use Rattle.std.specs.Prelude.{◌≡◌};
 ghost use Rattle.runs.specs.Roles as roles;
 ghost use Rattle.store.specs.View.{lent, store_of};
-ghost use Rattle.sheets.specs.View.{verdict_of};
 ghost use Rattle.catalogue.specs.View.{look_says, look_mends, list_says, list_mends, out_with, called};
-ghost use Rattle.catalogue.specs.Kinds.{LookKind, ListKind, Few, Quietly};
 
-use crate::judge::Judged;
-use crate::{Listed, Looked, judge, mends};
+use crate::{Listed, Looked, Shown, Told, judge, mends};
 use address::BlockNo;
 use cache::VACANT;
+use lent::LentView;
 use sheets::roles::{Caller, Operation};
-use sheets::verdict::{Cause, Verdict};
+use sheets::verdict::Verdict;
 use store::Cache;
 
 // The sheet of a run as the caller sees it, and the current run.
@@ -34,36 +32,24 @@ pub fn look(
         out_with (look_says result) (look_mends result) (store_of cache u) page.new
         ≡ called cache u sheets caller (roles.look run) page.old }
 {
+    let lent = LentView {
+        flash,
+        codes,
+        marks,
+        wear,
+        pspace,
+        bspace,
+    };
     let op = Operation::Look(run);
     let mut m = [0u32; 256];
-    let j = judge::judge(
-        cache, flash, codes, marks, wear, pspace, bspace, shelf, sheets, caller, op, page, &mut m,
-    );
     let k = cache.sizes.pages_per_block;
-    match j {
-        Judged::Denied(why) => Looked::Denied(why),
-        Judged::Stopped(why) => Looked::Stopped(why),
-        Judged::Decided(v) => show(v, &m, sheets, k),
-    }
-}
-
-fn show(v: Verdict, m: &[u32], sheets: u32, k: u32) -> Looked
-    requires { LookKind (verdict_of v) × (Few sheets m.now × (0 < k)) }
-    ensures { Quietly sheets k m.now (look_says result) (look_mends result) (verdict_of v) }
-{
-    match v {
-        Verdict::Show { sheet, current } => {
-            let mends = mends::left(m, sheets, k, BlockNo(VACANT), VACANT);
-            Looked::Shown {
-                sheet,
-                current,
-                mends,
-            }
-        }
-        Verdict::Refuse(why) => Looked::Denied(why),
-        Verdict::Tell(_) => Looked::Denied(Cause::Role),
-        Verdict::Fetch(_) => Looked::Denied(Cause::Role),
-        Verdict::Put { .. } => Looked::Denied(Cause::Role),
+    match judge::judge(cache, lent, shelf, sheets, caller, op, page, &mut m)? {
+        Verdict::Show { sheet, current } => Ok(Shown {
+            sheet,
+            current,
+            mends: mends::left(&m, sheets, k, BlockNo(VACANT), VACANT),
+        }),
+        _ => unreachable!(),
     }
 }
 
@@ -87,31 +73,22 @@ pub fn list(
         out_with (list_says result) (list_mends result) (store_of cache u) page.new
         ≡ called cache u sheets caller (roles.list position) page.old }
 {
+    let lent = LentView {
+        flash,
+        codes,
+        marks,
+        wear,
+        pspace,
+        bspace,
+    };
     let op = Operation::List(position);
     let mut m = [0u32; 256];
-    let j = judge::judge(
-        cache, flash, codes, marks, wear, pspace, bspace, shelf, sheets, caller, op, page, &mut m,
-    );
     let k = cache.sizes.pages_per_block;
-    match j {
-        Judged::Denied(why) => Listed::Denied(why),
-        Judged::Stopped(why) => Listed::Stopped(why),
-        Judged::Decided(v) => tell(v, &m, sheets, k),
-    }
-}
-
-fn tell(v: Verdict, m: &[u32], sheets: u32, k: u32) -> Listed
-    requires { ListKind (verdict_of v) × (Few sheets m.now × (0 < k)) }
-    ensures { Quietly sheets k m.now (list_says result) (list_mends result) (verdict_of v) }
-{
-    match v {
-        Verdict::Tell(run) => {
-            let mends = mends::left(m, sheets, k, BlockNo(VACANT), VACANT);
-            Listed::Run { run, mends }
-        }
-        Verdict::Refuse(why) => Listed::Denied(why),
-        Verdict::Show { .. } => Listed::Denied(Cause::Role),
-        Verdict::Fetch(_) => Listed::Denied(Cause::Role),
-        Verdict::Put { .. } => Listed::Denied(Cause::Role),
+    match judge::judge(cache, lent, shelf, sheets, caller, op, page, &mut m)? {
+        Verdict::Tell(run) => Ok(Told {
+            run,
+            mends: mends::left(&m, sheets, k, BlockNo(VACANT), VACANT),
+        }),
+        _ => unreachable!(),
     }
 }

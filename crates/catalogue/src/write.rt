@@ -1,22 +1,22 @@
 // Adding, replacing and marking a run: each writes one sheet.
-ghost use Rattle.std.specs.Prelude.{◌≡◌, cond, ◌≤◌, length};
+ghost use Rattle.std.specs.Prelude.{◌≡◌, cond, length};
 ghost use Rattle.model.specs.Calls.{is_refused};
 ghost use Rattle.runs.specs.Roles as roles;
 ghost use Rattle.runs.specs.Verdict as verdicts;
 ghost use Rattle.answer.specs.Numbers.{write_of};
 ghost use Rattle.store.specs.View.{lent, store_of};
 ghost use Rattle.cache.specs.View.{sizes_of};
-ghost use Rattle.sheets.specs.View.{fields_of, operation_of, verdict_of};
-ghost use Rattle.catalogue.specs.View.{write_says, write_mends, out_with, called, stepped};
+ghost use Rattle.sheets.specs.View.{fields_of, operation_of};
+ghost use Rattle.catalogue.specs.View.{write_says, write_mends, out_with, called, stepped, lent_to};
+ghost use Rattle.lent.specs.Loan.{IsSameLent};
 ghost use Rattle.catalogue.specs.Kinds.{PutKind, Putting, Settled, skipped};
 
-use crate::judge::Judged;
-use crate::{WriteOut, Written, judge, mends};
+use crate::{WriteOut, Wrote, judge, mends};
 use address::PageNo;
-use answer::Write;
+use answer::{Refusal, Write};
 use cache::{Sizes, VACANT};
-use sheets::roles::{Caller, Operation};
-use sheets::verdict::{Cause, Verdict};
+use lent::Lent;
+use sheets::roles::{Caller, NewRun, Operation};
 use sheets::{Sheet, bytes};
 use store::Cache;
 
@@ -44,14 +44,19 @@ pub fn add(
         out_with (write_says result.answer) (write_mends result.answer) (store_of result.cache u') page.new
         ≡ called cache u sheets caller (roles.add sample first count) page.old }
 {
-    let op = Operation::Add {
+    let mut lent = Lent {
+        flash,
+        codes,
+        marks,
+        wear,
+        bspace,
+    };
+    let op = Operation::Add(NewRun {
         sample,
         first,
         count,
-    };
-    written(
-        cache, flash, codes, marks, wear, pspace, bspace, shelf, sheets, caller, op, page,
-    )
+    });
+    written(cache, &mut lent, pspace, shelf, sheets, caller, op, page)
 }
 
 // Adds a run that replaces another.
@@ -79,15 +84,22 @@ pub fn replace(
         out_with (write_says result.answer) (write_mends result.answer) (store_of result.cache u') page.new
         ≡ called cache u sheets caller (roles.replace run sample first count) page.old }
 {
+    let mut lent = Lent {
+        flash,
+        codes,
+        marks,
+        wear,
+        bspace,
+    };
     let op = Operation::Replace {
         run,
-        sample,
-        first,
-        count,
+        by: NewRun {
+            sample,
+            first,
+            count,
+        },
     };
-    written(
-        cache, flash, codes, marks, wear, pspace, bspace, shelf, sheets, caller, op, page,
-    )
+    written(cache, &mut lent, pspace, shelf, sheets, caller, op, page)
 }
 
 // Marks a run: 0 to 100.
@@ -113,21 +125,22 @@ pub fn mark(
         out_with (write_says result.answer) (write_mends result.answer) (store_of result.cache u') page.new
         ≡ called cache u sheets caller (roles.mark run grade) page.old }
 {
+    let mut lent = Lent {
+        flash,
+        codes,
+        marks,
+        wear,
+        bspace,
+    };
     let op = Operation::Mark { run, mark: grade };
-    written(
-        cache, flash, codes, marks, wear, pspace, bspace, shelf, sheets, caller, op, page,
-    )
+    written(cache, &mut lent, pspace, shelf, sheets, caller, op, page)
 }
 
 // An operation that writes a sheet.
 fn written(
     cache: Cache,
-    flash: &mut [u8],
-    codes: &mut [u8],
-    marks: &mut [u8],
-    wear: &mut [u32],
+    lent: &mut Lent<'_>,
     pspace: &mut [u8],
-    bspace: &mut [u8],
     shelf: &mut [u8],
     sheets: u32,
     caller: Caller,
@@ -135,79 +148,27 @@ fn written(
     page: &mut [u8],
 ) -> WriteOut
     requires { Putting (operation_of op) }
-    ensures { let u = lent flash.old codes.old marks.old
-        wear.old pspace.old bspace.old shelf.old in
-        let u' = lent flash.new codes.new marks.new
-        wear.new pspace.new bspace.new shelf.new in
+    ensures loan { IsSameLent lent.old lent.new }
+    ensures called { let u = lent_to lent.old pspace.old shelf.old in
+        let u' = lent_to lent.new pspace.new shelf.new in
         out_with (write_says result.answer) (write_mends result.answer) (store_of result.cache u') page.new
         ≡ called cache u sheets caller (operation_of op) page.old }
 {
     let mut m = [0u32; 256];
-    let j = judge::judge(
-        cache, flash, codes, marks, wear, pspace, bspace, shelf, sheets, caller, op, page, &mut m,
-    );
-    match j {
-        Judged::Denied(why) => WriteOut {
+    match judge::put(
+        cache,
+        lent.view(pspace),
+        shelf,
+        sheets,
+        caller,
+        op,
+        page,
+        &mut m,
+    ) {
+        Ok((n, sheet)) => put_apart(cache, lent, pspace, shelf, sheets, n, sheet, page, &m),
+        Err(why) => WriteOut {
             cache,
-            answer: Written::Denied(why),
-        },
-        Judged::Stopped(why) => WriteOut {
-            cache,
-            answer: Written::Stopped(why),
-        },
-        Judged::Decided(v) => put(
-            cache, flash, codes, marks, wear, pspace, bspace, shelf, sheets, v, page, &m,
-        ),
-    }
-}
-
-// The last step.
-fn put(
-    cache: Cache,
-    flash: &mut [u8],
-    codes: &mut [u8],
-    marks: &mut [u8],
-    wear: &mut [u32],
-    pspace: &mut [u8],
-    bspace: &mut [u8],
-    shelf: &mut [u8],
-    sheets: u32,
-    v: Verdict,
-    page: &mut [u8],
-    m: &[u32],
-) -> WriteOut
-    requires { let s = store_of cache (lent flash.old codes.old marks.old wear.old pspace.old bspace.old shelf.old) in
-        PutKind sheets (verdict_of v) × Settled s sheets page.old m.now }
-    ensures { let u = lent flash.old codes.old marks.old
-        wear.old pspace.old bspace.old shelf.old in
-        let u' = lent flash.new codes.new marks.new
-        wear.new pspace.new bspace.new shelf.new in
-        out_with (write_says result.answer) (write_mends result.answer) (store_of result.cache u') page.new
-        ≡ stepped cache u sheets page.old (verdict_of v) }
-{
-    match v {
-        Verdict::Put { at, sheet } => {
-            let i = at as u32;
-            let n = PageNo(i);
-            put_apart(
-                cache, flash, codes, marks, wear, pspace, bspace, shelf, sheets, n, sheet, page, m,
-            )
-        }
-        Verdict::Refuse(why) => WriteOut {
-            cache,
-            answer: Written::Denied(why),
-        },
-        Verdict::Show { .. } => WriteOut {
-            cache,
-            answer: Written::Denied(Cause::Role),
-        },
-        Verdict::Tell(_) => WriteOut {
-            cache,
-            answer: Written::Denied(Cause::Role),
-        },
-        Verdict::Fetch(_) => WriteOut {
-            cache,
-            answer: Written::Denied(Cause::Role),
+            answer: Err(why),
         },
     }
 }
@@ -215,25 +176,20 @@ fn put(
 // Lends the write a page of its own for the sheet, since a refused one leaves the page buffer alone.
 fn put_apart(
     cache: Cache,
-    flash: &mut [u8],
-    codes: &mut [u8],
-    marks: &mut [u8],
-    wear: &mut [u32],
+    lent: &mut Lent<'_>,
     pspace: &mut [u8],
-    bspace: &mut [u8],
     shelf: &mut [u8],
     sheets: u32,
     n: PageNo,
     sheet: Sheet,
     page: &mut [u8],
-    m: &[u32],
+    m: &[u32; 256],
 ) -> WriteOut
-    requires { let s = store_of cache (lent flash.old codes.old marks.old wear.old pspace.old bspace.old shelf.old) in
+    requires { let s = store_of cache (lent_to lent.old pspace.old shelf.old) in
         PutKind sheets (verdicts.put n.0 (fields_of sheet)) × Settled s sheets page.old m.now }
-    ensures { let u = lent flash.old codes.old marks.old
-        wear.old pspace.old bspace.old shelf.old in
-        let u' = lent flash.new codes.new marks.new
-        wear.new pspace.new bspace.new shelf.new in
+    ensures loan { IsSameLent lent.old lent.new }
+    ensures stepped { let u = lent_to lent.old pspace.old shelf.old in
+        let u' = lent_to lent.new pspace.new shelf.new in
         out_with (write_says result.answer) (write_mends result.answer) (store_of result.cache u') page.new
         ≡ stepped cache u sheets page.old (verdicts.put n.0 (fields_of sheet)) }
 {
@@ -241,12 +197,8 @@ fn put_apart(
     let mut whole = [0u8; 2048];
     put_sheet(
         cache,
-        flash,
-        codes,
-        marks,
-        wear,
+        lent,
         pspace,
-        bspace,
         shelf,
         sheets,
         n,
@@ -260,63 +212,65 @@ fn put_apart(
 // Lays the sheet in `whole`, writes it, and hands it back.
 fn put_sheet(
     cache: Cache,
-    flash: &mut [u8],
-    codes: &mut [u8],
-    marks: &mut [u8],
-    wear: &mut [u32],
+    lent: &mut Lent<'_>,
     pspace: &mut [u8],
-    bspace: &mut [u8],
     shelf: &mut [u8],
     sheets: u32,
     n: PageNo,
     sheet: Sheet,
     page: &mut [u8],
-    m: &[u32],
+    m: &[u32; 256],
     whole: &mut [u8],
 ) -> WriteOut
-    requires { let s = store_of cache (lent flash.old codes.old marks.old wear.old pspace.old bspace.old shelf.old) in
+    requires { let s = store_of cache (lent_to lent.old pspace.old shelf.old) in
         PutKind sheets (verdicts.put n.0 (fields_of sheet)) × (Settled s sheets page.old m.now
         × (length whole.old ≡ (sizes_of cache.sizes).S)) }
-    ensures { let u = lent flash.old codes.old marks.old
-        wear.old pspace.old bspace.old shelf.old in
-        let u' = lent flash.new codes.new marks.new
-        wear.new pspace.new bspace.new shelf.new in
+    ensures loan { IsSameLent lent.old lent.new }
+    ensures stepped { let u = lent_to lent.old pspace.old shelf.old in
+        let u' = lent_to lent.new pspace.new shelf.new in
         out_with (write_says result.answer) (write_mends result.answer) (store_of result.cache u') page.new
         ≡ stepped cache u sheets page.old (verdicts.put n.0 (fields_of sheet)) }
 {
     bytes::encode(whole, sheet);
     let z = cache.sizes;
-    let out = cache.write(flash, codes, marks, wear, pspace, bspace, shelf, n, whole);
-    let next = out.cache;
-    let answer = out.answer;
-    deliver(answer, page, whole);
+    let out = cache.write(
+        &mut *lent.flash,
+        &mut *lent.codes,
+        &mut *lent.marks,
+        &mut *lent.wear,
+        pspace,
+        &mut *lent.bspace,
+        shelf,
+        n,
+        whole,
+    );
+    deliver(out.answer, page, whole);
     let at = shelving(z, n);
-    let total = mends::with_write(answer, m, sheets, z.pages_per_block, at);
-    let run = sheet.run;
+    let answer = mends::with_write(out.answer, m, sheets, z.pages_per_block, at);
     WriteOut {
-        cache: next,
-        answer: Written::As { run, answer: total },
+        cache: out.cache,
+        answer: Ok(Wrote {
+            run: sheet.run,
+            answer,
+        }),
     }
 }
 
-// The page that a write of page n shelves, which it reads then: VACANT in a store without shelf pages.
+// The page that a write of page n shelves, which it reads then: VACANT in a store without shelf pages. A number, since `mends::left` takes
+// it beside the numbers of pages.
+#[tactic(auto, unfolding(crate::specs::Kinds::skipped))]
 fn shelving(z: Sizes, n: PageNo) -> u32
     ensures { result ≡ skipped (sizes_of z) n.0 }
 {
-    if z.shelf_pages == 0 {
-        return VACANT;
-    }
-    n.0
+    if z.shelf_pages == 0 { VACANT } else { n.0 }
 }
 
 // The page buffer gets the page that was written, and stays as it is where the write was refused.
-fn deliver(answer: Write, page: &mut [u8], whole: &[u8])
-    requires { (length whole.now ≤ 2048) × (length page.old ≡ length whole.now) }
+fn deliver(answer: Result<Write, Refusal>, page: &mut [u8], whole: &[u8])
+    requires { length page.old ≡ length whole.now }
     ensures { page.new ≡ cond (is_refused (write_of answer)) page.old whole.now }
 {
-    match answer {
-        Write::Done { .. } => page::lay(page, 0, whole),
-        Write::Rewrote { .. } => page::lay(page, 0, whole),
-        Write::Refused(_) => {}
+    if answer.is_ok() {
+        page.copy_from_slice(whole);
     }
 }

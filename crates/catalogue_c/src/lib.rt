@@ -1,23 +1,20 @@
-// The catalogue of runs for C and Rust programs: the record and the answers cross by value, a slice as its pointer and its length.
+// The catalogue of runs for C and Rust programs: the record and the answers cross by value, a slice as its pointer and its length. Each
+// call is lent the buffers one by one, the role is a number, and the answer is in numbers, since include/clash_runs.h has them so.
 #![tactic(auto)]
 
 ghost use Rattle.std.specs.Prelude.{◌≡◌};
 ghost use Rattle.model.specs.Sizes.{vacant};
-ghost use Rattle.model.specs.Calls.{refused};
-ghost use Rattle.answer.specs.Numbers.{refusal_of};
-ghost use Rattle.over.specs.Catalogue.{down};
 ghost use Rattle.replies.specs.Numbers.{accepted};
 ghost use Rattle.runs.specs.Roles as roles;
-ghost use Rattle.sheets.specs.View.{fields_of, cause_of};
+ghost use Rattle.sheets.specs.View.{cause_of};
 ghost use Rattle.store.specs.View.{lent};
-ghost use Rattle.catalogue.specs.View.{look_says, look_mends, list_says, list_mends, fetch_says, fetch_mends, write_says, write_mends};
 ghost use Rattle.callers.specs.Callers.{called_by};
-ghost use Rattle.catalogue_c.specs.Numbers.{sheet_numbers, plain_run, run_numbers, reply_of, numbered};
+ghost use Rattle.catalogue_c.specs.Numbers.{plain_run, reply_of, numbered};
 
 use answer::{Read, Refusal};
 use cache::VACANT;
 use callers::caller;
-use catalogue::{Fetched, Listed, Looked, Written, look, read, write};
+use catalogue::{Shown, Told, Turned, Wrote, look, read, write};
 use replies::Answer;
 use sheets::Sheet;
 use sheets::verdict::Cause;
@@ -25,7 +22,7 @@ use store::Cache;
 
 // A sheet, as C has it.
 #[repr(C)]
-#[derive(Clone, Copy)]
+#[derive(Clone, Copy, PartialEq, Eq, Debug)]
 pub struct RunSheet {
     pub run: u32,
     pub trainee: u32,
@@ -39,7 +36,7 @@ pub struct RunSheet {
 // What a call answers: as the store's calls do, with refusals 9 to 13 too; the run that was listed, or that was to be written; of a look
 // the sheet as the caller sees it, and the current run. What a call does not answer is 0.
 #[repr(C)]
-#[derive(Clone, Copy)]
+#[derive(Clone, Copy, PartialEq, Eq, Debug)]
 pub struct RunAnswer {
     pub answer: Answer,
     pub run: u32,
@@ -49,23 +46,29 @@ pub struct RunAnswer {
 
 // The record after a call, and the call's answer.
 #[repr(C)]
-#[derive(Clone, Copy)]
+#[derive(Clone, Copy, PartialEq, Eq, Debug)]
 pub struct RunReply {
     pub cache: Cache,
     pub answer: RunAnswer,
 }
 
-fn run_sheet(s: Sheet) -> RunSheet
-    ensures { result ≡ sheet_numbers (fields_of s) }
-{
-    RunSheet {
-        run: s.run,
-        trainee: s.trainee,
-        sample: s.sample,
-        first: s.first,
-        count: s.count,
-        mark: s.mark,
-        replaces: s.replaces,
+impl From<Sheet> for RunSheet {
+    ghost use Rattle.std.specs.Prelude.{◌≡◌};
+    ghost use Rattle.sheets.specs.View.{fields_of};
+    ghost use Rattle.catalogue_c.specs.Numbers.{sheet_numbers};
+
+    ghost from_gives = { λ s r. r ≡ sheet_numbers (fields_of s) };
+
+    fn from(s: Sheet) -> RunSheet {
+        RunSheet {
+            run: s.run,
+            trainee: s.trainee,
+            sample: s.sample,
+            first: s.first,
+            count: s.count,
+            mark: s.mark,
+            replaces: s.replaces,
+        }
     }
 }
 
@@ -73,24 +76,23 @@ fn run_sheet(s: Sheet) -> RunSheet
 fn plain(answer: Answer, run: u32) -> RunAnswer
     ensures { result ≡ plain_run answer run }
 {
-    let sheet = RunSheet {
-        run: 0,
-        trainee: 0,
-        sample: 0,
-        first: 0,
-        count: 0,
-        mark: 0,
-        replaces: 0,
-    };
     RunAnswer {
         answer,
         run,
         current: 0,
-        sheet,
+        sheet: RunSheet {
+            run: 0,
+            trainee: 0,
+            sample: 0,
+            first: 0,
+            count: 0,
+            mark: 0,
+            replaces: 0,
+        },
     }
 }
 
-// The papers' number of a refusal of the catalogue.
+// The papers' number of a refusal of the catalogue. Not `From`, which would have to stand in sheets, below all that is C's.
 fn number(why: Cause) -> u32
     ensures { result ≡ cause_of why }
 {
@@ -102,32 +104,6 @@ fn number(why: Cause) -> u32
         Cause::Role => 12,
         Cause::Replaced => 13,
     }
-}
-
-// Turned down by the catalogue.
-fn denied(why: Cause) -> RunAnswer
-    ensures { result ≡ run_numbers (down (refused (cause_of why) vacant)) 0 }
-{
-    let refusal = number(why);
-    let answer = Answer {
-        refusal,
-        way: 0,
-        block: VACANT,
-        rewrites: 0,
-        merged: 0,
-        mended: 0,
-        torn: 0,
-    };
-    plain(answer, 0)
-}
-
-// Turned down by the store.
-fn stopped(why: Refusal) -> RunAnswer
-    ensures { result ≡ run_numbers (down (refusal_of why)) 0 }
-{
-    let read = Read::Refused(why);
-    let answer = replies::of_read(read);
-    plain(answer, 0)
 }
 
 // An accepted call that is no call of the store.
@@ -145,65 +121,94 @@ fn done(mended: u32) -> Answer
     }
 }
 
-fn of_looked(a: Looked) -> RunAnswer
-    ensures { result ≡ run_numbers (look_says a) (look_mends a) }
-{
-    match a {
-        Looked::Shown {
-            sheet,
-            current,
-            mends,
-        } => {
-            let answer = done(mends);
-            let seen = run_sheet(sheet);
-            RunAnswer {
-                answer,
-                run: sheet.run,
-                current,
-                sheet: seen,
-            }
+impl From<Turned> for RunAnswer {
+    ghost use Rattle.std.specs.Prelude.{◌≡◌};
+    ghost use Rattle.over.specs.Catalogue.{down};
+    ghost use Rattle.catalogue.specs.View.{turned_of};
+    ghost use Rattle.catalogue_c.specs.Numbers.{run_numbers};
+
+    ghost from_gives = { λ why r. r ≡ run_numbers (down (turned_of why)) 0 };
+
+    fn from(why: Turned) -> RunAnswer {
+        match why {
+            Turned::Denied(cause) => plain(
+                Answer {
+                    refusal: number(cause),
+                    ..done(0)
+                },
+                0,
+            ),
+            Turned::Stopped(refusal) => plain(Answer::from(refusal), 0),
         }
-        Looked::Denied(why) => denied(why),
-        Looked::Stopped(why) => stopped(why),
     }
 }
 
-fn of_listed(a: Listed) -> RunAnswer
-    ensures { result ≡ run_numbers (list_says a) (list_mends a) }
-{
-    match a {
-        Listed::Run { run, mends } => {
-            let answer = done(mends);
-            plain(answer, run)
+impl From<Result<Shown, Turned>> for RunAnswer {
+    ghost use Rattle.std.specs.Prelude.{◌≡◌};
+    ghost use Rattle.catalogue.specs.View.{look_says, look_mends};
+    ghost use Rattle.catalogue_c.specs.Numbers.{run_numbers};
+
+    ghost from_gives = { λ a r. r ≡ run_numbers (look_says a) (look_mends a) };
+
+    // Of a look.
+    fn from(a: Result<Shown, Turned>) -> RunAnswer {
+        match a {
+            Ok(seen) => RunAnswer {
+                answer: done(seen.mends),
+                run: seen.sheet.run,
+                current: seen.current,
+                sheet: RunSheet::from(seen.sheet),
+            },
+            Err(why) => RunAnswer::from(why),
         }
-        Listed::Denied(why) => denied(why),
-        Listed::Stopped(why) => stopped(why),
     }
 }
 
-fn of_fetched(a: Fetched) -> RunAnswer
-    ensures { result ≡ run_numbers (fetch_says a) (fetch_mends a) }
-{
-    match a {
-        Fetched::As(said) => {
-            let answer = replies::of_read(said);
-            plain(answer, 0)
+impl From<Result<Told, Turned>> for RunAnswer {
+    ghost use Rattle.std.specs.Prelude.{◌≡◌};
+    ghost use Rattle.catalogue.specs.View.{list_says, list_mends};
+    ghost use Rattle.catalogue_c.specs.Numbers.{run_numbers};
+
+    ghost from_gives = { λ a r. r ≡ run_numbers (list_says a) (list_mends a) };
+
+    // Of a listing.
+    fn from(a: Result<Told, Turned>) -> RunAnswer {
+        match a {
+            Ok(told) => plain(done(told.mends), told.run),
+            Err(why) => RunAnswer::from(why),
         }
-        Fetched::Denied(why) => denied(why),
-        Fetched::Stopped(why) => stopped(why),
     }
 }
 
-fn of_written(a: Written) -> RunAnswer
-    ensures { result ≡ run_numbers (write_says a) (write_mends a) }
-{
-    match a {
-        Written::As { run, answer } => {
-            let said = replies::of_write(answer);
-            plain(said, run)
+impl From<Result<Result<Read, Refusal>, Turned>> for RunAnswer {
+    ghost use Rattle.std.specs.Prelude.{◌≡◌};
+    ghost use Rattle.catalogue.specs.View.{fetch_says, fetch_mends};
+    ghost use Rattle.catalogue_c.specs.Numbers.{run_numbers};
+
+    ghost from_gives = { λ a r. r ≡ run_numbers (fetch_says a) (fetch_mends a) };
+
+    // Of a read.
+    fn from(a: Result<Result<Read, Refusal>, Turned>) -> RunAnswer {
+        match a {
+            Ok(said) => plain(Answer::from(said), 0),
+            Err(why) => RunAnswer::from(why),
         }
-        Written::Denied(why) => denied(why),
-        Written::Stopped(why) => stopped(why),
+    }
+}
+
+impl From<Result<Wrote, Turned>> for RunAnswer {
+    ghost use Rattle.std.specs.Prelude.{◌≡◌};
+    ghost use Rattle.catalogue.specs.View.{write_says, write_mends};
+    ghost use Rattle.catalogue_c.specs.Numbers.{run_numbers};
+
+    ghost from_gives = { λ a r. r ≡ run_numbers (write_says a) (write_mends a) };
+
+    // Of adding, replacing and marking.
+    fn from(a: Result<Wrote, Turned>) -> RunAnswer {
+        match a {
+            Ok(wrote) => plain(Answer::from(wrote.answer), wrote.run),
+            Err(why) => RunAnswer::from(why),
+        }
     }
 }
 
@@ -229,16 +234,15 @@ pub extern "C" fn clash_run_look(
         reply_of result u page.new ≡ numbered (called_by c u sheets role trainee (roles.look run) page.old) }
 {
     if 2 < role {
-        let answer = denied(Cause::Role);
+        let answer = RunAnswer::from(Turned::Denied(Cause::Role));
         return RunReply { cache: c, answer };
     }
     let w = caller(role, trainee);
     let out = look::look(
         c, flash, codes, marks, wear, pspace, bspace, shelf, sheets, w, run, page,
     );
-    let cache = c;
-    let answer = of_looked(out);
-    RunReply { cache, answer }
+    let answer = RunAnswer::from(out);
+    RunReply { cache: c, answer }
 }
 
 // The run at a position, from 0 in sheet order.
@@ -263,16 +267,15 @@ pub extern "C" fn clash_run_list(
         reply_of result u page.new ≡ numbered (called_by c u sheets role trainee (roles.list position) page.old) }
 {
     if 2 < role {
-        let answer = denied(Cause::Role);
+        let answer = RunAnswer::from(Turned::Denied(Cause::Role));
         return RunReply { cache: c, answer };
     }
     let w = caller(role, trainee);
     let out = look::list(
         c, flash, codes, marks, wear, pspace, bspace, shelf, sheets, w, position, page,
     );
-    let cache = c;
-    let answer = of_listed(out);
-    RunReply { cache, answer }
+    let answer = RunAnswer::from(out);
+    RunReply { cache: c, answer }
 }
 
 // Reads a page of a run, by its index.
@@ -298,17 +301,18 @@ pub extern "C" fn clash_run_read(
         reply_of result u page.new ≡ numbered (called_by c u sheets role trainee (roles.read run index) page.old) }
 {
     if 2 < role {
-        let answer = denied(Cause::Role);
+        let answer = RunAnswer::from(Turned::Denied(Cause::Role));
         return RunReply { cache: c, answer };
     }
     let w = caller(role, trainee);
     let out = read::read(
         c, flash, codes, marks, wear, pspace, bspace, shelf, sheets, w, run, index, page,
     );
-    let cache = out.cache;
-    let said = out.answer;
-    let answer = of_fetched(said);
-    RunReply { cache, answer }
+    let answer = RunAnswer::from(out.answer);
+    RunReply {
+        cache: out.cache,
+        answer,
+    }
 }
 
 // Adds a run of `count` pages from page `first` on.
@@ -337,17 +341,18 @@ pub extern "C" fn clash_run_add(
         reply_of result u' page.new ≡ numbered (called_by c u sheets role trainee (roles.add sample first count) page.old) }
 {
     if 2 < role {
-        let answer = denied(Cause::Role);
+        let answer = RunAnswer::from(Turned::Denied(Cause::Role));
         return RunReply { cache: c, answer };
     }
     let w = caller(role, trainee);
     let out = write::add(
         c, flash, codes, marks, wear, pspace, bspace, shelf, sheets, w, sample, first, count, page,
     );
-    let cache = out.cache;
-    let said = out.answer;
-    let answer = of_written(said);
-    RunReply { cache, answer }
+    let answer = RunAnswer::from(out.answer);
+    RunReply {
+        cache: out.cache,
+        answer,
+    }
 }
 
 // Adds a run that replaces another.
@@ -377,7 +382,7 @@ pub extern "C" fn clash_run_replace(
         reply_of result u' page.new ≡ numbered (called_by c u sheets role trainee (roles.replace run sample first count) page.old) }
 {
     if 2 < role {
-        let answer = denied(Cause::Role);
+        let answer = RunAnswer::from(Turned::Denied(Cause::Role));
         return RunReply { cache: c, answer };
     }
     let w = caller(role, trainee);
@@ -385,10 +390,11 @@ pub extern "C" fn clash_run_replace(
         c, flash, codes, marks, wear, pspace, bspace, shelf, sheets, w, run, sample, first, count,
         page,
     );
-    let cache = out.cache;
-    let said = out.answer;
-    let answer = of_written(said);
-    RunReply { cache, answer }
+    let answer = RunAnswer::from(out.answer);
+    RunReply {
+        cache: out.cache,
+        answer,
+    }
 }
 
 // Marks a run: 0 to 100.
@@ -416,15 +422,16 @@ pub extern "C" fn clash_run_mark(
         reply_of result u' page.new ≡ numbered (called_by c u sheets role trainee (roles.mark run grade) page.old) }
 {
     if 2 < role {
-        let answer = denied(Cause::Role);
+        let answer = RunAnswer::from(Turned::Denied(Cause::Role));
         return RunReply { cache: c, answer };
     }
     let w = caller(role, trainee);
     let out = write::mark(
         c, flash, codes, marks, wear, pspace, bspace, shelf, sheets, w, run, grade, page,
     );
-    let cache = out.cache;
-    let said = out.answer;
-    let answer = of_written(said);
-    RunReply { cache, answer }
+    let answer = RunAnswer::from(out.answer);
+    RunReply {
+        cache: out.cache,
+        answer,
+    }
 }

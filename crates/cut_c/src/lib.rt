@@ -1,5 +1,6 @@
 // Calls that are cut off after so many operations of the chip (request A12), for C and Rust programs that test what a power loss leaves:
-// those of the store, and those of a catalogue of runs. Each hands back the blank record.
+// those of the store, and those of a catalogue of runs. Each hands back the blank record. Each is lent the buffers one by one, as the call
+// is that it cuts off, since include/clash_cut.h has them so.
 #![tactic(auto)]
 
 ghost use Rattle.model.specs.Calls as calls;

@@ -1,101 +1,88 @@
 -- What is decoded where a page lies is the sheet that a reader is given.
-use mathlib.Core.Path.{◌≡◌, refl, sym, ap, ◌∙◌}
-use mathlib.Core.Bool.{Bool, true, false, not, cond, ◌&&◌}
-use mathlib.Core.List.{List, []}
-use Prim.Native.Nat.{ℕ, ◌+◌, ◌*◌, ◌%◌, ◌≤◌, ◌<◌}
-use lib.Dec.{eqb}
-use borrow.Author.Tests.{eqb-true, eqb-false, eq-eqb}
-use Rattle.prelude.specs.Pages.{page_at, put_page}
-use Rattle.prelude.proofs.Tests.{and_l, and_r, and-not_l, not_t, not_f}
-use Rattle.prelude.proofs.Pages.{page-put_same}
-use Rattle.page.specs.Page.{HasPage}
-use Rattle.model.specs.Sizes.{Sizes}
+use Rattle.std.proofs.Common.{◌≡◌, ◌≢◌, sym, ap, subst, ◌∙◌, true, false, List, [], ℕ, ◌+◌, ◌*◌, ◌%◌, ◌<◌, get_or, ltb, eqb, arith}
+use Rattle.std.specs.Prelude.{None, Result, Ok}
+use borrow.Author.Tests.{lt-ltb, le-ltb}
+use lib.Arith.{digits_lt}
+use Rattle.prelude.specs.Pages.{page_at, pages_of}
+use Rattle.prelude.proofs.Pages.{page-at}
+use Rattle.model.specs.Sizes.{Sizes, InLimits}
 use Rattle.model.specs.Directory.{Directory}
-use Rattle.model.specs.Policy.{slot_of, frame_with}
-use Rattle.model.specs.Calls.{Page}
-use Rattle.model.specs.Formats.{chip_for}
+use Rattle.model.specs.Policy.{slot_of, in_slots, frame_with, read_way}
+use Rattle.model.specs.Moves.{read_page, flash_page}
+use Rattle.model.specs.Calls.{Page, zero_page}
+use Rattle.model.proofs.Lookup.{offset_lt}
+use Rattle.answer.specs.declared.fault.Fault.{Fault}
+use Rattle.answer.specs.Numbers.{fault_number}
 use Rattle.chip.specs.declared.Seen.{Seen}
-use Rattle.chip.specs.Formats.{cell_on, read_at}
-use Rattle.chip.specs.Chip.{PageLent, Looked, Legible}
-use Rattle.chip.proofs.Cells.{page-is, mends-is, can-read, legible, read_plain, read-long}
-use Rattle.reads.specs.declared.Given.{Given}
-use Rattle.reads.specs.Reads.{Readable, Peeked}
-use Rattle.reads.proofs.Places as places
+use Rattle.chip.specs.Formats.{read_at}
+use Rattle.chip.specs.Chip.{Lent, Looked, Legible}
+use Rattle.chip.proofs.Cells.{page-is, mends-is, page-lent, can-read, legible, read_plain}
+use Rattle.reads.proofs.Places.{no-fault_read, no-mends_read, one-fault, one-mends}
 use Rattle.runs.specs.Sheet.{sheet_of}
 use Rattle.sheets.specs.declared.Sheet.{Sheet}
 use Rattle.sheets.specs.View.{fields_of}
 use Rattle.gather.specs.declared.sheet.Met.{Met}
-use Rattle.gather.specs.Gather.{CachedSheet, FlashSheet, SheetRead}
-use Rattle.gather.proofs.Laws.{page-met}
+use Rattle.gather.specs.Gather.{Found, CachedSheet, FlashSheet, SheetRead, page_read}
 
--- ---- a page of flash that was looked at
+-- ---- a page of flash that was looked at, and that is not refused
 
--- it is not refused, and has mends
-abbrev wants : Seen → Bool
-wants seen = eqb seen.fault 0 && not (eqb seen.mends 0)
+module _ (sz : Sizes) (flash codes marks : List ℕ) (n : ℕ) (h : Lent sz flash codes marks) (l : n < sz.N * sz.K) (seen : Seen)
+    (k : Looked sz flash codes marks n seen) (none : seen.fault ≡ None) where
+  pub to_mend : seen.mends ≢ 0 → Legible sz flash codes n
+  to_mend m = legible sz flash codes marks n (page-lent h l) seen k [] 0 (ap fault_number none) m
 
-module _ (sz : Sizes) (flash codes marks : List ℕ) (n : ℕ) (h : PageLent sz flash codes marks n) (seen : Seen)
-    (k : Looked sz flash codes marks n seen) where
-  module _ (t : wants seen ≡ true) where
-    no-fault : seen.fault ≡ 0
-    no-fault = eqb-true seen.fault 0 (and_l (eqb seen.fault 0) (not (eqb seen.mends 0)) t)
+  -- where nothing is mended it is read as it lies
+  pub as_it_lies : seen.mends ≡ 0 → read_at sz flash codes n ≡ page_at sz.S flash n
+  as_it_lies m = read_plain sz flash codes n h.codes-lent l
+      (can-read sz flash codes marks n (page-lent h l) seen k [] 0 (ap fault_number none))
+      (sym (k.mends-are ∙ mends-is sz flash codes marks n l) ∙ m)
 
-    pub to-mend : Legible sz flash codes n
-    to-mend = legible sz flash codes marks n h seen k [] 0 no-fault
-        (eqb-false seen.mends 0 (not_t (and_r (eqb seen.fault 0) (not (eqb seen.mends 0)) t)))
-
-    -- the sheet is that of the mended page
-    pub sheet-mended : (whole whole' : List ℕ) (s : Sheet) → HasPage sz.S whole 0
-        → whole' ≡ put_page sz.S whole 0 (read_at sz flash codes n) → fields_of s ≡ sheet_of (page_at sz.S whole' 0)
-        → FlashSheet sz flash codes marks n (record { fault = 0; mends = seen.mends; sheet = s })
-    sheet-mended whole whole' s fits e es = record {
-      looked = record { fault-is = sym no-fault ∙ k.fault-is; mends-are = k.mends-are };
-      sheet-is = λ z. es ∙ ap (λ (x : Page). sheet_of (page_at sz.S x 0)) e
-          ∙ ap sheet_of (page-put_same sz.S whole 0 _ fits (read-long sz flash codes n h.lent.codes-lent h.page-lt));
-    }
-
-  -- a page of which nothing is mended is read as it lies
-  pub sheet-lying : wants seen ≡ false → (s : Sheet) → fields_of s ≡ sheet_of (page_at sz.S flash n)
-      → FlashSheet sz flash codes marks n (record { fault = seen.fault; mends = seen.mends; sheet = s })
-  sheet-lying t s es = record {
-    looked = k;
-    sheet-is = λ z. es ∙ ap sheet_of (sym (read_plain sz flash codes n h.lent.codes-lent h.page-lt
-        (can-read sz flash codes marks n h seen k [] 0 z)
-        (sym (k.mends-are ∙ mends-is sz flash codes marks n h.page-lt)
-        ∙ eqb-true seen.mends 0 (not_f (and-not_l (eq-eqb seen.fault 0 z) t)))));
-  }
+  pub found : (s : Sheet) → fields_of s ≡ sheet_of (read_at sz flash codes n)
+      → FlashSheet sz flash codes marks n (Ok (record { mends = seen.mends; sheet = s }))
+  found s e = record { fault-is = sym (ap fault_number none) ∙ k.fault-is; mends-are = k.mends-are; sheet-is = e }
 
 -- ---- a page wherever it is
 
-module _ (sz : Sizes) (d : Directory) (flash codes marks pspace bspace : List ℕ) (n : ℕ) (whole : List ℕ)
-    (q : Readable sz flash codes marks pspace bspace n whole) where
-  -- as a read into the page buffer would have it
-  as_peeked : (g : Given) (x page' : Page) (r : Met) → Peeked sz d flash codes marks pspace bspace n whole g page'
-      → (g.fault ≡ 0 → page' ≡ put_page sz.S whole 0 x) → r.fault ≡ g.fault → r.mends ≡ g.mends
-      → (r.fault ≡ 0 → fields_of r.sheet ≡ sheet_of x) → SheetRead sz d flash codes marks pspace bspace n r
-  as_peeked g x page' r k e ef em es = record {
-    fault-is = ef ∙ k.fault-is;
-    mends-are = em ∙ k.mends-are;
-    sheet-is = λ z. let z' = sym ef ∙ z in es z ∙ ap sheet_of (sym (e z' ∙ places.put_whole sz.S whole x q.page-length)
-        ∙ page-met sz d flash codes marks pspace bspace n whole page' g k z');
-  }
+moved : {fault fault' mends mends' : ℕ} {x x' : Page} {r : Result Met Fault} → fault ≡ fault' → mends ≡ mends' → x ≡ x'
+    → Found fault mends x r → Found fault' mends' x' r
+moved {fault} {fault'} {mends} {mends'} {x} {x'} {r} p q e k = subst (λ (y : Page). Found fault' mends' y r) e
+    (subst (λ (m : ℕ). Found fault' m x r) q (subst (λ (f : ℕ). Found f mends x r) p k))
 
-  pub from-slot : (i : ℕ) (r : Met) → i ≡ slot_of sz d n → i < sz.P → CachedSheet sz.S pspace i r
-      → SheetRead sz d flash codes marks pspace bspace n r
-  from-slot i r ei l k = as_peeked _ _ _ r (places.from-slot sz flash codes marks pspace bspace n whole q d i _ ei l refl) (λ z. refl)
-      k.no-fault k.no-mends (λ z. k.sheet-is)
+-- a page of the frames' runs
+pub frame-page_lt : (sz : Sizes) → InLimits sz → (n f : ℕ) → f < sz.B → f * sz.K + n % sz.K < sz.B * sz.K
+frame-page_lt sz h n f l = digits_lt l (offset_lt sz h n)
 
-  module _ (i : ℕ) (ei : i ≡ slot_of sz d n) (m : sz.P ≤ i) (f : ℕ) (ef : f ≡ frame_with sz d n) where
-    pub from-frame : (o : ℕ) (r : Met) → f < sz.B → o ≡ n % sz.K → CachedSheet sz.S bspace (f * sz.K + o) r
+no-slot : (sz : Sizes) (d : Directory) (n : ℕ) → sz.P ≡ slot_of sz d n → ltb (slot_of sz d n) sz.P ≡ false
+no-slot sz d n m = le-ltb (slot_of sz d n) sz.P (omega arith)
+
+module _ (sz : Sizes) (d : Directory) (flash codes marks pspace bspace : List ℕ) (n : ℕ) {r : Result Met Fault} where
+  pub from_slot : (i : ℕ) → i ≡ slot_of sz d n → i < sz.P → CachedSheet sz.S pspace i r → SheetRead sz d flash codes marks pspace bspace n r
+  unfolding read_page in_slots read_way
+  from_slot i ei l k =
+      let e : ltb (slot_of sz d n) sz.P ≡ true = lt-ltb (slot_of sz d n) sz.P (rw (← ei) l) in
+      let w : eqb (read_way sz d n) 3 ≡ false = rw (e, read_way) in
+      let x : page_at sz.S pspace i ≡ page_read sz d flash codes marks pspace bspace n = rw (e, read_page)
+      (sym (page-at sz.S sz.P pspace (zero_page sz) i l) ∙ ap (λ (y : ℕ). get_or (pages_of sz.S sz.P pspace) y (zero_page sz)) ei) in
+      moved (sym (no-fault_read sz d flash codes marks n w)) (sym (no-mends_read sz d flash codes marks n w)) x k
+
+  module _ (m : sz.P ≡ slot_of sz d n) where
+    pub from_frame : InLimits sz → (f at : ℕ) → f ≡ frame_with sz d n → f < sz.B → at ≡ f * sz.K + n % sz.K
+        → CachedSheet sz.S bspace at r → SheetRead sz d flash codes marks pspace bspace n r
+    unfolding read_page in_slots read_way
+    from_frame h f at ef l ea k =
+        let g : ltb (frame_with sz d n) sz.B ≡ true = lt-ltb (frame_with sz d n) sz.B (rw (← ef) l) in
+        let w : eqb (read_way sz d n) 3 ≡ false = rw (no-slot sz d n m, read_way) (rw g) in
+        let x : page_at sz.S bspace at ≡ page_read sz d flash codes marks pspace bspace n = rw (no-slot sz d n m, read_page) (rw g
+        (ap (page_at sz.S bspace) ea ∙ sym (page-at sz.S (sz.B * sz.K) bspace (zero_page sz) _ (frame-page_lt sz h n f l))
+        ∙ ap (λ (y : ℕ). get_or (pages_of sz.S (sz.B * sz.K) bspace) (y * sz.K + n % sz.K) (zero_page sz)) ef)) in
+        moved (sym (no-fault_read sz d flash codes marks n w)) (sym (no-mends_read sz d flash codes marks n w)) x k
+
+    pub from_flash : sz.B ≡ frame_with sz d n → n < sz.N * sz.K → FlashSheet sz flash codes marks n r
         → SheetRead sz d flash codes marks pspace bspace n r
-    from-frame o r l eo k = as_peeked _ _ _ r
-        (places.from-frame sz flash codes marks pspace bspace n whole q d i f o _ ei m ef l eo refl) (λ z. refl)
-        k.no-fault k.no-mends (λ z. k.sheet-is)
-
-    pub from-flash : (r : Met) → sz.B ≤ f → FlashSheet sz flash codes marks n r → SheetRead sz d flash codes marks pspace bspace n r
-    from-flash r l k = as_peeked _ _ _ r
-        (places.from-flash sz flash codes marks pspace bspace n whole q d i f (record { fault = r.fault; mends = r.mends }) _ ei m ef l
-        (record { looked = k.looked; data_is = refl }))
-        (λ z. ap (λ (b : Bool). cond b (put_page sz.S whole 0 ((chip_for sz).page (cell_on sz flash codes marks n))) whole)
-        (eq-eqb r.fault 0 z) ∙ ap (put_page sz.S whole 0) (page-is sz flash codes marks n q.page-lt))
-        refl refl k.sheet-is
+    unfolding read_page in_slots flash_page read_way
+    from_flash ef l k =
+        let g : ltb (frame_with sz d n) sz.B ≡ false = le-ltb (frame_with sz d n) sz.B (omega arith) in
+        let w : eqb (read_way sz d n) 3 ≡ true = rw (no-slot sz d n m, read_way) (rw g) in
+        let x : read_at sz flash codes n ≡ page_read sz d flash codes marks pspace bspace n = rw (no-slot sz d n m, read_page) (rw g
+        (sym (page-is sz flash codes marks n l))) in
+        moved (sym (one-fault sz d flash codes marks n w l)) (sym (one-mends sz d flash codes marks n w l)) x k

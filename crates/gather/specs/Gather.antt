@@ -1,5 +1,5 @@
 -- What reading all sheets asks, and what it gives.
-use Rattle.std.specs.Prelude.{◌≡◌, not, cond, List, ℕ, ◌*◌, ◌≤◌, ◌<◌, ltb, eqb, length, get_or}
+use Rattle.std.specs.Prelude.{◌≡◌, not, cond, List, ℕ, ◌*◌, ◌≤◌, ◌<◌, ltb, eqb, length, take, get_or, Some, Result, Ok, Err, IfOk, OnOk}
 use Rattle.prelude.specs.Scan.{first, tab}
 use Rattle.prelude.specs.Pages.{page_at}
 use Rattle.model.specs.Sizes.{Sizes}
@@ -7,24 +7,24 @@ use Rattle.model.specs.Directory.{Directory}
 use Rattle.model.specs.Moves.{read_page}
 use Rattle.model.specs.Calls.{Page, zero_page}
 use Rattle.model.specs.Formats.{chip_for}
+use Rattle.answer.specs.declared.fault.Fault.{Fault}
+use Rattle.answer.specs.Numbers.{fault_number}
 use Rattle.chip.specs.Formats.{read_at}
-use Rattle.chip.specs.Chip.{Lent, Looked}
+use Rattle.chip.specs.Chip.{fault_on, mends_on}
 use Rattle.reads.specs.Reads.{pages, fault_read, mends_read}
 use Rattle.runs.specs.Sheet.{sheet_of}
+use Rattle.sheets.specs.declared.Sheet.{Sheet}
 use Rattle.sheets.specs.View.{fields_of, sheets_of}
 use Rattle.gather.specs.declared.sheet.Met.{Met}
 
--- buffers in their sizes, a page buffer of S bytes, S at least 28, c of the chip's pages, at most 256, and tables of 256 entries
-pub record Gatherable (sz : Sizes) (flash codes marks pspace bspace whole : List ℕ) (c : ℕ) (t mends : List ℕ) : Type 0 where
-  pub lent : Lent sz flash codes marks
+-- p-space and b-space in their sizes, a page buffer of S bytes, S at least 28, and c of the chip's pages, at most 256
+pub record Gatherable (sz : Sizes) (pspace bspace whole : List ℕ) (c : ℕ) : Type 0 where
   pub pspace-length : length pspace ≡ sz.P * sz.S
   pub bspace-length : length bspace ≡ sz.B * sz.K * sz.S
   pub whole_length : length whole ≡ sz.S
   pub wide : 28 ≤ sz.S
   pub few : c ≤ 256
   pub sheets-fit : c ≤ sz.N * sz.K
-  pub table-length : length t ≡ 1792
-  pub mends-length : length mends ≡ 256
 
 module _ (sz : Sizes) (d : Directory) (flash codes marks : List ℕ) where
   -- the lowest of the first c pages that is refused: c where none is
@@ -39,29 +39,37 @@ module _ (sz : Sizes) (d : Directory) (flash codes marks : List ℕ) where
 abbrev pub page_read : Sizes → Directory → List ℕ → List ℕ → List ℕ → List ℕ → List ℕ → ℕ → Page
 page_read sz d flash codes marks pspace bspace i = read_page (chip_for sz) (zero_page sz) sz d (pages sz flash codes marks pspace bspace) i
 
+-- the refusal that was met: 0 where none was
+abbrev pub fault_of : {A : Type 0} → Result A Fault → ℕ
+fault_of (Ok x) = 0
+fault_of (Err fault) = fault_number (Some fault)
+
 -- ---- one sheet
 
--- page i of p-space or b-space holds the sheet, and nothing is refused or mended
-pub record CachedSheet (s : ℕ) (space : List ℕ) (i : ℕ) (r : Met) : Type 0 where
-  pub no-fault : r.fault ≡ 0
-  pub no-mends : r.mends ≡ 0
-  pub sheet-is : fields_of r.sheet ≡ sheet_of (page_at s space i)
+-- page x, in which so many chunks are mended, holds the sheet, or is refused by this number
+pub record Found (fault mends : ℕ) (x : Page) (r : Result Met Fault) : Type 0 where
+  pub fault-is : fault_of r ≡ fault
+  pub mends-are : IfOk r (λ m. m.mends ≡ mends)
+  pub sheet-is : IfOk r (λ m. fields_of m.sheet ≡ sheet_of x)
 
--- a look at page n of flash, and the sheet that it holds as it is read
-pub record FlashSheet (sz : Sizes) (flash codes marks : List ℕ) (n : ℕ) (r : Met) : Type 0 where
-  pub looked : Looked sz flash codes marks n (record { fault = r.fault; mends = r.mends })
-  pub sheet-is : r.fault ≡ 0 → fields_of r.sheet ≡ sheet_of (read_at sz flash codes n)
+-- page i of p-space or b-space, where nothing is refused or mended
+abbrev pub CachedSheet : ℕ → List ℕ → ℕ → Result Met Fault → Type 0
+CachedSheet s space i r = Found 0 0 (page_at s space i) r
 
--- what a read of page i meets, and the sheet that a reader is given
-pub record SheetRead (sz : Sizes) (d : Directory) (flash codes marks pspace bspace : List ℕ) (i : ℕ) (r : Met) : Type 0 where
-  pub fault-is : r.fault ≡ fault_read sz d flash codes marks i
-  pub mends-are : r.mends ≡ mends_read sz d flash codes marks i
-  pub sheet-is : r.fault ≡ 0 → fields_of r.sheet ≡ sheet_of (page_read sz d flash codes marks pspace bspace i)
+-- page n of flash, as it is read
+abbrev pub FlashSheet : Sizes → List ℕ → List ℕ → List ℕ → ℕ → Result Met Fault → Type 0
+FlashSheet sz flash codes marks n r = Found (fault_on sz flash codes marks n) (mends_on sz flash codes marks n) (read_at sz flash codes n) r
+
+-- page i as a reader is given it
+abbrev pub SheetRead : Sizes → Directory → List ℕ → List ℕ → List ℕ → List ℕ → List ℕ → ℕ → Result Met Fault → Type 0
+SheetRead sz d flash codes marks pspace bspace i r = Found (fault_read sz d flash codes marks i) (mends_read sz d flash codes marks i)
+    (page_read sz d flash codes marks pspace bspace i) r
 
 -- ---- all of them
 
 -- the lowest refused page decides; where none is refused, the tables have the sheets that the pages hold, and the mends of each
-pub record Gathered (sz : Sizes) (d : Directory) (flash codes marks pspace bspace : List ℕ) (c fault : ℕ) (t mends : List ℕ) : Type 0 where
-  pub fault-is : fault ≡ fault_met_first sz d flash codes marks c
-  pub sheets-are : fault ≡ 0 → sheets_of c t ≡ tab c (λ i. sheet_of (page_read sz d flash codes marks pspace bspace i))
-  pub mends-are : fault ≡ 0 → (i : ℕ) → i < c → get_or mends i 0 ≡ mends_read sz d flash codes marks i
+pub record Gathered (sz : Sizes) (d : Directory) (flash codes marks pspace bspace : List ℕ) (c : ℕ) (r : Result Unit Fault) (t : List Sheet)
+    (mends : List ℕ) : Type 0 where
+  pub fault-is : fault_of r ≡ fault_met_first sz d flash codes marks c
+  pub sheets-are : OnOk r (sheets_of (take c t) ≡ tab c (λ i. sheet_of (page_read sz d flash codes marks pspace bspace i)))
+  pub mends-are : OnOk r ((i : ℕ) → i < c → get_or mends i 0 ≡ mends_read sz d flash codes marks i)

@@ -3,60 +3,38 @@
 
 mod sheet; // sheet.rt: one sheet, decoded where it lies
 
-ghost use Rattle.std.specs.Prelude.{[]};
-ghost use Rattle.cache.specs.View.{sizes_of, numbers};
+ghost use Rattle.cache.specs.View.{sizes_of, directory_of};
 ghost use Rattle.gather.specs.Gather.{Gatherable, Gathered};
 
 use address::PageNo;
-use cache::Sizes;
-use sheets::table;
+use answer::Fault;
+use cache::Directory;
+use chip::lent::View;
+use sheets::Sheet;
 
 // Reads the sheets on the first c pages one after the other, into a table and the mends of each; a page that wants mending goes into a page
-// that is lent. Answers the refusal of the first page that the store refuses, and stops there; 0 where it refuses none.
+// that is lent. The sheets serve a verdict and the mends go on to the end of the call, so that each has a table of its own. Error: what the
+// first page meets that flash refuses, where it stops.
 pub fn gather(
-    z: Sizes,
-    slots: &[u32; 128],
-    frames: &[u32; 8],
-    valid: &[u64; 8],
-    flash: &[u8],
-    codes: &[u8],
-    marks: &[u8],
+    view: View<'_>,
+    directory: &Directory,
     pspace: &[u8],
     bspace: &[u8],
     whole: &mut [u8],
     c: u32,
-    t: &mut [u32],
-    mends: &mut [u32],
-) -> u32
-    requires { Gatherable (sizes_of z) flash.now codes.now marks.now pspace.now bspace.now whole.old c t.old mends.old }
-    ensures { let d = numbers slots.now frames.now valid.now [] [] in
-        Gathered (sizes_of z) d flash.now codes.now marks.now pspace.now
-        bspace.now c result t.new mends.new }
+    t: &mut [Sheet; 256],
+    mends: &mut [u32; 256],
+) -> Result<(), Fault>
+    requires { Gatherable (sizes_of view.sizes) pspace.now bspace.now whole.old c }
+    ensures { let v = view.entry in
+        Gathered (sizes_of v.sizes) (directory_of directory.now) v.flash.now v.codes.now v.marks.now pspace.now bspace.now c result
+        t.new mends.new }
 {
-    let mut i: u32 = 0;
-    while i < c {
-        let met = sheet::read(
-            z,
-            slots,
-            frames,
-            valid,
-            flash,
-            codes,
-            marks,
-            pspace,
-            bspace,
-            PageNo(i),
-            whole,
-        );
-        let fault = met.fault;
-        if fault != 0 {
-            return fault;
-        }
+    for i in 0..c {
+        let met = sheet::read(view, directory, pspace, bspace, PageNo(i), whole)?;
         let at = i as usize;
-        let s = met.sheet;
-        table::put(t, at, s);
+        t[at] = met.sheet;
         mends[at] = met.mends;
-        i += 1;
     }
-    0
+    Ok(())
 }

@@ -1,6 +1,5 @@
 -- The code's sheets, table, roles, operations and verdicts as `runs` has them.
-use Rattle.std.specs.Prelude.{List, ℕ, ◌+◌, ◌*◌, get_or}
-use Rattle.prelude.specs.Scan.{tab}
+use Rattle.std.specs.Prelude.{List, ℕ, map, Result, Ok, Err}
 use Rattle.runs.specs.Sheet as runs
 use Rattle.runs.specs.Roles as roles
 use Rattle.runs.specs.Verdict as verdict
@@ -26,21 +25,9 @@ fields_of s = record {
   replaces = s.replaces;
 }
 
--- sheet i of a table: the seven numbers from 7 × i on
-unfoldable pub table_sheet : List ℕ → ℕ → runs.Sheet
-table_sheet t i = record {
-  run = get_or t (7 * i) 0;
-  trainee = get_or t (7 * i + 1) 0;
-  sample = get_or t (7 * i + 2) 0;
-  first = get_or t (7 * i + 3) 0;
-  count = get_or t (7 * i + 4) 0;
-  mark = get_or t (7 * i + 5) 0;
-  replaces = get_or t (7 * i + 6) 0;
-}
-
--- the first c sheets of a table
-unfoldable pub sheets_of : ℕ → List ℕ → List runs.Sheet
-sheets_of c t = tab c (table_sheet t)
+-- the sheets of a table
+abbrev pub sheets_of : List Sheet → List runs.Sheet
+sheets_of t = map fields_of t
 
 abbrev pub role_of : Role → roles.Role
 role_of rows.Trainee = roles.trainee
@@ -51,11 +38,11 @@ abbrev pub caller_of : Caller → roles.Caller
 caller_of w = record { role = role_of w.role; number = w.number }
 
 abbrev pub operation_of : Operation → roles.Operation
-operation_of (operations.Add sample first count) = roles.add sample first count
+operation_of (operations.Add new) = roles.add new.sample new.first new.count
 operation_of (operations.Look run) = roles.look run
 operation_of (operations.List position) = roles.list position
 operation_of (operations.Read run index) = roles.read run index
-operation_of (operations.Replace run sample first count) = roles.replace run sample first count
+operation_of (operations.Replace run new) = roles.replace run new.sample new.first new.count
 operation_of (operations.Mark run mark) = roles.mark run mark
 
 -- the papers' number of a refusal
@@ -67,9 +54,13 @@ cause_of causes.Pages = 11
 cause_of causes.Role = 12
 cause_of causes.Replaced = 13
 
-abbrev pub verdict_of : Verdict → verdict.Verdict
-verdict_of (verdicts.Refuse why) = verdict.refuse (cause_of why)
-verdict_of (verdicts.Show sheet current) = verdict.show (fields_of sheet) current
-verdict_of (verdicts.Tell run) = verdict.tell run
-verdict_of (verdicts.Fetch page) = verdict.fetch page
-verdict_of (verdicts.Put at sheet) = verdict.put at (fields_of sheet)
+-- what the sheets decide: a verdict, or a cause to turn the call down
+abbrev pub decided_of : Verdict → verdict.Verdict
+decided_of (verdicts.Show sheet current) = verdict.show (fields_of sheet) current
+decided_of (verdicts.Tell run) = verdict.tell run
+decided_of (verdicts.Fetch page) = verdict.fetch page
+decided_of (verdicts.Put at sheet) = verdict.put at (fields_of sheet)
+
+abbrev pub verdict_of : Result Verdict Cause → verdict.Verdict
+verdict_of (Ok v) = decided_of v
+verdict_of (Err why) = verdict.refuse (cause_of why)

@@ -5,24 +5,20 @@ ghost use Rattle.sheets.specs.View.{fields_of};
 
 use crate::Sheet;
 
-fn wide(x: u8) -> u32
-    ensures { (result ≡ x) × (result ≤ 255) }
-{
-    x as u32
-}
-
 // The number whose four bytes stand from byte i on.
+#[tactic(auto, unfolding(runs::specs::Sheet::number_at))]
 fn number_at(page: &[u8], i: usize) -> u32
     requires { i + 4 ≤ length page.now }
     ensures { result ≡ number_at page.now i }
 {
-    wide(page[i])
-        + wide(page[i + 1]) * 256
-        + wide(page[i + 2]) * 65536
-        + wide(page[i + 3]) * 16777216
+    u32::from(page[i])
+        + u32::from(page[i + 1]) * 256
+        + u32::from(page[i + 2]) * 65536
+        + u32::from(page[i + 3]) * 16777216
 }
 
 // The sheet that a page holds.
+#[tactic(auto, unfolding(runs::specs::Sheet::sheet_of))]
 pub fn decode(page: &[u8]) -> Sheet
     requires { 28 ≤ length page.now }
     ensures { fields_of result ≡ sheet_of page.now }
@@ -39,7 +35,8 @@ pub fn decode(page: &[u8]) -> Sheet
 }
 
 // Byte k of a number, byte 0 the low one.
-fn byte_of(x: u32, k: u32) -> u8
+#[tactic(auto, unfolding(runs::specs::Sheet::byte_of))]
+fn byte_of(x: u32, k: usize) -> u8
     requires { k < 4 }
     ensures { result ≡ byte_of x k }
 {
@@ -47,6 +44,7 @@ fn byte_of(x: u32, k: u32) -> u8
 }
 
 // Byte j of a sheet's page.
+#[tactic(auto, unfolding(runs::specs::Sheet::sheet_byte))]
 fn sheet_byte(s: Sheet, j: usize) -> u8
     ensures { result ≡ sheet_byte (fields_of s) j }
 {
@@ -56,18 +54,14 @@ fn sheet_byte(s: Sheet, j: usize) -> u8
     let numbers = [
         s.run, s.trainee, s.sample, s.first, s.count, s.mark, s.replaces,
     ];
-    let i = j / 4;
-    let k = (j % 4) as u32;
-    byte_of(numbers[i], k)
+    byte_of(numbers[j / 4], j % 4)
 }
 
-// Writes a sheet over a whole page.
+// Writes a sheet over a whole page, however long it is.
 pub fn encode(page: &mut [u8], s: Sheet)
     ensures { page.new ≡ page_of (length page.old) (fields_of s) }
 {
-    let mut j = 0;
-    while j < page.len() {
-        page[j] = sheet_byte(s, j);
-        j += 1;
+    for (j, byte) in page.iter_mut().enumerate() {
+        *byte = sheet_byte(s, j);
     }
 }

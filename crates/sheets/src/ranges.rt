@@ -1,68 +1,59 @@
 // Which pages runs have, as whole numbers without wrap-around.
-ghost use Rattle.std.specs.Prelude.{◌≡◌, ◌+◌, ◌≤◌, ◌<◌};
+ghost use Rattle.std.specs.Prelude.{◌≡◌, ◌+◌, ◌<◌, true, length};
 ghost use Rattle.runs.specs.Ranges as runs;
 ghost use Rattle.sheets.specs.View.{fields_of, sheets_of};
 
 use crate::{Sheet, table};
 
-fn wide(x: u32) -> u64
-    ensures { (result ≡ x) × (result ≤ 4294967295) }
-{
-    x as u64
-}
-
 // Whether the n pages from a on and the m pages from b on have a page in common.
+#[tactic(auto, unfolding(runs::specs::Ranges::overlaps, prelude::specs::Tests::every))]
 fn overlaps(a: u32, n: u32, b: u32, m: u32) -> bool
     ensures { result ≡ runs.overlaps a n b m }
 {
-    let bm = wide(b) + wide(m);
-    let an = wide(a) + wide(n);
-    (0 < n) & (0 < m) & (wide(a) < bm) & (wide(b) < an)
+    let past_a = u64::from(a) + u64::from(n);
+    let past_b = u64::from(b) + u64::from(m);
+    (0 < n) & (0 < m) & (u64::from(a) < past_b) & (u64::from(b) < past_a)
 }
 
 // Whether the run on sheet i, if it counts, has one of the n pages from f on.
-fn claims(t: &[u32; 1792], f: u32, n: u32, i: usize) -> bool
-    requires { i < 256 }
-    ensures { result ≡ runs.claims (sheets_of (i + 1) t.now) f n i }
+#[tactic(auto, unfolding(runs::specs::Ranges::claims))]
+fn claims(t: &[Sheet], f: u32, n: u32, i: usize) -> bool
+    requires { i < length t.now }
+    ensures { result ≡ runs.claims (sheets_of t.now) f n i }
 {
-    let s = table::get(t, i);
-    if !overlaps(f, n, s.first, s.count) {
-        return false;
-    }
-    table::counts(t, i)
+    let s = t[i];
+    overlaps(f, n, s.first, s.count) && table::counts(t, i)
 }
 
-// Whether a run has one of the n pages from f on.
-fn taken(t: &[u32; 1792], c: usize, f: u32, n: u32) -> bool
-    requires { c ≤ 256 }
-    ensures { result ≡ runs.taken c (sheets_of c t.now) f n }
+// Whether a run has one of the n pages from f on. By index: whether a sheet counts depends on those before it.
+#[tactic(auto, unfolding(runs::specs::Ranges::taken))]
+fn taken(t: &[Sheet], f: u32, n: u32) -> bool
+    ensures { result ≡ runs.taken (length t.now) (sheets_of t.now) f n }
 {
-    let mut i = 0;
-    while i < c {
+    for i in 0..t.len() {
         if claims(t, f, n, i) {
             return true;
         }
-        i += 1;
     }
     false
 }
 
 // Whether a run to be added may have the n pages from f on.
-pub fn range_ok(t: &[u32; 1792], c: usize, pages: u32, f: u32, n: u32) -> bool
-    requires { c ≤ 256 }
-    ensures { result ≡ runs.range_ok c (sheets_of c t.now) pages f n }
+#[tactic(auto, unfolding(runs::specs::Ranges::range_ok, prelude::specs::Tests::every))]
+pub fn range_ok(t: &[Sheet], pages: u32, f: u32, n: u32) -> bool
+    ensures { result ≡ runs.range_ok (length t.now) (sheets_of t.now) pages f n }
 {
-    let low = c as u64;
-    let end = wide(f) + wide(n);
-    let free = !taken(t, c, f, n);
-    (0 < n) & (low <= wide(f)) & (end <= wide(pages)) & free
+    let low = t.len() as u64;
+    let end = u64::from(f) + u64::from(n);
+    (0 < n) & (low <= u64::from(f)) & (end <= u64::from(pages)) & !taken(t, f, n)
 }
 
-// Whether page x of the run on a sheet may be read.
+// Whether page x of the run on a sheet may be read, in a catalogue of c sheets: it is one of so many pages then.
+#[tactic(auto, unfolding(runs::specs::Ranges::index_ok, prelude::specs::Tests::every))]
 pub fn index_ok(c: usize, pages: u32, s: Sheet, x: u32) -> bool
-    ensures { result ≡ runs.index_ok c pages (fields_of s) x }
+    ensures is { result ≡ runs.index_ok c pages (fields_of s) x }
+    ensures within { result ≡ true → s.first + x < pages }
 {
-    let low = c as u64;
-    let n = wide(s.first) + wide(x);
-    (x < s.count) & (low <= n) & (n < wide(pages))
+    let n = u64::from(s.first) + u64::from(x);
+    (x < s.count) & (c as u64 <= n) & (n < u64::from(pages))
 }

@@ -3,61 +3,50 @@ ghost use Rattle.std.specs.Prelude.{◌≡◌, ◌<◌};
 ghost use Rattle.runs.specs.Roles as runs;
 ghost use Rattle.sheets.specs.View.{fields_of, role_of, caller_of, operation_of};
 
-use crate::Sheet;
+use crate::{Sheet, UNMARKED};
 
-#[derive(Clone, Copy)]
+#[derive(Clone, Copy, PartialEq, Eq, Debug)]
 pub enum Role {
     Trainee,
     Tutor,
     Examiner,
 }
 
+// What a run that is added is to have: a sample, and `count` pages from page `first` on.
+#[derive(Clone, Copy, PartialEq, Eq, Debug)]
+pub struct NewRun {
+    pub sample: u32,
+    pub first: u32,
+    pub count: u32,
+}
+
 // An operation with its arguments.
-#[derive(Clone, Copy)]
+#[derive(Clone, Copy, PartialEq, Eq, Debug)]
 pub enum Operation {
-    Add {
-        sample: u32,
-        first: u32,
-        count: u32,
-    },
+    Add(NewRun),
     // a run
     Look(u32),
     // a position
     List(u32),
-    Read {
-        run: u32,
-        index: u32,
-    },
-    // the run to replace, then as Add
-    Replace {
-        run: u32,
-        sample: u32,
-        first: u32,
-        count: u32,
-    },
-    Mark {
-        run: u32,
-        mark: u32,
-    },
+    Read { run: u32, index: u32 },
+    // the run to replace, and what replaces it
+    Replace { run: u32, by: NewRun },
+    Mark { run: u32, mark: u32 },
 }
 
 // Who calls: the role, and the trainee number, which an added run takes.
-#[derive(Clone, Copy)]
+#[derive(Clone, Copy, PartialEq, Eq, Debug)]
 pub struct Caller {
     pub role: Role,
     pub number: u32,
 }
 
-// Rows trainee, tutor, examiner; columns add, look, list, read, replace, mark.
-fn grid() -> [[bool; 6]; 3]
-    ensures { result ≡ runs.grid }
-{
-    [
-        [true, true, true, true, false, false],
-        [true, true, true, true, true, false],
-        [true, true, true, true, true, true],
-    ]
-}
+// Rows trainee, tutor, examiner; columns add, look, list, read, replace, mark. A table, since the definition `grid` is one.
+const GRID: [[bool; 6]; 3] = [
+    [true, true, true, true, false, false],
+    [true, true, true, true, true, false],
+    [true, true, true, true, true, true],
+];
 
 fn row(role: Role) -> usize
     ensures { (result ≡ runs.row_of (role_of role)) × (result < 3) }
@@ -73,7 +62,7 @@ fn column(op: Operation) -> usize
     ensures { (result ≡ runs.column_of (operation_of op)) × (result < 6) }
 {
     match op {
-        Operation::Add { .. } => 0,
+        Operation::Add(_) => 0,
         Operation::Look(_) => 1,
         Operation::List(_) => 2,
         Operation::Read { .. } => 3,
@@ -83,39 +72,23 @@ fn column(op: Operation) -> usize
 }
 
 // Whether the grid lets a role do an operation.
+#[tactic(auto, unfolding(runs::specs::Roles::allowed, runs::specs::Roles::grid))]
 pub fn allows(role: Role, op: Operation) -> bool
     ensures { result ≡ runs.allowed (role_of role) (operation_of op) }
 {
-    let i = row(role);
-    let j = column(op);
-    let g = grid();
-    g[i][j]
-}
-
-fn is_trainee(role: Role) -> bool
-    ensures { result ≡ runs.is_trainee (role_of role) }
-{
-    match role {
-        Role::Trainee => true,
-        Role::Tutor => false,
-        Role::Examiner => false,
-    }
+    GRID[row(role)][column(op)]
 }
 
 // What the caller sees of a sheet.
+#[tactic(auto, unfolding(runs::specs::Roles::masked, runs::specs::Roles::another))]
 pub fn mask(w: Caller, s: Sheet) -> Sheet
     ensures { fields_of result ≡ runs.masked (caller_of w) (fields_of s) }
 {
-    let role = w.role;
-    if is_trainee(role) & (s.trainee != w.number) {
+    if w.role == Role::Trainee && s.trainee != w.number {
         return Sheet {
-            run: s.run,
             trainee: 0,
-            sample: s.sample,
-            first: s.first,
-            count: s.count,
-            mark: 255,
-            replaces: s.replaces,
+            mark: UNMARKED,
+            ..s
         };
     }
     s

@@ -1,139 +1,85 @@
-// A table of 256 sheets, seven numbers to a sheet, of which the first c are a catalogue's. A search that finds nothing gives c.
-ghost use Rattle.std.specs.Prelude.{◌≡◌, ◌+◌, ◌≤◌, ◌<◌, length, set};
-ghost use Rattle.runs.specs.Sheet.{empty_run};
+// The sheets of a catalogue, searched.
+ghost use Rattle.std.specs.Prelude.{◌≡◌, ◌<◌, length, IfSome};
+ghost use Rattle.std.specs.Option.{unwrap_or};
 ghost use Rattle.runs.specs.Runs as runs;
-ghost use Rattle.sheets.specs.View.{fields_of, table_sheet, sheets_of};
+ghost use Rattle.sheets.specs.View.{sheets_of};
 
 use crate::Sheet;
 
-// The run number of an erased page.
-pub const ERASED: u32 = 4294967295;
-
-// Whether a sheet with this run number is empty.
-pub fn is_empty(run: u32) -> bool
-    ensures { result ≡ empty_run run }
-{
-    (run == 0) | (run == ERASED)
-}
-
-// Sheet i.
-pub fn get(t: &[u32; 1792], i: usize) -> Sheet
-    requires { i < 256 }
-    ensures { fields_of result ≡ table_sheet t.now i }
-{
-    let at = 7 * i;
-    Sheet {
-        run: t[at],
-        trainee: t[at + 1],
-        sample: t[at + 2],
-        first: t[at + 3],
-        count: t[at + 4],
-        mark: t[at + 5],
-        replaces: t[at + 6],
-    }
-}
-
-// Makes s sheet i. The table is lent as a slice, whose length a proof knows.
-pub fn put(t: &mut [u32], i: usize, s: Sheet)
-    requires { (i < 256) × (length t.old ≡ 1792) }
-    ensures { sheets_of 256 t.new ≡ set (sheets_of 256 t.old) i (fields_of s) }
-{
-    let at = 7 * i;
-    t[at] = s.run;
-    t[at + 1] = s.trainee;
-    t[at + 2] = s.sample;
-    t[at + 3] = s.first;
-    t[at + 4] = s.count;
-    t[at + 5] = s.mark;
-    t[at + 6] = s.replaces;
-}
-
 // Whether sheet i counts: it is not empty, and no sheet before it has its run number.
-pub fn counts(t: &[u32; 1792], i: usize) -> bool
-    requires { i < 256 }
-    ensures { result ≡ runs.counts (sheets_of (i + 1) t.now) i }
+#[tactic(auto, using(crate::proofs::Reading::reading))]
+pub fn counts(t: &[Sheet], i: usize) -> bool
+    requires { i < length t.now }
+    ensures { result ≡ runs.counts (sheets_of t.now) i }
 {
-    let s = get(t, i);
-    if is_empty(s.run) {
+    let s = t[i];
+    if s.is_empty() {
         return false;
     }
-    let mut j = 0;
-    while j < i {
-        let before = get(t, j);
+    for before in &t[..i] {
         if before.run == s.run {
             return false;
         }
-        j += 1;
     }
     true
 }
 
 // The sheet of a run: of equal run numbers the first.
-pub fn find(t: &[u32; 1792], c: usize, run: u32) -> usize
-    requires { c ≤ 256 }
-    ensures { result ≡ runs.find c (sheets_of c t.now) run }
+#[tactic(auto, using(crate::proofs::Reading::reading), unfolding(runs::specs::Runs::find))]
+pub fn find(t: &[Sheet], run: u32) -> Option<usize>
+    ensures is { unwrap_or result (length t.now) ≡ runs.find (length t.now) (sheets_of t.now) run }
+    ensures within { IfSome result (λ i. i < length t.now) }
 {
-    let mut i = 0;
-    while i < c {
-        let s = get(t, i);
-        let empty = is_empty(s.run);
-        if !empty & (s.run == run) {
-            return i;
+    for (i, s) in t.iter().enumerate() {
+        if !s.is_empty() & (s.run == run) {
+            return Some(i);
         }
-        i += 1;
     }
-    c
+    None
 }
 
 // The first empty sheet.
-pub fn first_empty(t: &[u32; 1792], c: usize) -> usize
-    requires { c ≤ 256 }
-    ensures { result ≡ runs.first_empty c (sheets_of c t.now) }
+#[tactic(auto, using(crate::proofs::Reading::reading), unfolding(runs::specs::Runs::first_empty))]
+pub fn first_empty(t: &[Sheet]) -> Option<usize>
+    ensures is { unwrap_or result (length t.now) ≡ runs.first_empty (length t.now) (sheets_of t.now) }
+    ensures within { IfSome result (λ i. i < length t.now) }
 {
-    let mut i = 0;
-    while i < c {
-        let s = get(t, i);
-        if is_empty(s.run) {
-            return i;
+    for (i, s) in t.iter().enumerate() {
+        if s.is_empty() {
+            return Some(i);
         }
-        i += 1;
     }
-    c
+    None
 }
 
-// The largest run number in use, 0 where there is none. A number is left after it.
-pub fn largest(t: &[u32; 1792], c: usize) -> u32
-    requires { c ≤ 256 }
-    ensures { (result ≡ runs.largest c (sheets_of c t.now)) × (result < 4294967295) }
+// The largest run number in use, 0 where there is none, as no sheet in use has it. A number is left after it.
+#[tactic(auto, using(crate::proofs::Reading::reading), unfolding(runs::specs::Runs::largest, prelude::specs::Scan::greatest))]
+pub fn largest(t: &[Sheet]) -> u32
+    ensures { (result ≡ runs.largest (length t.now) (sheets_of t.now)) × (result < 4294967295) }
 {
     let mut best = 0;
-    let mut i = 0;
-    while i < c {
-        let s = get(t, i);
-        let empty = is_empty(s.run);
-        if (best < s.run) & !empty {
-            best = s.run;
+    for s in t {
+        if !s.is_empty() {
+            best = best.max(s.run);
         }
-        i += 1;
     }
     best
 }
 
-// The sheet at a position among those that count.
-pub fn position(t: &[u32; 1792], c: usize, n: u32) -> usize
-    requires { c ≤ 256 }
-    ensures { result ≡ runs.position c (sheets_of c t.now) n }
+// The sheet at a position among those that count. By index: whether a sheet counts depends on those before it.
+#[tactic(auto, using(crate::proofs::Reading::counting), unfolding(runs::specs::Runs::position, prelude::specs::Scan::nth))]
+pub fn position(t: &[Sheet], n: u32) -> Option<usize>
+    ensures is { unwrap_or result (length t.now) ≡ runs.position (length t.now) (sheets_of t.now) n }
+    ensures within { IfSome result (λ i. i < length t.now) }
 {
     let mut seen = 0;
-    let mut i = 0;
-    while i < c {
+    for i in 0..t.len() {
         if counts(t, i) {
-            if seen == n {
-                return i;
+            if seen == n as usize {
+                return Some(i);
             }
             seen += 1;
         }
-        i += 1;
     }
-    c
+    None
 }

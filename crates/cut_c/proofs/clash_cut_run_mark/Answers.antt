@@ -1,24 +1,17 @@
 use Rattle.runs.specs.Roles as roles
-use Rattle.store.specs.View.{Lent, lent}
+use Rattle.store.specs.View.{lent}
 use Rattle.cut_c.proofs.Laws.{cut-away, cut_on}
 use Rattle.cut_c.proofs.clash_cut_run_mark.Goals as goal
-use Rattle.cut_c.proofs.clash_cut_run_mark.Goals.{Start}
-
--- what is lent
-abbrev lent_of : Start → Lent
-lent_of c = let a = c.args in
-    lent a.flash.now a.codes.now a.marks.now a.wear.now a.pspace.now a.bspace.now a.shelf.now
 
 pub returns-then-role-gt2 : goal.returns-then-role-gt2
 returns-then-role-gt2 c =
-    let start : Start = search in
-    let a = start.args in
-    cut-away a.c (lent_of start) a.sheets a.role a.trainee (roles.mark a.run a.grade) a.page.now a.ops _
-    c.if-role-gt2.true c.blank.ensures
+    let a = c.args in
+    let u = lent a.flash.now a.codes.now a.marks.now a.wear.now a.pspace.now a.bspace.now a.shelf.now in
+    cut-away a.c u a.sheets a.role a.trainee (roles.mark a.run a.grade) a.page.now a.ops _ c.if-role-gt2.true c.blank.ensures
 
 pub returns : goal.returns
 returns c =
-    let start : Start = search in
-    let a = start.args in
-    cut_on a.c (lent_of start) a.sheets a.role a.trainee (roles.mark a.run a.grade) a.page.now a.ops _
-    c.if-role-gt2.false c.caller-w.result c.caller-w.ensures _ c.cut_mark.ensures
+    let a = c.args in
+    let u = lent a.flash.now a.codes.now a.marks.now a.wear.now a.pspace.now a.bspace.now a.shelf.now in
+    cut_on a.c u a.sheets a.role a.trainee (roles.mark a.run a.grade) a.page.now a.ops _ c.if-role-gt2.false c.caller-w.result
+    c.caller-w.ensures _ c.cut_mark.ensures

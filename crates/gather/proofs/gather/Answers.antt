@@ -1,43 +1,20 @@
-use native.Mathlib.Omega.{arith}
-use mathlib.Core.Path.{sym, ◌∙◌}
-use lib.ListN.{length-set}
-use Rattle.gather.proofs.Laws.{so_far_more, met-first, none-met}
+use Rattle.std.proofs.Common.{length-set, arith}
+use Rattle.std.proofs.lemmas.Result.{err_from_is_err_and}
+use Rattle.gather.proofs.Laws.{so_far_more, met_first, none_met}
 use Rattle.gather.proofs.gather.Goals as goal
 
-pub returns-then-fault-ne0 : goal.returns-then-fault-ne0
-returns-then-fault-ne0 c =
+pub returns-in_err-met : goal.returns-in_err-met
+returns-in_err-met c =
     let l = c.loop-i in
-    met-first _ _ _ _ _ _ _ _ l.i _ _ l.invariant.1.1.1.1 c.loop-i-test.true _ c.read-met.ensures.fault-is
-    c.if-fault-ne0.true
+    let p = err_from_is_err_and c.from_residual.result c.from_residual.ensures.1 in
+    rw (p.1, p.2) (met_first _ _ _ _ _ _ _ _ l.i _ _ l.invariant.so_far c.loop-i-test.true _ c.in_err-met.ensures.fault-is)
 
 pub loop-i-preserved : goal.loop-i-preserved
-loop-i-preserved c =
-    let l = c.loop-i in
-    let lt = c.loop-i-test.true in
-    let few = c.requires.few in
-    let ml = c.requires.mends-length in
-    let i = l.invariant in
-    let w = i.1.0 in
-    let tl = i.1.1.0 in
-    let me = i.1.1.1.0 in
-    let none = c.if-fault-ne0.false in
-    let k = c.read-met.ensures in (
-      omega arith,
-      (
-        omega arith,
-        (
-          omega arith,
-          (
-            simp length-set me,
-            so_far_more _ _ _ _ _ _ _ l.i l.t l.mends _ _ _ (omega arith) (me ∙ ml) i.1.1.1.1 (sym k.fault-is ∙ none)
-                (k.sheet-is none) k.mends-are
-                c.put.ensures,
-          ),
-        ),
-      ),
-    )
+loop-i-preserved c = let l = c.loop-i in let k = c.in_ok-met.ensures in record {
+  long = simp length-set l.invariant.long;
+  mends-long = simp length-set l.invariant.mends-long;
+  so_far = so_far_more _ _ _ _ _ _ _ l.i _ _ _ _ (omega arith) (omega arith) l.invariant.so_far k.fault-is k.sheet-is k.mends-are;
+}
 
 pub returns : goal.returns
-returns c =
-    let l = c.loop-i in
-    none-met _ _ _ _ _ _ _ _ l.i _ _ l.invariant.1.1.1.1 l.invariant.0 c.loop-i-test.false c.requires.few
+returns c = let l = c.loop-i in none_met _ _ _ _ _ _ _ _ l.i _ _ l.invariant.so_far (omega arith) (omega arith)

@@ -1,26 +1,23 @@
-use Rattle.sheets.specs.View.{operation_of}
-use Rattle.store.specs.View.{Lent, lent}
+use Rattle.std.proofs.Common.{◌≡◌, subst}
+use Rattle.model.specs.Calls.{Buffers}
+use Rattle.store.specs.View.{Lent}
+use Rattle.runs.specs.Verdict.{put}
+use Rattle.sheets.specs.View.{fields_of, operation_of}
+use Rattle.catalogue.specs.View.{called, stepped, lent_seen, lent_to}
 use Rattle.catalogue.proofs.Judging.{ready-limits}
-use Rattle.catalogue.proofs.Ending.{was_decided, put-kind_of}
-use Rattle.catalogue.proofs.PowerLoss.{verdict-cut}
+use Rattle.catalogue.proofs.PowerLoss.{put_cut}
 use Rattle.catalogue.proofs.cut.put_off.Goals as goal
-use Rattle.catalogue.proofs.cut.put_off.Goals.{Start}
 
--- what is lent
-abbrev lent_of : Start → Lent
-lent_of c = let a = c.args in lent a.flash.now a.codes.now a.marks.now a.wear.now a.pspace.now a.bspace.now
-    a.shelf.now
+pub put_apart-requires : goal.put_apart-requires
+put_apart-requires c =
+    let a = c.args in
+    (ready-limits a.cache (lent_seen c.view.result a.shelf.now) a.sheets c.in-Ok.ensures.0.2.ready).S_high
 
-pub last_step-requires : goal.last_step-requires
-last_step-requires c =
-    let start : Start = search in
-    let k = put-kind_of _ _ _ _ _ _ _ _ _ c.judge-j.ensures start.requires _ c.in-Decided.is in
-    (k.0, k.1.ready.few, (ready-limits start.args.cache (lent_of start) start.args.sheets k.1.ready).S_high)
-
-pub returns-in-Decided : goal.returns-in-Decided
-returns-in-Decided c =
-    let start : Start = search in
-    let a = start.args in
-    verdict-cut a.cache (lent_of start) a.sheets a.caller (operation_of a.op) a.page.now _ _ _ _ _
-    (put-kind_of _ _ _ _ _ _ _ _ _ c.judge-j.ensures start.requires _ c.in-Decided.is).0
-    (was_decided _ _ _ _ _ _ _ _ _ c.judge-j.ensures _ c.in-Decided.is) c.last_step.ensures
+pub returns-in-Ok-clause-cut : goal.returns-in-Ok-clause-cut
+returns-in-Ok-clause-cut c =
+    let a = c.args in
+    let op = operation_of a.op in
+    let with = λ (b : Buffers). let u : Lent = record { below = b; shelf = a.shelf.now } in
+    stepped a.cache u a.sheets a.page.now (put c.in-Ok.n.0 (fields_of c.in-Ok.sheet)) ≡ called a.cache u a.sheets a.caller op a.page.now in
+    put_cut a.cache (lent_to a.lent.now a.pspace.now a.shelf.now) a.sheets a.caller op a.page.now a.ops _ _ _
+    (subst with c.view.ensures c.in-Ok.ensures.0.0) _ c.put_apart.ensures.cut

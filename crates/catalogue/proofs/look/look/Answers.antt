@@ -1,21 +1,8 @@
-use Rattle.store.specs.View.{Lent, lent}
-use Rattle.catalogue.proofs.Ending.{kind_of, few, positive}
+use Rattle.catalogue.proofs.Ending.{few_left, look_done}
 use Rattle.catalogue.proofs.look.look.Goals as goal
-use Rattle.catalogue.proofs.look.look.Goals.{Start}
 
--- what is lent
-abbrev lent_of : Start → Lent
-lent_of c = let a = c.args in lent a.flash.now a.codes.now a.marks.now a.wear.now a.pspace.now a.bspace.now
-    a.shelf.now
+pub left-requires : goal.left-requires
+left-requires c = few_left _ _ _ _ _ _ _ _ _ c.in_ok-sheet.ensures
 
-pub show-requires : goal.show-requires
-show-requires c =
-    let start : Start = search in
-    let k = kind_of _ _ _ _ _ _ _ _ _ c.judge-j.ensures _ c.in-Decided.is in (
-      k.0,
-      (
-        few start.args.cache (lent_of start) start.args.sheets _ _ k.1,
-        positive start.args.cache (lent_of start)
-            start.args.sheets _ _ k.1,
-      ),
-    )
+pub returns : goal.returns
+returns c = look_done _ _ _ _ _ _ _ _ _ _ (rw c.in-Show.is at c.in_ok-sheet.ensures) _ c.left.ensures.0

@@ -1,47 +1,29 @@
-use mathlib.Core.Path.{◌≡◌}
-use mathlib.Core.List.{List, []}
-use Prim.Native.Nat.{ℕ}
-use Rattle.model.specs.Sizes.{Sizes}
-use Rattle.model.specs.Directory.{inFrame}
-use Rattle.model.specs.Policy.{slot_of, frame_with}
-use Rattle.cache.specs.View.{sizes_of, numbers}
-use Rattle.reads.proofs.Places.{has-frame_page}
-use Rattle.gather.proofs.Decoding.{from-slot, from-frame, from-flash}
+use Rattle.std.proofs.Common.{ap, ℕ, ◌+◌, ◌*◌}
+use Rattle.prelude.proofs.Pages.{in_run}
+use Rattle.cache.specs.View.{sizes_of, directory_of}
+use Rattle.gather.proofs.Decoding.{frame-page_lt, from_slot, from_frame, from_flash}
 use Rattle.gather.proofs.sheet.read.Goals as goal
 
--- what each search finds, in the directory that both look at
-slot_is : (sz : Sizes) (slots frames valid : List ℕ) (n r : ℕ) → r ≡ slot_of sz (numbers slots [] [] [] []) n
-    → r ≡ slot_of sz (numbers slots frames valid [] []) n
-unfolding slot_of
-slot_is sz slots frames valid n r e = e
+pub returns-in-Some : goal.returns-in-Some
+returns-in-Some c =
+    let z = sizes_of c.args.view.sizes in
+    from_slot z (directory_of c.args.directory.now) _ _ _ _ _ _ _ c.in-Some.ensures.found c.in-Some.ensures.within c.cached.ensures
 
-frame_is : (sz : Sizes) (slots frames valid : List ℕ) (n r : ℕ) → r ≡ frame_with sz (numbers [] frames valid [] []) n
-    → r ≡ frame_with sz (numbers slots frames valid [] []) n
-unfolding frame_with inFrame
-frame_is sz slots frames valid n r e = e
+pub cached-requires-in-Some-frame_with : goal.cached-requires-in-Some-frame_with
+cached-requires-in-Some-frame_with c =
+    let z = sizes_of c.args.view.sizes in
+    let lt = frame-page_lt z c.args.view.lent.codes-lent.limits c.args.n.0 _ c.in-Some-frame_with.ensures.within in
+    (rw c.offset_of-o.ensures (in_run z.S (z.B * z.K) _ c.requires.0.bspace-length lt), c.requires.1)
 
-pub returns-then-i-z : goal.returns-then-i-z
-returns-then-i-z c =
-    let a = c.args in
-    from-slot (sizes_of a.z) (numbers a.slots.now a.frames.now a.valid.now [] []) _ _ _ _ _ _ _ c.requires.0 _ _
-    (slot_is _ _ a.frames.now a.valid.now _ _ c.slot_of-i.ensures) c.if-i-z.true c.cached.ensures
-
-pub cached-requires-then-f-z : goal.cached-requires-then-f-z
-cached-requires-then-f-z c =
-    (rw c.offset_of-o.ensures (has-frame_page _ _ _ _ _ _ _ _ c.requires.0 _ c.if-f-z.true), c.requires.1)
-
-pub returns-then-f-z : goal.returns-then-f-z
-returns-then-f-z c =
-    let a = c.args in
-    from-frame (sizes_of a.z) (numbers a.slots.now a.frames.now a.valid.now [] []) _ _ _ _ _ _ _ c.requires.0 _
-    (slot_is _ _ a.frames.now a.valid.now _ _ c.slot_of-i.ensures) c.if-i-z.false _
-    (frame_is _ a.slots.now _ _ _ _ c.frame_with-f.ensures) _ _
-    c.if-f-z.true c.offset_of-o.ensures c.cached-then-f-z.ensures
+pub returns-in-Some-frame_with : goal.returns-in-Some-frame_with
+returns-in-Some-frame_with c =
+    let z = sizes_of c.args.view.sizes in
+    let e = ap (λ (x : ℕ). c.in-Some-frame_with.f * z.K + x) c.offset_of-o.ensures in
+    from_frame z (directory_of c.args.directory.now) _ _ _ _ _ _ c.in_default.ensures.found c.args.view.lent.codes-lent.limits _ _
+    c.in-Some-frame_with.ensures.found c.in-Some-frame_with.ensures.within e c.cached-in-Some-frame_with.ensures
 
 pub returns : goal.returns
 returns c =
-    let a = c.args in
-    from-flash (sizes_of a.z) (numbers a.slots.now a.frames.now a.valid.now [] []) _ _ _ _ _ _ _ c.requires.0 _
-    (slot_is _ _ a.frames.now a.valid.now _ _ c.slot_of-i.ensures) c.if-i-z.false _
-    (frame_is _ a.slots.now _ _ _ _ c.frame_with-f.ensures) _
-    c.if-f-z.false c.in_flash.ensures
+    let z = sizes_of c.args.view.sizes in
+    from_flash z (directory_of c.args.directory.now) _ _ _ _ _ _ c.in_default.ensures.found c.in_default-frame_with.ensures.found
+    c.requires.0.page-lt c.in_flash.ensures

@@ -1,6 +1,4 @@
-use mathlib.Core.Path.{◌≡◌}
-use mathlib.Core.Bool.{cond}
-use Prim.Native.Nat.{◌-◌, ◌≤◌}
+use Rattle.std.proofs.Common.{◌≡◌, cond}
 use Rattle.prelude.specs.Scan.{greatest}
 use Rattle.runs.specs.Runs.{run_at}
 use Rattle.runs.specs.Current.{replaces}
@@ -9,8 +7,4 @@ use Rattle.sheets.proofs.current.replacer.Given as goal
 
 -- the highest run so far of those that replace this one
 abbrev pub invariant-loop-i : goal.invariant-loop-i
-invariant-loop-i l =
-    (l.i ≤ l.c) × (l.best ≡ greatest l.i (λ j. cond (replaces (sheets_of l.c l.t) l.run j) (run_at (sheets_of l.c l.t) j) 0))
-
-abbrev pub decreases-loop-i : goal.decreases-loop-i
-decreases-loop-i l = l.c - l.i
+invariant-loop-i l = l.best ≡ greatest l.i (λ j. cond (replaces (sheets_of l.t) l.run j) (run_at (sheets_of l.t) j) 0)

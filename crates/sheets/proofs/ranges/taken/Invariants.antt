@@ -1,4 +1,3 @@
-use Prim.Native.Nat.{◌-◌, ◌≤◌}
 use Rattle.prelude.proofs.Scan.{Missed}
 use Rattle.runs.specs.Ranges.{claims}
 use Rattle.sheets.specs.View.{sheets_of}
@@ -6,7 +5,4 @@ use Rattle.sheets.proofs.ranges.taken.Given as goal
 
 -- no sheet before i claims one of the pages
 abbrev pub invariant-loop-i : goal.invariant-loop-i
-invariant-loop-i l = (l.i ≤ l.c) × Missed (claims (sheets_of l.c l.t) l.f l.n) l.i
-
-abbrev pub decreases-loop-i : goal.decreases-loop-i
-decreases-loop-i l = l.c - l.i
+invariant-loop-i l = Missed (claims (sheets_of l.t) l.f l.n) l.i

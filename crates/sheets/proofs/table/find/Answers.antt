@@ -1,29 +1,15 @@
-use native.Mathlib.Omega.{arith}
-use mathlib.Core.Path.{sym, ◌∙◌}
-use borrow.Author.Count.{below_more}
+use Rattle.std.proofs.Common.{ap, sym, ◌∙◌, Bool, not, ◌&&◌, eqb, get_or, arith}
 use Rattle.prelude.proofs.Scan.{first-is}
+use Rattle.runs.specs.Sheet.{Sheet, inUse}
 use Rattle.runs.specs.Runs.{find}
-use Rattle.sheets.proofs.Reading.{read_is, found-is}
+use Rattle.sheets.proofs.Reading.{blank, sheet_is}
 use Rattle.sheets.proofs.table.find.Goals as goal
 
-pub returns-then-empty-s : goal.returns-then-empty-s
+pub returns-then-is_empty-s-clause-is : goal.returns-then-is_empty-s-clause-is
 unfolding find
-returns-then-empty-s c =
-    let a = c.args in
-    let l = c.loop-i in
-    first-is _ _ l.i l.invariant.0 l.invariant.1
-    (λ k. let s = read_is a.c a.t.now l.i k c.get-s.ensures in
-    sym (found-is s a.run c.is_empty-empty.ensures) ∙ c.if-empty-s.true)
-
-pub loop-i-preserved : goal.loop-i-preserved
-loop-i-preserved c =
-    let a = c.args in
-    let l = c.loop-i in
-    let s = read_is a.c a.t.now l.i (omega arith) c.get-s.ensures in
-    (omega arith, below_more _ l.i l.invariant.1 (sym (found-is s a.run c.is_empty-empty.ensures) ∙ c.if-empty-s.false))
-
-pub returns : goal.returns
-unfolding find
-returns c =
-    let l = c.loop-i in
-    first-is _ _ _ (omega arith) (λ j b. l.invariant.1 j (omega arith)) (λ k. absurd (omega arith))
+returns-then-is_empty-s-clause-is c =
+    let t = c.args.t.now in
+    let i = c.loop-i.i in
+    let e = ap (λ (s : Sheet). inUse s && eqb s.run c.args.run) (sheet_is t i) in
+    let f = ap (λ (b : Bool). not b && eqb (get_or t i blank).run c.args.run) c.is_empty.ensures in
+    first-is _ _ i (omega arith) c.loop-i.invariant (λ k. e ∙ sym f ∙ c.if-is_empty-s.true)

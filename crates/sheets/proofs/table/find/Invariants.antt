@@ -1,6 +1,4 @@
-use mathlib.Core.Bool.{◌&&◌}
-use Prim.Native.Nat.{◌-◌, ◌≤◌}
-use lib.Dec.{eqb}
+use Rattle.std.proofs.Common.{◌&&◌, eqb}
 use Rattle.prelude.proofs.Scan.{Missed}
 use Rattle.runs.specs.Sheet.{inUse}
 use Rattle.runs.specs.Runs.{sheet_at, run_at}
@@ -9,7 +7,4 @@ use Rattle.sheets.proofs.table.find.Given as goal
 
 -- no sheet before i is in use with this run number
 abbrev pub invariant-loop-i : goal.invariant-loop-i
-invariant-loop-i l = (l.i ≤ l.c) × Missed (λ j. inUse (sheet_at (sheets_of l.c l.t) j) && eqb (run_at (sheets_of l.c l.t) j) l.run) l.i
-
-abbrev pub decreases-loop-i : goal.decreases-loop-i
-decreases-loop-i l = l.c - l.i
+invariant-loop-i l = Missed (λ j. inUse (sheet_at (sheets_of l.t) j) && eqb (run_at (sheets_of l.t) j) l.run) l.i

@@ -1,4 +1,3 @@
-use Prim.Native.Nat.{◌-◌, ◌≤◌}
 use Rattle.prelude.proofs.Scan.{Missed}
 use Rattle.runs.specs.Sheet.{is_empty}
 use Rattle.runs.specs.Runs.{sheet_at}
@@ -7,7 +6,4 @@ use Rattle.sheets.proofs.table.first_empty.Given as goal
 
 -- no sheet before i is empty
 abbrev pub invariant-loop-i : goal.invariant-loop-i
-invariant-loop-i l = (l.i ≤ l.c) × Missed (λ j. is_empty (sheet_at (sheets_of l.c l.t) j)) l.i
-
-abbrev pub decreases-loop-i : goal.decreases-loop-i
-decreases-loop-i l = l.c - l.i
+invariant-loop-i l = Missed (λ j. is_empty (sheet_at (sheets_of l.t) j)) l.i

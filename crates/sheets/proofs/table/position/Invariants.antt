@@ -1,7 +1,4 @@
-use mathlib.Core.Path.{◌≡◌}
-use mathlib.Core.Bool.{◌&&◌}
-use Prim.Native.Nat.{◌-◌, ◌≤◌}
-use lib.Dec.{eqb}
+use Rattle.std.proofs.Common.{◌≡◌, ◌≤◌, ◌&&◌, eqb}
 use Rattle.prelude.specs.Scan.{count}
 use Rattle.prelude.proofs.Scan.{Missed}
 use Rattle.runs.specs.Runs.{counts}
@@ -11,8 +8,5 @@ use Rattle.sheets.proofs.table.position.Given as goal
 -- so many sheets before i count, and none of them has n that count before it
 abbrev pub invariant-loop-i : goal.invariant-loop-i
 invariant-loop-i l =
-    (l.i ≤ l.c) × (l.seen ≤ l.i) × (l.seen ≡ count l.i (counts (sheets_of l.c l.t)))
-    × Missed (λ j. counts (sheets_of l.c l.t) j && eqb (count j (counts (sheets_of l.c l.t))) l.n) l.i
-
-abbrev pub decreases-loop-i : goal.decreases-loop-i
-decreases-loop-i l = l.c - l.i
+    (l.seen ≤ l.i) × (l.seen ≡ count l.i (counts (sheets_of l.t)))
+    × Missed (λ j. counts (sheets_of l.t) j && eqb (count j (counts (sheets_of l.t))) l.n) l.i

@@ -1,8 +1,8 @@
 -- What is written so far is the first bytes of the output, and what the walk has left is the others.
 use mathlib.Core.Path.{◌≡◌, sym, ap, ◌∙◌}
-use mathlib.Core.Logic.{◌⊎◌, inl, inr}
+use mathlib.Core.Logic.{◌⊎◌, inr}
 use mathlib.Core.List.{List, ◌++◌}
-use Prim.Native.Nat.{ℕ, ◌+◌, ◌-◌, ◌*◌, ◌≤◌, ◌<◌, ◌^◌}
+use Prim.Native.Nat.{ℕ, ◌+◌, ◌-◌, ◌*◌, ◌≤◌, ◌<◌}
 use native.Mathlib.Omega.{arith}
 use lib.ListN.{length, take, drop, length-append, length-drop}
 use lib.Seq.{length-take-le, take_at, drop_at, drop-drop}
@@ -85,13 +85,3 @@ module _ (script : List ℕ) (w : Walk) (done : ℕ) (m : Lent) (page out : List
           bound = omega arith;
           first = inr l;
         }
-
-    pub falls : r.at < length script → length script - r.at < length script - w.at
-    falls l = let g = went l in omega arith
-
-  -- far from the end of 64 bits
-  pub sum_fits : length out' ≡ 49152 → done + r.printed < 2 ^ 64
-  sum_fits e =
-      let q = o.ready.printed-le in
-      let b = h.bound in
-      elim h.first [ inl z ↦ omega arith | inr l ↦ let s = h.ready.short l in omega arith ]

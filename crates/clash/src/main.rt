@@ -31,6 +31,7 @@ fn run<W: Write>(to: &mut W, script: &[u8]) -> io::Result<usize>
     let mut out = [0u8; 49152];
     let mut w = walk::start(script, &mut out);
     let mut done: usize = 0;
+    // No `for`: how much a part prints, and whether it is the last, only the walk tells.
     loop {
         w = walk::run(
             script,
@@ -52,7 +53,8 @@ fn run<W: Write>(to: &mut W, script: &[u8]) -> io::Result<usize>
     }
 }
 
-// Writes the bytes that the script's output has next after the first `done`. Script and place are lent for the contract alone.
+// Writes the bytes that the script's output has next after the first `done`. Script and place are lent for the contract alone, which speaks
+// of this program's output, and that in rehearse of its own.
 fn put<W: Write>(to: &mut W, script: &[u8], done: usize, bytes: &[u8]) -> io::Result<()>
     requires { bytes.now ≡ take (length bytes.now) (drop done (output_of script.now)) }
     ensures ok { OnOk result (Appends (W.contents to.old) (W.contents to.new) bytes.now) }

@@ -3,21 +3,22 @@ ghost use Rattle.std.specs.Prelude.{◌≤◌, length};
 ghost use Rattle.histories.specs.Alike.{Alike};
 
 // How many bytes a and b begin with alike.
+#[tactic(auto, using(crate::proofs::Comparing::one_more))]
 pub fn alike(a: &[u8], b: &[u8]) -> usize
     ensures { Alike a.now b.now result }
 {
-    let mut n = 0;
-    while (n < a.len()) & (n < b.len()) {
+    let shorter = a.len().min(b.len());
+    // By index: two texts go in step, and the place where they part is the answer.
+    for n in 0..shorter {
         if a[n] != b[n] {
             return n;
         }
-        n += 1;
     }
-    n
+    shorter
 }
 
 // A line of a text: where it starts, and its number.
-#[derive(Clone, Copy)]
+#[derive(Clone, Copy, PartialEq, Eq, Debug)]
 pub struct Line {
     pub start: usize,
     pub number: u64,
@@ -30,13 +31,11 @@ pub fn line_of(text: &[u8], at: usize) -> Line
 {
     let mut start = 0;
     let mut number = 1u64;
-    let mut i = 0;
-    while i < at {
-        if text[i] == b'\n' {
+    for (i, byte) in text[..at].iter().enumerate() {
+        if *byte == b'\n' {
             start = i + 1;
-            number = std::num::wrapping_add_u64(number, 1);
+            number += 1;
         }
-        i += 1;
     }
     Line { start, number }
 }

@@ -13,21 +13,22 @@ use std::rt::{Env, Files};
 use std::{fs, io, str};
 
 fn main(rt: HostRuntime) -> io::Result<()> {
-    report::heading(&rt, b"scripts")?;
+    report::heading(&rt, "scripts")?;
     scripts(&rt)?;
-    report::heading(&rt, b"script A against a wrong expectation")?;
+    report::heading(&rt, "script A against a wrong expectation")?;
     check(&rt, b"script-a.in", b"wrong.out")?;
-    report::heading(&rt, b"calls on a sound record")?;
+    report::heading(&rt, "calls on a sound record")?;
     spoilt::none(&rt)?;
-    report::heading(&rt, b"records with an entry spoilt, by every call")?;
+    report::heading(&rt, "records with an entry spoilt, by every call")?;
     spoilt::entries(&rt)?;
-    report::heading(&rt, b"records with a size beyond its limits, by every call")?;
+    report::heading(&rt, "records with a size beyond its limits, by every call")?;
     spoilt::sizes(&rt)?;
-    report::heading(&rt, b"records with an option, by every call")?;
+    report::heading(&rt, "records with an option, by every call")?;
     spoilt::options(&rt)
 }
 
-// The arguments name a script and what it must print, in turn.
+// The arguments name a script and what it must print, in turn. Over their numbers, since nothing says how many there are; up to a number
+// that none has, since each function must end.
 fn scripts(rt: &(impl Env + Files + Print)) -> io::Result<()> {
     for i in 0..usize::MAX / 4 {
         if !pair(rt, 2 * i + 1, 2 * i + 2)? {
@@ -65,42 +66,26 @@ fn check(rt: &(impl Files + Print), name: &[u8], other: &[u8]) -> io::Result<()>
     let mut script = [0u8; 65536];
     let mut expected = [0u8; 131072];
     let mut got = [0u8; 131072];
-    let s = load(rt, name, &mut script)?;
-    let e = load(rt, other, &mut expected)?;
-    if !(s.found & e.found) {
+    let n = load(rt, name, &mut script)?;
+    let m = load(rt, other, &mut expected)?;
+    let (Some(n), Some(m)) = (n, m) else {
         return report::missing(rt, name, other);
-    }
-    let n = s.bytes;
-    let m = e.bytes;
+    };
     let k = walk::output(&script[..n], &mut got);
     report::compared(rt, name, other, &expected[..m], &got[..k])
 }
 
-// How many bytes of a file stand in a buffer.
-#[derive(Clone, Copy)]
-struct Loaded {
-    found: bool,
-    bytes: usize,
-}
-
-// Reads a file into a buffer, where it can be opened. The buffer keeps its length, and where reading fails, other bytes may stand in it.
-fn load(rt: &impl Files, path: &[u8], into: &mut [u8]) -> io::Result<Loaded>
-    ensures ok { IfOk result (λ r. (r.bytes ≤ length into.new) × (r.bytes ≡ length (take r.bytes into.new))) }
+// Reads a file into a buffer, where it can be opened: how many bytes stand there. The buffer keeps its length, and where reading fails,
+// other bytes may stand in it.
+fn load(rt: &impl Files, path: &[u8], into: &mut [u8]) -> io::Result<Option<usize>>
+    ensures ok { IfOk result (λ r. IfSome r (λ n. (n ≤ length into.new) × (n ≡ length (take n into.new)))) }
     ensures err { OnErr result (length into.new ≡ length into.old) }
 {
-    match open(rt, path) {
-        None => Ok(Loaded {
-            found: false,
-            bytes: 0,
-        }),
-        Some(mut file) => {
-            let n = streams::read_full(&mut file, into)?;
-            Ok(Loaded {
-                found: true,
-                bytes: n,
-            })
-        }
-    }
+    let Some(mut file) = open(rt, path) else {
+        return Ok(None);
+    };
+    let n = streams::read_full(&mut file, into)?;
+    Ok(Some(n))
 }
 
 // Opens a file, where it can be. A name is UTF-8 text, as std takes it.

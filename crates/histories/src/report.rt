@@ -1,13 +1,12 @@
 // The lines that the program writes.
 ghost use Rattle.std.specs.Prelude.{◌≤◌, length};
 
-use crate::compare::{alike, line_of};
+use crate::compare::{Line, alike, line_of};
 use std::io;
 
-// A line before the cases of one kind.
-pub fn heading(rt: &impl Print, name: &[u8]) -> io::Result<()> {
-    rt.write_all(name)?;
-    println!(rt; ":")
+// A line before the cases of one kind. soundness has the same: a crate for the two would be longer.
+pub fn heading(rt: &impl Print, name: &str) -> io::Result<()> {
+    println!(rt; "{name}:")
 }
 
 // A script whose files are not there.
@@ -28,7 +27,7 @@ pub fn compared(
 ) -> io::Result<()> {
     rt.write_all(name)?;
     let n = alike(expected, got);
-    if (n == expected.len()) & (n == got.len()) {
+    if n == expected.len() && n == got.len() {
         print!(rt; ": passed, {n} bytes as in ")?;
         rt.write_all(other)?;
         return println!(rt; "");
@@ -42,9 +41,7 @@ pub fn compared(
 fn difference(rt: &impl Print, expected: &[u8], got: &[u8], at: usize) -> io::Result<()>
     requires { (at ≤ length expected.now) × (at ≤ length got.now) }
 {
-    let l = line_of(expected, at);
-    let start = l.start;
-    let number = l.number;
+    let Line { start, number } = line_of(expected, at);
     print!(rt; " after {at} bytes, in line {number}: expected ")?;
     line(rt, expected, start)?;
     print!(rt; ", got ")?;
@@ -61,7 +58,6 @@ fn line(rt: &impl Print, s: &[u8], at: usize) -> io::Result<()>
 }
 
 // How many calls, or records, must be refused 4, with nothing changed, and how many were.
-pub fn tally(rt: &impl Print, name: &[u8], expected: u64, got: u64) -> io::Result<()> {
-    rt.write_all(name)?;
-    println!(rt; ": expected {expected} refused, got {got}")
+pub fn tally(rt: &impl Print, name: &str, expected: u64, got: u64) -> io::Result<()> {
+    println!(rt; "{name}: expected {expected} refused, got {got}")
 }

@@ -18,19 +18,17 @@ fn sound() -> Cache {
 
 // The calls on the sound record, and on it under the two other policies.
 pub fn none(rt: &impl Print) -> io::Result<()> {
-    report::tally(rt, b"as it is", 0, refuses::calls(sound()))?;
-    report::tally(rt, b"under FIFO", 0, refuses::calls(under(1)))?;
-    report::tally(rt, b"under LFU", 0, refuses::calls(under(2)))
+    report::tally(rt, "as it is", 0, refuses::calls(sound()))?;
+    report::tally(rt, "under FIFO", 0, refuses::calls(under(1)))?;
+    report::tally(rt, "under LFU", 0, refuses::calls(under(2)))
 }
 
 // The sound record under a policy.
 fn under(policy: u32) -> Cache {
     let c = sound();
-    let d = c.directory;
     Cache {
         sizes: records::with_options(c.sizes, policy, 0, 0, 0),
-        entries: [VACANT; 8],
-        directory: d,
+        ..c
     }
 }
 
@@ -45,29 +43,22 @@ pub fn entries(rt: &impl Print) -> io::Result<()> {
 }
 
 fn slots(rt: &impl Print) -> io::Result<()> {
-    each(rt, b"page 24, in slot 0, again", 1, 3, Entry::Slot(24), 2)?;
-    each(rt, b"page 0, valid in frame 0", 0, 3, Entry::Slot(0), 3)?;
-    each(rt, b"page N * K", 0, 3, Entry::Slot(32), 3)?;
-    each(rt, b"page vacant less 1", 0, 3, Entry::Slot(4294967294), 3)
+    each(rt, "page 24, in slot 0, again", 1, 3, Entry::Slot(24), 2)?;
+    each(rt, "page 0, valid in frame 0", 0, 3, Entry::Slot(0), 3)?;
+    each(rt, "page N * K", 0, 3, Entry::Slot(32), 3)?;
+    each(rt, "page vacant less 1", 0, 3, Entry::Slot(4294967294), 3)
 }
 
 fn frames(rt: &impl Print) -> io::Result<()> {
-    each(rt, b"block 0, in frame 0, again", 1, 2, Entry::Frame(0), 1)?;
-    each(rt, b"block 6, of pages in slots", 0, 2, Entry::Frame(6), 2)?;
-    each(rt, b"block N", 0, 2, Entry::Frame(8), 2)?;
+    each(rt, "block 0, in frame 0, again", 1, 2, Entry::Frame(0), 1)?;
+    each(rt, "block 6, of pages in slots", 0, 2, Entry::Frame(6), 2)?;
+    each(rt, "block N", 0, 2, Entry::Frame(8), 2)?;
+    each(rt, "vacant with valid pages", 0, 2, Entry::Frame(VACANT), 2)?;
+    each(rt, "no valid page", 0, 2, Entry::Valid(0), 2)?;
+    each(rt, "valid bit at K", 0, 2, Entry::Valid(17), 2)?;
     each(
         rt,
-        b"vacant with valid pages",
-        0,
-        2,
-        Entry::Frame(VACANT),
-        2,
-    )?;
-    each(rt, b"no valid page", 0, 2, Entry::Valid(0), 2)?;
-    each(rt, b"valid bit at K", 0, 2, Entry::Valid(17), 2)?;
-    each(
-        rt,
-        b"valid bit at 63",
+        "valid bit at 63",
         0,
         2,
         Entry::Valid(9223372036854775809),
@@ -76,24 +67,17 @@ fn frames(rt: &impl Print) -> io::Result<()> {
 }
 
 fn order(rt: &impl Print) -> io::Result<()> {
-    each(rt, b"frame 0 again in the order", 1, 2, Entry::Order(0), 1)?;
-    each(rt, b"frame B in the order", 0, 2, Entry::Order(2), 2)?;
-    each(rt, b"frame 255 in the order", 0, 2, Entry::Order(255), 2)
+    each(rt, "frame 0 again in the order", 1, 2, Entry::Order(0), 1)?;
+    each(rt, "frame B in the order", 0, 2, Entry::Order(2), 2)?;
+    each(rt, "frame 255 in the order", 0, 2, Entry::Order(255), 2)
 }
 
 fn uses(rt: &impl Print) -> io::Result<()> {
+    each(rt, "an occupied frame with no use", 0, 2, Entry::Uses(0), 2)?;
+    each(rt, "a use past B", 2, 8, Entry::Uses(1), 6)?;
     each(
         rt,
-        b"an occupied frame with no use",
-        0,
-        2,
-        Entry::Uses(0),
-        2,
-    )?;
-    each(rt, b"a use past B", 2, 8, Entry::Uses(1), 6)?;
-    each(
-        rt,
-        b"4294967295 uses past B",
+        "4294967295 uses past B",
         2,
         8,
         Entry::Uses(4294967295),
@@ -102,32 +86,32 @@ fn uses(rt: &impl Print) -> io::Result<()> {
 }
 
 fn past(rt: &impl Print) -> io::Result<()> {
-    each(rt, b"a page past P", 3, 128, Entry::Slot(30), 125)?;
-    each(rt, b"a block past B", 2, 8, Entry::Frame(5), 6)?;
-    each(rt, b"a valid page past B", 2, 8, Entry::Valid(1), 6)?;
-    each(rt, b"another frame past B", 2, 8, Entry::Order(0), 6)
+    each(rt, "a page past P", 3, 128, Entry::Slot(30), 125)?;
+    each(rt, "a block past B", 2, 8, Entry::Frame(5), 6)?;
+    each(rt, "a valid page past B", 2, 8, Entry::Valid(1), 6)?;
+    each(rt, "another frame past B", 2, 8, Entry::Order(0), 6)
 }
 
 // Each size short of its limit, and past it.
 pub fn sizes(rt: &impl Print) -> io::Result<()> {
-    sized(rt, b"page of 0 bytes", 0, 4, 8, 3, 2, 9)?;
-    sized(rt, b"page of 2049 bytes", 2049, 4, 8, 3, 2, 9)?;
-    sized(rt, b"block of 1 page", 1, 1, 8, 3, 2, 9)?;
-    sized(rt, b"block of 65 pages", 1, 65, 8, 3, 2, 9)?;
-    sized(rt, b"0 blocks", 1, 4, 0, 3, 2, 9)?;
-    sized(rt, b"4097 blocks", 1, 4, 4097, 3, 2, 9)?;
-    sized(rt, b"0 slots", 1, 4, 8, 0, 2, 9)?;
-    sized(rt, b"129 slots", 1, 4, 8, 129, 2, 9)?;
-    sized(rt, b"0 frames", 1, 4, 8, 3, 0, 9)?;
-    sized(rt, b"9 frames", 1, 4, 8, 3, 9, 9)?;
-    sized(rt, b"wear limit 0", 1, 4, 8, 3, 2, 0)?;
-    sized(rt, b"wear limit 1000001", 1, 4, 8, 3, 2, 1000001)
+    sized(rt, "page of 0 bytes", 0, 4, 8, 3, 2, 9)?;
+    sized(rt, "page of 2049 bytes", 2049, 4, 8, 3, 2, 9)?;
+    sized(rt, "block of 1 page", 1, 1, 8, 3, 2, 9)?;
+    sized(rt, "block of 65 pages", 1, 65, 8, 3, 2, 9)?;
+    sized(rt, "0 blocks", 1, 4, 0, 3, 2, 9)?;
+    sized(rt, "4097 blocks", 1, 4, 4097, 3, 2, 9)?;
+    sized(rt, "0 slots", 1, 4, 8, 0, 2, 9)?;
+    sized(rt, "129 slots", 1, 4, 8, 129, 2, 9)?;
+    sized(rt, "0 frames", 1, 4, 8, 3, 0, 9)?;
+    sized(rt, "9 frames", 1, 4, 8, 3, 9, 9)?;
+    sized(rt, "wear limit 0", 1, 4, 8, 3, 2, 0)?;
+    sized(rt, "wear limit 1000001", 1, 4, 8, 3, 2, 1000001)
 }
 
-// A vacant record of these sizes.
+// A vacant record of these sizes, which stand one by one so that a case is a line.
 fn sized(
     rt: &impl Print,
-    name: &[u8],
+    name: &str,
     s: u32,
     k: u32,
     n: u32,
@@ -140,20 +124,20 @@ fn sized(
 
 // A number that is no policy, and each other option.
 pub fn options(rt: &impl Print) -> io::Result<()> {
-    opted(rt, b"policy 3", 3, 0, 0, 0)?;
-    opted(rt, b"policy 4294967295", 4294967295, 0, 0, 0)?;
-    opted(rt, b"coded 1", 0, 1, 0, 0)?;
-    opted(rt, b"coded 2", 0, 2, 0, 0)?;
-    opted(rt, b"9 shelf pages", 0, 0, 9, 0)?;
-    opted(rt, b"4294967295 shelf pages", 0, 0, 4294967295, 0)?;
-    opted(rt, b"marked 2", 0, 0, 0, 2)?;
-    opted(rt, b"marked 4294967295", 0, 0, 0, 4294967295)
+    opted(rt, "policy 3", 3, 0, 0, 0)?;
+    opted(rt, "policy 4294967295", 4294967295, 0, 0, 0)?;
+    opted(rt, "coded 1", 0, 1, 0, 0)?;
+    opted(rt, "coded 2", 0, 2, 0, 0)?;
+    opted(rt, "9 shelf pages", 0, 0, 9, 0)?;
+    opted(rt, "4294967295 shelf pages", 0, 0, 4294967295, 0)?;
+    opted(rt, "marked 2", 0, 0, 0, 2)?;
+    opted(rt, "marked 4294967295", 0, 0, 0, 4294967295)
 }
 
 // A vacant record with these options.
 fn opted(
     rt: &impl Print,
-    name: &[u8],
+    name: &str,
     policy: u32,
     coded: u32,
     shelf_pages: u32,
@@ -168,70 +152,68 @@ fn opted(
 }
 
 // A vacant record of these sizes and options.
-fn vacant(rt: &impl Print, name: &[u8], s: Sizes) -> io::Result<()> {
+fn vacant(rt: &impl Print, name: &str, s: Sizes) -> io::Result<()> {
     let c = Cache {
         sizes: s,
         entries: [VACANT; 8],
         directory: Directory::vacant(),
     };
-    report::tally(rt, name, 1, refuses::every_call(c))
+    report::tally(rt, name, 1, u64::from(refuses::every_call(c)))
 }
 
 // Each shelf entry alone in use, without shelf pages and with 2 of them, where the first may be; and the first ones in use, as many as
 // there are shelf pages and more.
 fn shelf(rt: &impl Print) -> io::Result<()> {
-    report::tally(rt, b"page 0 on the shelf", 8, shelved(0, 0))?;
+    report::tally(rt, "page 0 on the shelf", 8, shelved(0, 0))?;
     report::tally(
         rt,
-        b"page vacant less 1 on the shelf",
+        "page vacant less 1 on the shelf",
         8,
         shelved(0, 4294967294),
     )?;
-    report::tally(rt, b"page 0 behind a vacant entry", 7, shelved(2, 0))?;
-    report::tally(rt, b"page 32 on a shelf of 2 pages", 8, shelved(2, 32))?;
+    report::tally(rt, "page 0 behind a vacant entry", 7, shelved(2, 0))?;
+    report::tally(rt, "page 32 on a shelf of 2 pages", 8, shelved(2, 32))?;
     report::tally(
         rt,
-        b"page vacant less 1 on a shelf of 2 pages",
+        "page vacant less 1 on a shelf of 2 pages",
         8,
         shelved(2, 4294967294),
     )?;
-    report::tally(rt, b"more entries than 2 shelf pages", 6, crowded(2))
+    report::tally(rt, "more entries than 2 shelf pages", 6, crowded(2))
 }
 
 // The sound record with so many shelf pages.
 fn with_shelf(pages: u32) -> Cache {
     let c = sound();
-    let d = c.directory;
     Cache {
         sizes: records::with_options(c.sizes, 0, 0, pages, 0),
-        entries: [VACANT; 8],
-        directory: d,
+        ..c
     }
 }
 
-// How many of the records with so many shelf pages, and page 0 in the first 1 to 8 entries, every call refuses.
+// How many of the records with so many shelf pages, and page 0 in the first 1 to 8 entries, every call refuses. By index, since the record
+// is handed on whole after each.
 fn crowded(pages: u32) -> u64 {
     let mut record = with_shelf(pages);
-    let mut count = 0u64;
-    let mut i = 0;
-    while i < 8 {
+    let mut count = 0;
+    for i in 0..8 {
         record.entries[i] = 0;
-        count = std::num::wrapping_add_u64(count, refuses::every_call(record));
-        i += 1;
+        if refuses::every_call(record) {
+            count += 1;
+        }
     }
     count
 }
 
-// How many of the records with so many shelf pages, and one shelf entry n, every call refuses.
+// How many of the records with so many shelf pages, and one shelf entry n, every call refuses; by index, since each record is made anew.
 fn shelved(pages: u32, n: u32) -> u64 {
-    let c = with_shelf(pages);
-    let mut count = 0u64;
-    let mut i = 0;
-    while i < 8 {
-        let mut record = c;
+    let mut count = 0;
+    for i in 0..8 {
+        let mut record = with_shelf(pages);
         record.entries[i] = n;
-        count = std::num::wrapping_add_u64(count, refuses::every_call(record));
-        i += 1;
+        if refuses::every_call(record) {
+            count += 1;
+        }
     }
     count
 }
@@ -239,7 +221,7 @@ fn shelved(pages: u32, n: u32) -> u64 {
 // The entries from one index to another, each alone replaced by x.
 fn each(
     rt: &impl Print,
-    name: &[u8],
+    name: &str,
     from: usize,
     to: usize,
     x: Entry,
@@ -248,21 +230,18 @@ fn each(
     report::tally(rt, name, expected, spoilt(from, to, x))
 }
 
-// How many of these records every call refuses.
+// How many of these records every call refuses. By index, since the list that has the entry is another for each kind of entry.
 fn spoilt(from: usize, to: usize, x: Entry) -> u64 {
     let c = sound();
-    let s = c.sizes;
-    let d = c.directory;
-    let mut count = 0u64;
-    let mut i = from;
-    while i < to {
+    let mut count = 0;
+    for i in from..to {
         let record = Cache {
-            sizes: s,
-            entries: [VACANT; 8],
-            directory: with(d, i, x),
+            directory: with(c.directory, i, x),
+            ..c
         };
-        count = std::num::wrapping_add_u64(count, refuses::every_call(record));
-        i += 1;
+        if refuses::every_call(record) {
+            count += 1;
+        }
     }
     count
 }

@@ -11,18 +11,13 @@ use Rattle.prelude.proofs.Tests.{by-test, each}
 use Rattle.model.specs.Sizes as model
 use Rattle.model.specs.Sizes.{sizes_ok}
 use Rattle.model.specs.Policy.{policy_choice}
-use Rattle.model.specs.Calls.{Fits}
 use Rattle.model.specs.Formats.{store_format}
 use Rattle.model.specs.Shelf.{ShelfStore}
 use Rattle.model.proofs.Shelf.{sizes-stay}
 use Rattle.model.proofs.Soundness.{limits_of}
-use Rattle.print.specs.Print.{line_room, wear_room}
+use Rattle.print.specs.Print.{wear_room}
 use Rattle.script.specs.Forms as form
 use Rattle.script.specs.Forms.{buffers_fit}
-use Rattle.script.specs.declared.Form.{Form}
-use Rattle.script.specs.declared.Form.TheVariants.{Open}
-use Rattle.script.specs.View.{meant}
-use Rattle.cache.specs.declared.Sizes.{Sizes}
 use Rattle.cache.specs.View.{sizes_of}
 use Rattle.store.specs.declared.Cache.{Cache}
 use Rattle.store.specs.View.{Lent, plain_lent, store_of}
@@ -35,19 +30,6 @@ use Rattle.interpret.specs.Lines.{carried, sizes_after}
 use Rattle.interpret.specs.View.{Held, PartsOf, front, Sized, InSizes, CarriedOut}
 
 -- ---- what a form asks of the buffers lent
-
-module _ (old : model.Sizes) (u : Lent) (page out : List ℕ) (f : Form) (l : InSizes (sizes_after old (meant f)) u page out) where
-  pub lent-open : (sizes : Sizes) → f ≡ Open sizes → (sizes_ok (sizes_of sizes) ≡ true → Fits store_format (sizes_of sizes) u.below
-      × ((sizes_of sizes).shelf_pages ≡ 0)) × (line_room ≤ length out)
-  lent-open sizes e =
-      let h : InSizes (sizes_after old (meant (Open sizes))) u page out = subst (λ (g : Form). InSizes (sizes_after old
-      (meant g)) u page out) e
-      l in
-      ((λ t. ((rw t at h.fits), (rw t at h.no-shelf))), let k = l.room in omega arith)
-
-  pub lent-page : (g : Form) → f ≡ g → sizes_after old (meant g) ≡ old → (length page ≡ old.S) × (line_room ≤ length out)
-  lent-page g e s =
-      (l.page-length ∙ ap (λ (h : Form). (sizes_after old (meant h)).S) e ∙ ap (λ (z : model.Sizes). z.S) s, let k = l.room in omega arith)
 
 -- ---- the sizes after a line
 

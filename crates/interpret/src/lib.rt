@@ -1,4 +1,5 @@
-// One line of a script, carried out on the program's store, and what it prints.
+// One line of a script, carried out on the program's store, and what it prints. The buffers are lent one by one, as the store's calls take
+// them: a struct would be taken apart again for each.
 #![tactic(auto)]
 
 mod memory; // memory.rt: the store's own buffers in the program's memory
@@ -60,16 +61,11 @@ fn sizes_after(old: Sizes, form: Form) -> Sizes
             }
             old
         }
-        Form::Write(_, _) => old,
-        Form::Read(_) => old,
-        Form::Step => old,
-        Form::Flush => old,
-        Form::Wear => old,
-        Form::Bad => old,
+        _ => old,
     }
 }
 
-// The same on the store's own buffers, in the sizes that it has afterwards.
+// The same on the store's own buffers, in the sizes that it has afterwards. A `match`, and no table: each form has other arguments.
 fn carry(
     c: Cache,
     form: Form,

@@ -4,8 +4,8 @@ ghost use Rattle.interpret.specs.View.{Held, PartsOf};
 
 use cache::Sizes;
 
-// The lengths of the four buffers and of the page buffer.
-#[derive(Clone, Copy)]
+// The lengths of the four buffers and of the page buffer. rehearsal has its own, and says why.
+#[derive(Clone, Copy, PartialEq, Eq, Debug)]
 pub struct Parts {
     pub flash: usize,
     pub wear: usize,

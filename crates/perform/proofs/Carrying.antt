@@ -12,11 +12,8 @@ use Rattle.answer.specs.Numbers.{read_of, write_of, step_of, flush_of}
 use Rattle.print.specs.Print.{Printed, line_room, wear_room, write_line, read_line, step_line, flush_line}
 use Rattle.print.proofs.Put.{printed-front, printed-as}
 use Rattle.store.specs.declared.Cache.{Cache}
-use Rattle.store.specs.declared.ReadOut.{ReadOut}
-use Rattle.store.specs.declared.WriteOut.{WriteOut}
-use Rattle.store.specs.declared.StepOut.{StepOut}
-use Rattle.store.specs.declared.FlushOut.{FlushOut}
-use Rattle.store.specs.View.{Lent, lent, plain_lent, store_of, read_result, write_result, step_result, flush_result}
+use Rattle.store.specs.View.{ReadOut, WriteOut, StepOut, FlushOut, Lent}
+use Rattle.store.specs.View.{lent, plain_lent, store_of, read_result, write_result, step_result, flush_result}
 use Rattle.perform.specs.declared.Lined.{Lined}
 use Rattle.perform.specs.Effects.{Effect, written, was_read, stepped, flushed}
 use Rattle.perform.specs.View.{Carries}

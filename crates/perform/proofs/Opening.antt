@@ -21,8 +21,7 @@ use Rattle.answer.specs.Numbers.{opening_of}
 use Rattle.print.specs.Print.{Printed, line_room, open_line}
 use Rattle.print.proofs.Put.{printed-as}
 use Rattle.store.specs.declared.Cache.{Cache}
-use Rattle.store.specs.declared.Opened.{Opened}
-use Rattle.store.specs.View.{Lent, plain_lent, opened_of, store_of}
+use Rattle.store.specs.View.{Opened, Lent, plain_lent, opened_of, store_of}
 use Rattle.store.proofs.Opening.{open_size, open_done_lem}
 use Rattle.perform.specs.Effects.{fresh, opened, only}
 use Rattle.perform.specs.View.{Carries}

@@ -1,4 +1,5 @@
-// Each form of a line carried out on the store's own buffers, and the line that it prints.
+// Each form of a line carried out on the store's own buffers, and the line that it prints. The buffers are lent one by one, as the store's
+// calls take them.
 #![tactic(auto)]
 
 pub mod memory; // memory.rt: what fills the memory lent before a call, and a first byte
@@ -18,7 +19,7 @@ use cache::Sizes;
 use store::Cache;
 
 // The record after a line, and how many bytes are printed.
-#[derive(Clone, Copy)]
+#[derive(Clone, Copy, PartialEq, Eq, Debug)]
 pub struct Lined {
     pub cache: Cache,
     pub printed: usize,
@@ -55,14 +56,11 @@ pub fn opened(
         return printed(c, print::put_open_refused(out, 0, 1));
     }
     memory::fill(flash, 255);
-    memory::clear(wear);
+    memory::fill(wear, 0);
     memory::fill(pspace, 0);
     memory::fill(bspace, 0);
-    let none = [0u8; 0];
-    let r = Cache::open(sizes, flash, &none, &none, wear, pspace, bspace, &none);
-    let next = r.cache;
-    let answer = r.answer;
-    printed(next, say::opening(out, answer))
+    let r = Cache::open(sizes, flash, &[], &[], wear, pspace, bspace, &[]);
+    printed(r.cache, say::opening(out, r.answer))
 }
 
 // (write n b): page n is filled with byte b.
@@ -83,19 +81,18 @@ pub fn written(
         Carries (written (store_of c u) n.0 b) result u' out.new }
 {
     memory::fill(page, b);
-    let mut codes = [0u8; 0];
-    let mut marks = [0u8; 0];
-    let mut shelf = [0u8; 0];
     let r = c.write(
-        flash, &mut codes, &mut marks, wear, pspace, bspace, &mut shelf, n, page,
+        flash,
+        &mut [],
+        &mut [],
+        wear,
+        pspace,
+        bspace,
+        &mut [],
+        n,
+        page,
     );
-    let next = r.cache;
-    let answer = r.answer;
-    let printed = say::write(out, n, answer);
-    Lined {
-        cache: next,
-        printed: printed,
-    }
+    printed(r.cache, say::write(out, n, r.answer))
 }
 
 // (read n)
@@ -114,16 +111,8 @@ pub fn was_read(
         Carries (was_read (store_of c u) n.0) result u out.new }
 {
     memory::fill(page, 0);
-    let none = [0u8; 0];
-    let r = c.read(flash, &none, &none, wear, pspace, bspace, &none, n, page);
-    let next = r.cache;
-    let answer = r.answer;
-    let byte = memory::first(page);
-    let printed = say::read(out, n, answer, byte);
-    Lined {
-        cache: next,
-        printed: printed,
-    }
+    let r = c.read(flash, &[], &[], wear, pspace, bspace, &[], n, page);
+    printed(r.cache, say::read(out, n, r.answer, memory::first(page)))
 }
 
 // (step)
@@ -140,17 +129,8 @@ pub fn stepped(
         let u' = plain_lent flash.new wear.new pspace.now bspace.new in
         Carries (stepped (store_of c u)) result u' out.new }
 {
-    let mut codes = [0u8; 0];
-    let mut marks = [0u8; 0];
-    let shelf = [0u8; 0];
-    let r = c.flush_step(flash, &mut codes, &mut marks, wear, pspace, bspace, &shelf);
-    let next = r.cache;
-    let answer = r.answer;
-    let printed = say::step(out, answer);
-    Lined {
-        cache: next,
-        printed: printed,
-    }
+    let r = c.flush_step(flash, &mut [], &mut [], wear, pspace, bspace, &[]);
+    printed(r.cache, say::step(out, r.answer))
 }
 
 // (flush)
@@ -167,15 +147,6 @@ pub fn flushed(
         let u' = plain_lent flash.new wear.new pspace.now bspace.new in
         Carries (flushed (store_of c u)) result u' out.new }
 {
-    let mut codes = [0u8; 0];
-    let mut marks = [0u8; 0];
-    let shelf = [0u8; 0];
-    let r = c.flush(flash, &mut codes, &mut marks, wear, pspace, bspace, &shelf);
-    let next = r.cache;
-    let answer = r.answer;
-    let printed = say::flush(out, answer);
-    Lined {
-        cache: next,
-        printed: printed,
-    }
+    let r = c.flush(flash, &mut [], &mut [], wear, pspace, bspace, &[]);
+    printed(r.cache, say::flush(out, r.answer))
 }

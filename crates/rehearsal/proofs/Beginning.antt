@@ -1,12 +1,11 @@
 -- Settings in their ranges, and the store as a rehearsal begins.
-use mathlib.Core.Path.{◌≡◌, refl, sym, ap, ◌∙◌}
+use mathlib.Core.Path.{◌≡◌, refl, ap, ◌∙◌}
 use mathlib.Core.Bool.{true}
 use mathlib.Core.List.{List}
 use Prim.Native.Nat.{ℕ, ◌≤◌}
 use native.Mathlib.Nat.{mul-le-mul}
 use native.Mathlib.Omega.{arith}
-use lib.ListN.{length, take, replicate, length-replicate}
-use lib.Seq.{length-take-le}
+use lib.ListN.{length, replicate}
 use borrow.Author.Tests.{leb-true}
 use Rattle.prelude.proofs.Tests.{and_l, and_r, each}
 use Rattle.model.specs.Sizes.{Sizes, InLimits, sizes_ok}
@@ -14,17 +13,12 @@ use Rattle.model.specs.Shelf.{ShelfStore, store_open}
 use Rattle.model.proofs.Soundness.{limits_of}
 use Rattle.model.proofs.Plain.{uncoded, unmarked}
 use Rattle.script.specs.Forms.{buffers_fit}
-use Rattle.store.specs.declared.Opened.{Opened}
-use Rattle.store.specs.View.{Lent, plain_lent, opened_of, store_of}
+use Rattle.store.specs.View.{Opened, Lent, plain_lent, opened_of, store_of}
 use Rattle.perform.specs.Effects.{fresh}
 use Rattle.perform.proofs.Opening.{NoneAsked, none-asked, fresh-is, opened-sizes}
 use Rattle.rehearsal.specs.declared.Setting.{Setting}
 use Rattle.rehearsal.specs.Class.{Scene, scene, store_sizes, setting_ok, class_ok, blank_class, opened_store, begun, rehearsed}
 use Rattle.rehearsal.specs.Ready.{Ready, Roomy, Lengths}
-
--- the first k bytes of n are k
-pub front_long : (k n : ℕ) → k ≤ n → k ≡ length (take k (replicate {A = ℕ} n 0))
-front_long k n h = let l = length-replicate {A = ℕ} n 0 in sym (length-take-le k (replicate {A = ℕ} n 0) (omega arith))
 
 module _ (z : Setting) (ok : setting_ok z ≡ true) where
   pub sizes-fit : sizes_ok (store_sizes z) ≡ true

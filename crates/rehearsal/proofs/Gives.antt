@@ -7,12 +7,9 @@ use Rattle.address.specs.declared.PageNo.{PageNo}
 use Rattle.model.specs.Policy.{policy_choice}
 use Rattle.model.specs.Calls.{Page, read, write}
 use Rattle.model.specs.Shelf.{plainly, ShelfStore, ShelfResult, store_call}
-use Rattle.store.specs.declared.ReadOut.{ReadOut}
-use Rattle.store.specs.declared.WriteOut.{WriteOut}
-use Rattle.store.specs.View.{Lent, lent, plain_lent, read_result, write_result}
+use Rattle.store.specs.View.{ReadOut, WriteOut, Lent, lent, plain_lent, read_result, write_result}
 use Rattle.perform.proofs.Carrying.{none_left}
 use Rattle.tally.specs.declared.Answered.TheVariants as answers
-use Rattle.turns.specs.declared.Call.{Call}
 use Rattle.turns.specs.declared.Call.TheVariants as asks
 use Rattle.rehearsal.specs.Class.{Gave, served, gave_of}
 
@@ -38,7 +35,3 @@ write-gives s n b long page flash codes marks wear pspace bspace shelf nc nm ns 
     ap (λ (w : Lent). gave_of (record { cache = r.cache; answered = answers.Write r.answer }) w)
     (sym (none_left flash codes marks wear pspace bspace shelf nc nm ns))
     ∙ ap part (e ∙ ap (λ (x : Page). store_call policy_choice s (plainly (write n.0 x))) f)
-
--- the same for any call
-pub call-gives : (s : ShelfStore) (long : ℕ) (g : Gave) (c d : Call) → c ≡ d → g ≡ served long s d → g ≡ served long s c
-call-gives s long g c d e h = h ∙ ap (served long s) (sym e)

@@ -1,12 +1,11 @@
 -- Request A13: a class rehearsed on the model's store, turn by turn.
-use Rattle.std.specs.Prelude.{Bool, cond, ◌&&◌, [], ◌∷◌, ℕ, zero, suc, ◌*◌, ◌%◌, leb, get_or, set, replicate}
+use Rattle.std.specs.Prelude.{Ok, Err, Bool, cond, ◌&&◌, [], ◌∷◌, ℕ, zero, suc, ◌*◌, ◌%◌, leb, get_or, set, replicate}
 use Rattle.prelude.specs.Tests.{every}
 use Rattle.model.specs.Sizes.{Sizes, plain_sizes, sizes_ok}
 use Rattle.model.specs.Policy.{policy_choice}
 use Rattle.model.specs.Calls as calls
 use Rattle.model.specs.Calls.{Answer, Page}
 use Rattle.model.specs.Shelf.{plainly, ShelfStore, store_open, store_call}
-use Rattle.answer.specs.declared.Opening.TheVariants as openings
 use Rattle.answer.specs.declared.Refusal.TheVariants as refusals
 use Rattle.script.specs.Forms.{buffers_fit}
 use Rattle.store.specs.View.{Lent, store_of}
@@ -115,5 +114,5 @@ begun z = scene (blank_class z.state) (opened_store (store_sizes z))
 -- a setting out of range is refused 1; else the tallies are those after all turns
 unfoldable pub rehearsal_of : Setting → Rehearsed
 rehearsal_of z = cond (setting_ok z)
-    (record { answer = openings.Done 0; tallies = (rehearsed z z.turns (begun z)).class.tallies })
-    (record { answer = openings.Refused refusals.Size; tallies = no_tallies })
+    (record { answer = Ok (record { torn = 0 }); tallies = (rehearsed z z.turns (begun z)).class.tallies })
+    (record { answer = Err refusals.Size; tallies = no_tallies })

@@ -1,5 +1,5 @@
 // The turns of a class, one after the other.
-ghost use Rattle.std.specs.Prelude.{◌≡◌, ◌%◌, ◌≤◌, ◌<◌, length};
+ghost use Rattle.std.specs.Prelude.{◌≡◌, ◌≤◌, ◌<◌, length};
 ghost use Rattle.cache.specs.View.{sizes_of};
 ghost use Rattle.store.specs.View.{plain_lent, store_of};
 ghost use Rattle.tally.specs.Count.{answer_of, May};
@@ -11,7 +11,7 @@ use store::Cache;
 use tally::{Answered, Tallies};
 
 // The generator's state, each bench's last page, and the tallies.
-#[derive(Clone, Copy)]
+#[derive(Clone, Copy, PartialEq, Eq, Debug)]
 pub(crate) struct Class {
     pub state: u32,
     pub last: [u32; 16],
@@ -19,7 +19,7 @@ pub(crate) struct Class {
 }
 
 // The class and the cache record after a turn.
-#[derive(Clone, Copy)]
+#[derive(Clone, Copy, PartialEq, Eq, Debug)]
 pub(crate) struct Seat {
     pub class: Class,
     pub cache: Cache,
@@ -40,19 +40,18 @@ pub(crate) fn run(
         let u' = plain_lent flash.new wear.new pspace.new bspace.new in
         scene_of result u' ≡ rehearsed z z.turns (scene (blank_class z.state) (store_of k u)) }
 {
-    let mut c = blank(z.state);
-    let mut e = k;
-    let mut t = 0;
-    while t < z.turns {
-        let s = turn(z, c, e, flash, wear, pspace, bspace, page, t);
-        c = s.class;
-        e = s.cache;
-        t += 1;
+    let mut s = Seat {
+        class: blank(z.state),
+        cache: k,
+    };
+    for t in 0..z.turns {
+        s = turn(z, s, flash, wear, pspace, bspace, page, t);
     }
-    Seat { class: c, cache: e }
+    s
 }
 
 // Before the first turn.
+#[tactic(auto, unfolding(crate::specs::Class::blank_class))]
 fn blank(state: u32) -> Class
     ensures { result ≡ blank_class state }
 {
@@ -66,8 +65,7 @@ fn blank(state: u32) -> Class
 // One turn: a call of bench t mod benches.
 fn turn(
     z: Setting,
-    c: Class,
-    k: Cache,
+    s: Seat,
     flash: &mut [u8],
     wear: &mut [u32],
     pspace: &mut [u8],
@@ -75,30 +73,18 @@ fn turn(
     page: &mut [u8],
     t: u32,
 ) -> Seat
-    requires { Ready z × Seated z c 1023 × ((sizes_of k.sizes).K ≤ 64) × (length page.old ≡ z.page_size) }
+    requires { Ready z × Seated z s.class 1023 × ((sizes_of s.cache.sizes).K ≤ 64) × (length page.old ≡ z.page_size) }
     ensures { let u = plain_lent flash.old wear.old pspace.old bspace.old in
         let u' = plain_lent flash.new wear.new pspace.new bspace.new in
-        scene_of result u' ≡ turned z t (scene c (store_of k u)) }
+        scene_of result u' ≡ turned z t (scene_of s u) }
 {
-    let b = bench_of(t, z.benches);
-    let last = c.last[b];
-    let rates = z.rates();
-    let u = turns::take(c.state, last, rates);
-    let call = u.call;
-    let s = serve::serve(k, flash, wear, pspace, bspace, page, call);
-    let answered = s.answered;
-    let class = seated(c, b, u.page, u.state, answered);
-    let cache = s.cache;
-    Seat { class, cache }
-}
-
-// The bench of turn t.
-fn bench_of(t: u32, benches: u32) -> usize
-    requires { (1 ≤ benches) × (benches ≤ 16) }
-    ensures { (result ≡ t % benches) × (result < 16) }
-{
-    let b = t % benches;
-    b as usize
+    let b = (t % z.benches) as usize;
+    let u = turns::take(s.class.state, s.class.last[b], z.rates());
+    let served = serve::serve(s.cache, flash, wear, pspace, bspace, page, u.call);
+    Seat {
+        class: seated(s.class, b, u.page, u.state, served.answered),
+        cache: served.cache,
+    }
 }
 
 // The class after a turn: the page is bench b's last page, refused or not, and the answer is counted.
@@ -106,13 +92,9 @@ fn seated(c: Class, b: usize, page: u32, state: u32, a: Answered) -> Class
     requires { (b < 16) × May c.tallies (answer_of a) }
     ensures { result ≡ seated_by c b page state (answer_of a) }
 {
-    let before = c.tallies;
-    let tallies = tally::after_call(before, a);
-    let mut last = c.last;
-    last[b] = page;
-    Class {
-        state,
-        last,
-        tallies,
-    }
+    let mut next = c;
+    next.state = state;
+    next.last[b] = page;
+    tally::bring_up_to_date(&mut next.tallies, a);
+    next
 }

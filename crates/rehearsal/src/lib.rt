@@ -1,4 +1,5 @@
-// Rehearsing a class (request A13): benches served in turn by the plain LRU store, opened as the script program opens it.
+// Rehearsing a class (request A13): benches served in turn by the plain LRU store, opened as the script program opens it. The store's
+// buffers are lent one by one, as its calls take them.
 #![tactic(auto)]
 
 mod course; // course.rt: the turns of a class
@@ -20,7 +21,7 @@ use turns::Rates;
 // The settings of a rehearsal: the store's sizes and wear limit; 1 to 16 benches, 0 to 1,024 turns, the rates of writes and of runs, 0 to
 // 256 each, and the generator's starting state.
 #[repr(C)]
-#[derive(Clone, Copy)]
+#[derive(Clone, Copy, PartialEq, Eq, Debug)]
 pub struct Setting {
     pub page_size: u32,
     pub pages_per_block: u32,
@@ -36,7 +37,7 @@ pub struct Setting {
 }
 
 impl Setting {
-    // The sizes of a plain store: LRU, and no option.
+    // The sizes of a plain store: LRU, and no option. Not `From`: a setting is more than its sizes.
     pub(crate) fn sizes(self) -> Sizes
         ensures { sizes_of result ≡ store_sizes self }
     {
@@ -67,17 +68,12 @@ impl Setting {
     }
 
     // Whether each setting is in its range, and no buffer needs more than 32,768 bytes.
+    #[tactic(auto, unfolding(crate::specs::Class::setting_ok))]
     fn ok(self) -> bool
         ensures { result ≡ setting_ok self }
     {
         let sizes = self.sizes();
-        if !sizes.ok() {
-            return false;
-        }
-        if !script::buffers_fit(sizes) {
-            return false;
-        }
-        self.class_ok()
+        sizes.ok() && script::buffers_fit(sizes) && self.class_ok()
     }
 
     // Whether the settings of the class are in their ranges.
@@ -93,9 +89,9 @@ impl Setting {
 }
 
 // What a rehearsal answers, and its tallies: all 0 where it is refused.
-#[derive(Clone, Copy)]
+#[derive(Clone, Copy, PartialEq, Eq, Debug)]
 pub struct Rehearsed {
-    pub answer: Opening,
+    pub answer: Result<Opening, Refusal>,
     pub tallies: Tallies,
 }
 
@@ -105,7 +101,7 @@ pub fn rehearse(z: Setting) -> Rehearsed
 {
     if !z.ok() {
         return Rehearsed {
-            answer: Opening::Refused(Refusal::Size),
+            answer: Err(Refusal::Size),
             tallies: tally::none(),
         };
     }
@@ -124,13 +120,14 @@ pub fn rehearse(z: Setting) -> Rehearsed
         &mut page[..p.page],
     );
     Rehearsed {
-        answer: Opening::Done { torn: 0 },
+        answer: Ok(Opening { torn: 0 }),
         tallies,
     }
 }
 
-// The lengths of the store's buffers and of the page buffer.
-#[derive(Clone, Copy)]
+// The lengths of the store's buffers and of the page buffer. As interpret's: one for both would ask for bounds in a record of its own,
+// which each would have to prove from what it has, and is no plainer.
+#[derive(Clone, Copy, PartialEq, Eq, Debug)]
 struct Parts {
     flash: usize,
     wear: usize,
@@ -139,10 +136,12 @@ struct Parts {
     page: usize,
 }
 
-// The lengths that the sizes ask for.
+// The lengths that the sizes ask for, which are within the memory of a rehearsal.
 fn lengths(z: Setting) -> Parts
     requires { Roomy (store_sizes z) }
-    ensures { Lengths (store_sizes z) result.flash result.wear result.pspace result.bspace result.page }
+    ensures within { (result.flash ≤ 32768) × (result.wear ≤ 4096) × (result.pspace ≤ 32768) × (result.bspace ≤ 32768)
+        × (result.page ≤ 2048) }
+    ensures asked { Lengths (store_sizes z) result.flash result.wear result.pspace result.bspace result.page }
 {
     let s = z.page_size as usize;
     let k = z.pages_per_block as usize;
@@ -173,14 +172,11 @@ fn held(
     ensures { result ≡ (rehearsed z z.turns (begun z)).class.tallies }
 {
     memory::fill(flash, 255);
-    memory::clear(wear);
+    memory::fill(wear, 0);
     memory::fill(pspace, 0);
     memory::fill(bspace, 0);
-    let none = [0u8; 0];
-    let sizes = z.sizes();
-    let r = Cache::open(sizes, flash, &none, &none, wear, pspace, bspace, &none);
-    let k = r.cache;
-    let s = course::run(z, k, flash, wear, pspace, bspace, page);
-    let class = s.class;
-    class.tallies
+    let opened = Cache::open(z.sizes(), flash, &[], &[], wear, pspace, bspace, &[]);
+    course::run(z, opened.cache, flash, wear, pspace, bspace, page)
+        .class
+        .tallies
 }

@@ -11,7 +11,7 @@ use tally::Answered;
 use turns::Call;
 
 // The record after a bench's call, and what the call was answered.
-#[derive(Clone, Copy)]
+#[derive(Clone, Copy, PartialEq, Eq, Debug)]
 pub(crate) struct Served {
     pub cache: Cache,
     pub answered: Answered,
@@ -53,13 +53,10 @@ fn serve_read(
         gave_of result u ≡ served (length page.old) (store_of c u) (asks.Read n) }
 {
     memory::fill(page, 0);
-    let none = [0u8; 0];
-    let r = c.read(flash, &none, &none, wear, pspace, bspace, &none, n, page);
-    let cache = r.cache;
-    let answer = r.answer;
+    let r = c.read(flash, &[], &[], wear, pspace, bspace, &[], n, page);
     Served {
-        cache,
-        answered: Answered::Read(answer),
+        cache: r.cache,
+        answered: Answered::Read(r.answer),
     }
 }
 
@@ -79,16 +76,19 @@ fn serve_write(
         gave_of result u' ≡ served (length page.old) (store_of c u) (asks.Write n byte) }
 {
     memory::fill(page, byte);
-    let mut codes = [0u8; 0];
-    let mut marks = [0u8; 0];
-    let mut shelf = [0u8; 0];
     let r = c.write(
-        flash, &mut codes, &mut marks, wear, pspace, bspace, &mut shelf, n, page,
+        flash,
+        &mut [],
+        &mut [],
+        wear,
+        pspace,
+        bspace,
+        &mut [],
+        n,
+        page,
     );
-    let cache = r.cache;
-    let answer = r.answer;
     Served {
-        cache,
-        answered: Answered::Write(answer),
+        cache: r.cache,
+        answered: Answered::Write(r.answer),
     }
 }

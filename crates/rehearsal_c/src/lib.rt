@@ -6,12 +6,13 @@ ghost use Rattle.rehearsal.specs.Class.{rehearsal_of};
 ghost use Rattle.rehearsal_c.specs.Numbers.{in_numbers};
 
 use rehearsal::Setting;
+use replies::Answer;
 use tally::Tallies;
 
 // `refusal` is 0, or 1 where a setting is out of range or a buffer would need over 32,768 bytes; all tallies are 0 then. Entry 0 of the
-// reads and of the writes is 0: no call of a rehearsal goes by way 0.
+// reads and of the writes is 0: no call of a rehearsal goes by way 0. A number and no `Result`, since C is handed it.
 #[repr(C)]
-#[derive(Clone, Copy)]
+#[derive(Clone, Copy, PartialEq, Eq, Debug)]
 pub struct Rehearsal {
     pub refusal: u32,
     pub tallies: Tallies,
@@ -23,11 +24,8 @@ pub extern "C" fn clash_rehearse(setting: Setting) -> Rehearsal
     ensures { result ≡ in_numbers (rehearsal_of setting) }
 {
     let r = rehearsal::rehearse(setting);
-    let answer = r.answer;
-    let tallies = r.tallies;
-    let said = replies::of_opening(answer);
     Rehearsal {
-        refusal: said.refusal,
-        tallies,
+        refusal: Answer::from(r.answer).refusal,
+        tallies: r.tallies,
     }
 }

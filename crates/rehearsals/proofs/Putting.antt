@@ -1,4 +1,5 @@
 -- The lines that are printed, as the pieces that are put one after the other.
+use Rattle.std.specs.Prelude.{Result, Ok, Err}
 use mathlib.Core.Path.{◌≡◌, refl, sym, ap, ◌∙◌}
 use mathlib.Core.Bool.{Bool, true, false, cond}
 use mathlib.Core.List.{List, [], ◌∷◌, ◌++◌, append_assoc, map}
@@ -11,7 +12,6 @@ use Rattle.print.specs.Text.{bytes, decimal, form, items}
 use Rattle.print.specs.Print.{line, field, refusal, spaced}
 use Rattle.print.proofs.Lines.{end, tails, whole}
 use Rattle.answer.specs.declared.Opening.{Opening}
-use Rattle.answer.specs.declared.Opening.TheVariants as openings
 use Rattle.answer.specs.declared.Refusal.{Refusal}
 use Rattle.answer.specs.declared.Refusal.TheVariants as refusals
 use Rattle.rehearsal.specs.declared.Setting.{Setting}
@@ -57,32 +57,35 @@ from_one n l h = take_all n (drop 1 l) (let e = length-drop 1 l in omega arith)
 
 -- ---- a rehearsal's line, by its answer
 
-abbrev is_done : Opening → Bool
-is_done (openings.Done torn) = true
-is_done (openings.Refused why) = false
+abbrev is_done : Result Opening Refusal → Bool
+is_done (Ok done) = true
+is_done (Err why) = false
+
+abbrev none_torn : Opening
+none_torn = record { torn = 0 }
 
 -- what a rehearsal answers
-answer-is : (z : Setting) → (rehearsal_of z).answer ≡ cond (setting_ok z) (openings.Done 0) (openings.Refused refusals.Size)
+answer-is : (z : Setting) → (rehearsal_of z).answer ≡ cond (setting_ok z) (Ok none_torn) (Err refusals.Size)
 unfolding rehearsal_of
 answer-is z = by-test (setting_ok z) (λ t. rw t) (λ t. rw t)
 
 -- done or not, by the test
-done-of : (b : Bool) (a : Opening) → cond b (openings.Done 0) (openings.Refused refusals.Size) ≡ a → b ≡ is_done a
+done-of : (b : Bool) (a : Result Opening Refusal) → cond b (Ok none_torn) (Err refusals.Size) ≡ a → b ≡ is_done a
 done-of true a w = ap is_done w
 done-of false a w = ap is_done w
 
-answered : (z : Setting) (r : Rehearsed) (a : Opening) → r ≡ rehearsal_of z → r.answer ≡ a → setting_ok z ≡ is_done a
+answered : (z : Setting) (r : Rehearsed) (a : Result Opening Refusal) → r ≡ rehearsal_of z → r.answer ≡ a → setting_ok z ≡ is_done a
 answered z r a e d =
-    let w : cond (setting_ok z) (openings.Done 0) (openings.Refused refusals.Size) ≡ a = sym (answer-is z)
+    let w : cond (setting_ok z) (Ok none_torn) (Err refusals.Size) ≡ a = sym (answer-is z)
     ∙ ap (λ (x : Rehearsed). x.answer) (sym e) ∙ d in
     done-of (setting_ok z) a w
 
-pub done-line : (z : Setting) (r : Rehearsed) (torn : ℕ) → r ≡ rehearsal_of z → r.answer ≡ openings.Done torn
+pub done-line : (z : Setting) (r : Rehearsed) (done : Opening) → r ≡ rehearsal_of z → r.answer ≡ Ok done
     → tally_line r.tallies ≡ rehearse_line z
 unfolding rehearse_line
-done-line z r torn e d = rw (answered z r (openings.Done torn) e d) (ap (λ (x : Rehearsed). tally_line x.tallies) e)
+done-line z r done e d = rw (answered z r (Ok done) e d) (ap (λ (x : Rehearsed). tally_line x.tallies) e)
 
-pub refused-line : (z : Setting) (r : Rehearsed) (why : Refusal) → r ≡ rehearsal_of z → r.answer ≡ openings.Refused why
+pub refused-line : (z : Setting) (r : Rehearsed) (why : Refusal) → r ≡ rehearsal_of z → r.answer ≡ Err why
     → line "rehearse" (refusal 1 ∷ []) ≡ rehearse_line z
 unfolding rehearse_line
-refused-line z r why e d = rw (answered z r (openings.Refused why) e d)
+refused-line z r why e d = rw (answered z r (Err why) e d)

@@ -1,10 +1,11 @@
 -- The line that a word and its numbers make.
+use Rattle.std.specs.Prelude.{None, Some}
 use mathlib.Core.Path.{◌≡◌, refl}
 use mathlib.Core.Bool.{true, false, ◌&&◌, and-false}
 use mathlib.Core.List.{List, ◌∷◌, map}
 use Prim.Native.Nat.{ℕ, ◌-◌, ◌≤◌, ◌<◌}
 use native.Mathlib.Omega.{arith}
-use lib.Dec.{eqb}
+use lib.Dec.{eqb, leb}
 use lib.ListN.{length, take, drop, get_or, length-map}
 use lib.Seq.{length-take-le, get_or-take}
 use borrow.Author.Tests.{eqb-true, ne_eqb, leb-false}
@@ -13,16 +14,15 @@ use Rattle.prelude.proofs.Tests.{by-test, and_r, and-not_l}
 use Rattle.print.specs.Text.{bytes}
 use Rattle.script.specs.declared.Numbers.{Numbers}
 use Rattle.script.specs.Forms.{words_of, is_number, value_of, same, bracketed}
-use Rattle.script.specs.Parts.{NumbersOf}
+use Rattle.script.specs.Parts.{AreNumbers}
 use Rattle.script.proofs.With.{inside_is}
-use Rattle.rehearsals.specs.declared.Line.TheVariants as says
 use Rattle.rehearsals.specs.Lines.{setting_from, line_with, line_of_words, line_of}
 
 -- ---- a word and its numbers
 
 -- as the code has them: a count, and eleven values of which so many count
 pub with-eleven : (w v : List ℕ) (count : ℕ) → length v ≡ 11 → count ≤ 11 → (same w (bytes "rehearse") && eqb count 11) ≡ true
-    → line_with w (take count v) ≡ says.Rehearse (setting_from v)
+    → line_with w (take count v) ≡ Some (setting_from v)
 unfolding line_with
 with-eleven w v count l h t =
     let e : count ≡ 11 = eqb-true count 11 (and_r (same w (bytes "rehearse")) (eqb count 11) t) in
@@ -45,26 +45,25 @@ with-eleven w v count l h t =
     ) refl
 
 pub with-other : (w v : List ℕ) (count : ℕ) → length v ≡ 11 → count ≤ 11 → (same w (bytes "rehearse") && eqb count 11) ≡ false
-    → line_with w (take count v) ≡ says.Bad
+    → line_with w (take count v) ≡ None
 unfolding line_with
 with-other w v count l h t = let long : length (take count v) ≡ count = length-take-le count v (omega arith) in rw (long, t) refl
 
-module _ (w : List ℕ) (ws : List (List ℕ)) (r : Numbers) (n : NumbersOf ws r) where
-  pub words_line : r.count ≤ 11 → line_of_words (w ∷ ws) ≡ line_with w (take r.count r.values)
-  unfolding line_of_words
-  words_line h = rw (n.eleven h, n.values h)
+pub words_line : (w : List ℕ) (ws : List (List ℕ)) (r : Numbers) → AreNumbers ws r → line_of_words (w ∷ ws) ≡ line_with w (take r.count r.values)
+unfolding line_of_words
+words_line w ws r n = rw (n.numbers, n.values)
 
-  pub words_bad : 11 < r.count → line_of_words (w ∷ ws) ≡ says.Bad
-  unfolding line_of_words line_with
-  words_bad h = by-test (every (map is_number ws))
-      (λ t. rw t (let l = leb-false (length ws) 11 (and-not_l t (n.more h)) in let m = length-map ws value_of in
-      rw (ne_eqb (length (map value_of ws)) 11 (λ e. omega arith), and-false (same w (bytes "rehearse"))) refl))
-      (λ t. rw t)
+pub words_bad : (w : List ℕ) (ws : List (List ℕ)) → (every (map is_number ws) && leb (length ws) 11) ≡ false → line_of_words (w ∷ ws) ≡ None
+unfolding line_of_words line_with
+words_bad w ws h = by-test (every (map is_number ws))
+    (λ t. rw t (let l = leb-false (length ws) 11 (and-not_l t h) in let m = length-map ws value_of in
+    rw (ne_eqb (length (map value_of ws)) 11 (λ e. omega arith), and-false (same w (bytes "rehearse"))) refl))
+    (λ t. rw t)
 
 -- ---- brackets
 
 module _ (l : List ℕ) where
-  pub bad-line : bracketed l ≡ false → line_of l ≡ says.Bad
+  pub bad-line : bracketed l ≡ false → line_of l ≡ None
   unfolding line_of
   bad-line e = rw e
 

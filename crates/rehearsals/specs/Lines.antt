@@ -1,5 +1,5 @@
 -- What a line asks for, and what is printed for it. Lines and numbers are as a script has them.
-use Rattle.std.specs.Prelude.{cond, ◌&&◌, List, [], ◌∷◌, ◌++◌, map, ℕ, ◌+◌, ltb, eqb, length, get_or, drop}
+use Rattle.std.specs.Prelude.{cond, ◌&&◌, Option, None, Some, List, [], ◌∷◌, ◌++◌, map, ℕ, ◌+◌, ltb, eqb, length, get_or, drop}
 use Rattle.prelude.specs.Tests.{every}
 use Rattle.print.specs.Text.{bytes, decimal, form}
 use Rattle.print.specs.Print.{line, field, refusal, bad_line}
@@ -7,8 +7,6 @@ use Rattle.script.specs.Forms.{lines_of, words_of, is_number, value_of, same, br
 use Rattle.tally.specs.declared.Tallies.{Tallies}
 use Rattle.rehearsal.specs.declared.Setting.{Setting}
 use Rattle.rehearsal.specs.Class.{setting_ok, rehearsal_of}
-use Rattle.rehearsals.specs.declared.Line.{Line}
-use Rattle.rehearsals.specs.declared.Line.TheVariants as says
 
 -- ---- (rehearse S K N P B W benches turns writerate runrate state)
 
@@ -27,18 +25,18 @@ setting_from ns = record {
   state = get_or ns 10 0;
 }
 
--- the word w with the numbers ns after it
-unfoldable pub line_with : List ℕ → List ℕ → Line
-line_with w ns = cond (same w (bytes "rehearse") && eqb (length ns) 11) (says.Rehearse (setting_from ns)) says.Bad
+-- what a line asks for, none where it is bad: the word w with the numbers ns after it
+unfoldable pub line_with : List ℕ → List ℕ → Option Setting
+line_with w ns = cond (same w (bytes "rehearse") && eqb (length ns) 11) (Some (setting_from ns)) None
 
 -- a word, and after it numbers alone
-unfoldable pub line_of_words : List (List ℕ) → Line
-line_of_words [] = says.Bad
-line_of_words (w ∷ ws) = cond (every (map is_number ws)) (line_with w (map value_of ws)) says.Bad
+unfoldable pub line_of_words : List (List ℕ) → Option Setting
+line_of_words [] = None
+line_of_words (w ∷ ws) = cond (every (map is_number ws)) (line_with w (map value_of ws)) None
 
 -- a line without its byte 10
-unfoldable pub line_of : List ℕ → Line
-line_of l = cond (bracketed l) (line_of_words (words_of (inside l))) says.Bad
+unfoldable pub line_of : List ℕ → Option Setting
+line_of l = cond (bracketed l) (line_of_words (words_of (inside l))) None
 
 -- ---- what is printed
 
@@ -53,9 +51,9 @@ unfoldable pub rehearse_line : Setting → List ℕ
 rehearse_line z = cond (setting_ok z) (tally_line (rehearsal_of z).tallies) (line "rehearse" (refusal 1 ∷ []))
 
 -- for the line of number i; any other line is bad
-abbrev pub printed_for : Line → ℕ → List ℕ
-printed_for (says.Rehearse z) i = rehearse_line z
-printed_for says.Bad i = bad_line i
+abbrev pub printed_for : Option Setting → ℕ → List ℕ
+printed_for (Some z) i = rehearse_line z
+printed_for None i = bad_line i
 
 -- for the lines ls, of which the first has number i
 unfoldable pub printed_by : ℕ → List (List ℕ) → List ℕ

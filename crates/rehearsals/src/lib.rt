@@ -1,4 +1,5 @@
-// Lines that ask for rehearsals, and what is printed for them.
+// Lines that ask for rehearsals, and what is printed for them: into a lent buffer and with no `Display`, since the clause `Printed` says
+// which bytes of it are what.
 #![tactic(auto)]
 
 mod parse; // parse.rt: what a line says
@@ -9,20 +10,11 @@ ghost use Rattle.script.specs.Parts.{up_to, end_of};
 ghost use Rattle.rehearsals.specs.Lines.{room, tally_line, rehearse_line, line_of, printed_for};
 ghost use Rattle.rehearsals.specs.Parts.{ways_put, sums_put, LineDone};
 
-use answer::Opening;
 use rehearsal::Setting;
 use tally::Tallies;
 
-// What a line says.
-#[derive(Clone, Copy)]
-pub enum Line {
-    Rehearse(Setting),
-    // Any other line.
-    Bad,
-}
-
 // The place of the next line, and how many bytes are printed.
-#[derive(Clone, Copy)]
+#[derive(Clone, Copy, PartialEq, Eq, Debug)]
 pub struct Done {
     pub next: usize,
     pub printed: usize,
@@ -42,14 +34,14 @@ pub fn line_at(script: &[u8], at: usize, number: u32, out: &mut [u8]) -> Done
     }
 }
 
-// The line that is printed for a line of this number.
-fn put_line(out: &mut [u8], line: Line, number: u32) -> usize
+// The line that is printed for a line of this number, which asks for a rehearsal or is bad.
+fn put_line(out: &mut [u8], line: Option<Setting>, number: u32) -> usize
     requires { room ≤ length out.old }
     ensures { Printed room (printed_for line number) out.old 0 out.new result }
 {
     match line {
-        Line::Rehearse(z) => put_rehearsal(out, z),
-        Line::Bad => print::put_bad(out, 0, number),
+        Some(z) => put_rehearsal(out, z),
+        None => print::put_bad(out, 0, number),
     }
 }
 
@@ -62,8 +54,8 @@ fn put_rehearsal(out: &mut [u8], z: Setting) -> usize
     let answer = r.answer;
     let tallies = r.tallies;
     match answer {
-        Opening::Done { .. } => put_tallies(out, tallies),
-        Opening::Refused(_) => {
+        Ok(_) => put_tallies(out, tallies),
+        Err(_) => {
             let next = print::put_bytes(out, 0, b"(rehearse");
             print::put_refused(out, next, 1)
         }

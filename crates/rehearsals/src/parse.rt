@@ -1,52 +1,48 @@
-// What a line says: (rehearse S K N P B W benches turns writerate runrate state), or nothing that is understood.
+// What a line says: (rehearse S K N P B W benches turns writerate runrate state), or none where it says anything else.
 ghost use Rattle.std.specs.Prelude.{◌≡◌, ◌≤◌, length, take};
 ghost use Rattle.script.specs.Forms.{words_of};
 ghost use Rattle.rehearsals.specs.Lines.{setting_from, line_with, line_of_words, line_of};
 
-use crate::Line;
 use rehearsal::Setting;
 use script::Numbers;
 
 // What a line says, which is lent without its byte 10.
-pub(crate) fn line_of(line: &[u8]) -> Line
+pub(crate) fn line_of(line: &[u8]) -> Option<Setting>
     ensures { result ≡ line_of line.now }
 {
     let n = line.len();
     if n < 2 {
-        return Line::Bad;
+        return None;
     }
     let last = n - 1;
     if (line[0] != b'(') | (line[last] != b')') {
-        return Line::Bad;
+        return None;
     }
     inside(&line[1..last])
 }
 
 // What stands between the brackets: a word, and after it numbers alone.
-fn inside(s: &[u8]) -> Line
+fn inside(s: &[u8]) -> Option<Setting>
     ensures { result ≡ line_of_words (words_of s.now) }
 {
     let e = script::end_of(s, 0, b' ');
-    let a = script::read_numbers(s, e);
-    if a.count > 11 {
-        return Line::Bad;
-    }
-    with(&s[..e], a)
+    let numbers = script::read_numbers(s, e)?;
+    with(&s[..e], numbers)
 }
 
 // The line of a word and its numbers.
-fn with(w: &[u8], a: Numbers) -> Line
+fn with(w: &[u8], a: Numbers) -> Option<Setting>
     requires { (a.count ≤ 11) × (length a.values ≡ 11) }
     ensures { result ≡ line_with w.now (take a.count a.values) }
 {
     let n = a.values;
     if script::is_word(w, b"rehearse") & (a.count == 11) {
-        return Line::Rehearse(setting(n));
+        return Some(setting(n));
     }
-    Line::Bad
+    None
 }
 
-// The settings, in the order of the numbers.
+// The settings, in the order of the numbers. Not `From`, which would have to stand in rehearsal, where no line is read.
 fn setting(n: [u32; 11]) -> Setting
     ensures { result ≡ setting_from n }
 {

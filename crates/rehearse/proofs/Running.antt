@@ -94,6 +94,3 @@ module _ (script : List ℕ) (at number done : ℕ) (out : List ℕ) (h : Runnin
           left = sym (drop_at this others r.printed long) ∙ ap (drop r.printed) split ∙ drop-drop r.printed done (output_of script);
           written = omega arith;
         }
-
-    pub falls : length script - r.next < length script - at
-    falls = let e = d.next-is in let g : at ≤ end_of 10 script at = omega arith in omega arith

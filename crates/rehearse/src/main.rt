@@ -32,6 +32,7 @@ fn run<W: Write>(to: &mut W, script: &[u8]) -> io::Result<usize>
     let mut at: usize = 0;
     let mut number: u32 = 1;
     let mut done: usize = 0;
+    // No `for`: where the next line starts only the line before it tells.
     while at < script.len() {
         let r = rehearsals::line_at(script, at, number, &mut out);
         let printed = r.printed;
@@ -43,7 +44,8 @@ fn run<W: Write>(to: &mut W, script: &[u8]) -> io::Result<usize>
     Ok(done)
 }
 
-// Writes the bytes that the script's output has next after the first `done`. Script and place are lent for the contract alone.
+// Writes the bytes that the script's output has next after the first `done`. Script and place are lent for the contract alone, which speaks
+// of this program's output, and that in clash of its own.
 fn put<W: Write>(to: &mut W, script: &[u8], done: usize, bytes: &[u8]) -> io::Result<()>
     requires { bytes.now ≡ take (length bytes.now) (drop done (output_of script.now)) }
     ensures ok { OnOk result (Appends (W.contents to.old) (W.contents to.new) bytes.now) }

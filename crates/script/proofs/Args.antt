@@ -2,8 +2,8 @@
 use mathlib.Core.Path.{◌≡◌, refl, sym, ap, ◌∙◌}
 use mathlib.Core.Logic.{◌⊎◌, inl, inr}
 use mathlib.Core.Bool.{true, false, ◌&&◌, and_assoc}
-use mathlib.Core.List.{List, [], ◌∷◌, ◌++◌, append_assoc, append-nil, map}
-use Prim.Native.Nat.{ℕ, ◌+◌, ◌≤◌, ◌<◌}
+use mathlib.Core.List.{List, [], ◌∷◌, ◌++◌, append_assoc, map}
+use Prim.Native.Nat.{ℕ, ◌+◌, ◌<◌}
 use native.Mathlib.Omega.{arith}
 use native.Mathlib.Numerals.{add-one}
 use lib.Dec.{leb}
@@ -13,8 +13,6 @@ use borrow.Author.Tests.{leb-true}
 use Rattle.prelude.specs.Tests.{every}
 use Rattle.prelude.proofs.Tests.{by-test, clash, and_l, and_r, and_i}
 use Rattle.script.specs.Forms.{is_number, value_of}
-use Rattle.script.specs.Parts.{NumbersOf}
-use Rattle.script.specs.declared.Numbers.{Numbers}
 
 -- of the words ws, all but `rest` are read: they are numbers, and values has them
 pub record ReadTo (ws rest : List (List ℕ)) (count : ℕ) (values : List ℕ) : Type 0 where
@@ -51,22 +49,6 @@ read_more {ws} {rest} {w} {count} {values} r h k = record {
       ∙ sym (take-suc-set values count (value_of w) k)
       ∙ ap (λ (n : ℕ). take n (set values count (value_of w))) (sym (add-one count));
 }
-
-pub read_all : {ws : List (List ℕ)} (r : Numbers) → length r.values ≡ 11 → ReadTo ws [] r.count r.values → r.count ≤ 11
-    → NumbersOf ws r
-read_all {ws} r l d h =
-    let e : ws ≡ d.front = d.split ∙ append-nil d.front in
-    record {
-      long = l;
-      eleven = λ _. ap (λ (l : List (List ℕ)). every (map is_number l)) e ∙ d.numbers;
-      values = λ _. ap (map value_of) e
-          ∙ d.taken;
-      more = λ k. absurd (omega arith);
-    }
-
-pub read_past : {ws : List (List ℕ)} (r : Numbers) → length r.values ≡ 11 → r.count ≡ 12
-    → (every (map is_number ws) && leb (length ws) 11) ≡ false → NumbersOf ws r
-read_past {ws} r l e h = record { long = l; eleven = λ k. absurd (omega arith); values = λ k. absurd (omega arith); more = λ _. h }
 
 pub read-stop : {ws rest : List (List ℕ)} {w : List ℕ} {count : ℕ} {values : List ℕ} → ReadTo ws (w ∷ rest) count values
     → (is_number w ≡ false) ⊎ (count ≡ 11)

@@ -1,5 +1,7 @@
 -- Laws of numbers in a line.
-use mathlib.Core.Path.{◌≡◌, refl}
+use Rattle.std.specs.Prelude.{None, Some}
+use Rattle.std.proofs.lemmas.Option.{none-some, cond_some}
+use mathlib.Core.Path.{◌≡◌, refl, sym, ◌∙◌}
 use mathlib.Core.Logic.{inl, inr}
 use mathlib.Core.Bool.{Bool, true, false, not, ◌&&◌, ◌||◌}
 use mathlib.Core.List.{List, [], ◌∷◌}
@@ -65,7 +67,7 @@ lead-good false false h = refl
 -- ---- what a number is
 
 module _ (w : List ℕ) where
-  pub none : (is_number w ≡ true → ⊥) → number_of w ≡ 4294967296
+  pub none : (is_number w ≡ true → ⊥) → number_of w ≡ None
   none h = by-test (is_number w) (λ e. absurd (h e)) (λ e. rw e)
 
   -- the tests of a number, as facts
@@ -94,12 +96,11 @@ module _ (w : List ℕ) where
       ∷ leb (value_of w) 4294967295 ∷ [])
       (le-leb 1 (length w) n.some, (all_of (length w) _ n.digit, (n.first, (le-leb (value_of w) 4294967295 n.small, tt))))
 
-  pub number_is : Number → number_of w ≡ value_of w
+  pub number_is : Number → number_of w ≡ Some (value_of w)
   number_is n = rw (number-test n)
 
-  pub number-some : number_of w ≤ 4294967295 → (is_number w ≡ true) × (number_of w ≡ value_of w)
-  number-some h = by-test (is_number w) (λ e. (e, rw e)) (λ e. let z : number_of w ≡ 4294967296 = rw e in absurd (omega arith))
+  pub number-some : (v : ℕ) → number_of w ≡ Some v → (is_number w ≡ true) × (value_of w ≡ v)
+  number-some v h = cond_some (is_number w) (value_of w) v h
 
-  pub number-high : 4294967295 < number_of w → is_number w ≡ false
-  number-high h = by-test (is_number w) (λ e. let n = number-facts e in let s = n.small in let i = number_is n in absurd (omega arith))
-      (λ e. e)
+  pub number-other : number_of w ≡ None → is_number w ≡ false
+  number-other h = by-test (is_number w) (λ e. absurd (none-some (value_of w) (sym h ∙ rw e))) (λ e. e)

@@ -1,5 +1,5 @@
 -- The form of a word and its numbers, from the numbers as the code has them: a count, and eleven values of which so many count.
-use mathlib.Core.Path.{◌≡◌, refl, sym, ap}
+use mathlib.Core.Path.{◌≡◌, refl, sym, ap, ◌∙◌}
 use mathlib.Core.Bool.{Bool, true, false, cond, not, ◌&&◌, ◌||◌, and-false}
 use mathlib.Core.List.{List, ◌∷◌, map}
 use Prim.Native.Nat.{ℕ, ◌-◌, ◌≤◌, ◌<◌}
@@ -7,13 +7,13 @@ use native.Mathlib.Omega.{arith}
 use lib.Dec.{leb, eqb}
 use lib.ListN.{length, take, drop, get_or, length-map}
 use lib.Seq.{length-take-le, get_or-take}
-use borrow.Author.Tests.{eqb-true, ne_eqb, leb-true, leb-false, le-leb, lt-leb}
+use borrow.Author.Tests.{eqb-true, ne_eqb, leb-false, le-leb, lt-leb}
 use Rattle.prelude.proofs.Tests.{by-test, and_l, and_r, and-not_l}
 use Rattle.prelude.specs.Tests.{every}
 use Rattle.print.specs.Text.{bytes}
 use Rattle.script.specs.Forms.{Form, writes, reads, steps, flushes, wears, bad, words_of, value_of, is_number, opening, same, sizes_from}
 use Rattle.script.specs.Forms.{form_with, form_of_words, bracketed, inside, form_of}
-use Rattle.script.specs.Parts.{NumbersOf}
+use Rattle.script.specs.Parts.{AreNumbers}
 use Rattle.script.specs.declared.Numbers.{Numbers}
 
 unfoldable pub form_from : List ℕ → ℕ → List ℕ → Form
@@ -130,19 +130,20 @@ form-more w ns h =
 
 -- ---- a word and the words after it
 
-module _ (w : List ℕ) (ws : List (List ℕ)) (r : Numbers) (n : NumbersOf ws r) where
-  pub words_form : r.count ≤ 6 → form_of_words (w ∷ ws) ≡ form_with w (take r.count r.values)
+module _ (w : List ℕ) (ws : List (List ℕ)) (r : Numbers) (n : AreNumbers ws r) where
+  pub words_form : form_of_words (w ∷ ws) ≡ form_with w (take r.count r.values)
   unfolding form_of_words
-  words_form h = rw (n.eleven (omega arith), n.values (omega arith))
+  words_form = rw (n.numbers, n.values)
 
-  pub words_bad : 6 < r.count → form_of_words (w ∷ ws) ≡ bad
-  unfolding form_of_words
-  words_bad h = by-test (every (map is_number ws))
-      (λ t. rw t (form-more w (map value_of ws) (let m = length-map ws value_of in by-test (leb r.count 11)
-      (λ e. let k = leb-true r.count 11 e in let q = ap length (n.values k) in
-      let z = n.long in let v = length-take-le r.count r.values (omega arith) in omega arith)
-      (λ e. let l = leb-false (length ws) 11 (and-not_l t (n.more (leb-false r.count 11 e))) in omega arith))))
-      (λ t. rw t)
+  pub words_many : 6 < r.count → form_of_words (w ∷ ws) ≡ bad
+  words_many h = words_form ∙ form-more w (take r.count r.values)
+      (let z = n.long in let k = n.eleven in let v = length-take-le r.count r.values (omega arith) in omega arith)
+
+pub words_bad : (w : List ℕ) (ws : List (List ℕ)) → (every (map is_number ws) && leb (length ws) 11) ≡ false → form_of_words (w ∷ ws) ≡ bad
+unfolding form_of_words
+words_bad w ws h = by-test (every (map is_number ws))
+    (λ t. rw t (form-more w (map value_of ws) (let m = length-map ws value_of in let l = leb-false (length ws) 11 (and-not_l t h) in omega arith)))
+    (λ t. rw t)
 
 -- ---- brackets
 

@@ -1,14 +1,15 @@
 -- Laws of pieces: up to a byte, and the words of a line one by one.
 use mathlib.Core.Path.{◌≡◌, refl, sym, ap, ◌∙◌}
-use mathlib.Core.Bool.{true, false, cond}
+use mathlib.Core.Bool.{Bool, true, false, cond, ◌&&◌}
 use mathlib.Core.List.{List, [], ◌∷◌}
 use Prim.Native.Nat.{ℕ, suc, ◌+◌, ◌-◌, ◌≤◌, ◌<◌}
 use native.Mathlib.Omega.{arith}
 use native.Mathlib.Numerals.{add-one}
 use lib.Dec.{eqb, ltb}
+use lib.Pointwise.{pointwise}
 use lib.ListN.{length, take, drop, get_or, length-drop, drop_of_length-le}
 use lib.Seq.{drop-cons, drop-drop}
-use borrow.Author.Tests.{eq-eqb, ne_eqb, lt-ltb, le-ltb, ltb-true, ltb-false}
+use borrow.Author.Tests.{lt-ltb, le-ltb, ltb-true, ltb-false}
 use Rattle.prelude.proofs.Tests.{by-test}
 use Rattle.script.specs.Forms.{longer, pieces, lines_of, words_of, same}
 use Rattle.script.specs.Parts.{up_to, end_of, words_after}
@@ -121,9 +122,6 @@ first_word l = let e : end_of 32 l 0 ≡ length (up_to 32 l) = omega arith in rw
 pub next_word : (l : List ℕ) (e : ℕ) → e < length l → words_after l e ≡ up_to 32 (drop (e + 1) l) ∷ words_after l (end_of 32 l (e + 1))
 next_word l e h = rw (lt-ltb e (length l) h) (words_from l (e + 1))
 
-pub after_none : (l : List ℕ) (e : ℕ) → length l ≤ e → words_after l e ≡ []
-after_none l e h = rw (le-ltb e (length l) h)
-
 -- ---- lines one by one
 
 pub lines_none : (l : List ℕ) (at : ℕ) → length l ≤ at → lines_of (drop at l) ≡ []
@@ -144,22 +142,9 @@ lines_from l at h =
 
 -- ---- words that are the same
 
-pub same-long : (w v : List ℕ) → (length w ≡ length v → ⊥) → same w v ≡ false
+pub same_is : (w v : List ℕ) → pointwise eqb w v ≡ same w v
 unfolding same
-same-long [] [] h = absurd (h refl)
-same-long [] (y ∷ v) h = refl
-same-long (x ∷ w) [] h = refl
-same-long (x ∷ w) (y ∷ v) h = by-test (eqb x y) (λ t. rw t (same-long w v (λ e. h (ap suc e)))) (λ t. rw t)
-
-module _ (w v : List ℕ) (i : ℕ) (h : i < length w) (k : i < length v) where
-  pub same-hit : get_or w i 0 ≡ get_or v i 0 → same (drop i w) (drop i v) ≡ same (drop (i + 1) w) (drop (i + 1) v)
-  unfolding same
-  same-hit e = rw (drop-cons w i 0 h, drop-cons v i 0 k, add-one, eq-eqb (get_or w i 0) (get_or v i 0) e)
-
-  pub same-miss : (get_or w i 0 ≡ get_or v i 0 → ⊥) → same (drop i w) (drop i v) ≡ false
-  unfolding same
-  same-miss e = rw (drop-cons w i 0 h, drop-cons v i 0 k, ne_eqb (get_or w i 0) (get_or v i 0) e)
-
-pub same_end : (w v : List ℕ) (i : ℕ) → length w ≤ i → length v ≤ i → same (drop i w) (drop i v) ≡ true
-unfolding same
-same_end w v i h k = rw (drop_of_length-le w h, drop_of_length-le v k)
+same_is [] [] = refl
+same_is [] (y ∷ v) = refl
+same_is (x ∷ w) [] = refl
+same_is (x ∷ w) (y ∷ v) = ap (λ (b : Bool). eqb x y && b) (same_is w v)

@@ -13,11 +13,8 @@ ghost use Rattle.script.specs.Parts.{end_of, number_of, words_after, NumbersOf};
 use address::PageNo;
 use cache::Sizes;
 
-// What stands for a number where there is none: one more than the largest.
-const NONE: u64 = 4294967296;
-
-// What a line of a script says.
-#[derive(Clone, Copy)]
+// What a line of a script says. A line that is no form is answered too, with its number: so it is a case of its own, and no error.
+#[derive(Clone, Copy, PartialEq, Eq, Debug)]
 pub enum Form {
     Open(Sizes),
     Write(PageNo, u8),
@@ -29,8 +26,8 @@ pub enum Form {
     Bad,
 }
 
-// The numbers after a line's word: at most eleven, and a count of 12 for anything else.
-#[derive(Clone, Copy)]
+// The numbers after a line's word, at most eleven: an array with a count, since the program has no heap.
+#[derive(Clone, Copy, PartialEq, Eq, Debug)]
 pub struct Numbers {
     pub count: usize,
     pub values: [u32; 11],
@@ -56,11 +53,13 @@ fn form_of(s: &[u8]) -> Form
     ensures { meant result ≡ form_of_words (words_of s.now) }
 {
     let e = end_of(s, 0, b' ');
-    let a = read_numbers(s, e);
-    if a.count > 6 {
+    let Some(numbers) = read_numbers(s, e) else {
+        return Form::Bad;
+    };
+    if numbers.count > 6 {
         return Form::Bad;
     }
-    form_with(&s[..e], a)
+    form_with(&s[..e], numbers)
 }
 
 // The form of a word and its numbers.
@@ -146,8 +145,9 @@ pub fn buffers_fit(sizes: Sizes) -> bool
         & (4 * sizes.blocks <= 32768)
 }
 
-// The numbers after the word that ends at `from`, each after one space.
-pub fn read_numbers(s: &[u8], from: usize) -> Numbers
+// The numbers after the word that ends at `from`, each after one space: none where something else stands there, or more than eleven. A turn
+// goes over a word, and not over an index.
+pub fn read_numbers(s: &[u8], from: usize) -> Option<Numbers>
     requires { from ≤ length s.now }
     ensures { NumbersOf (words_after s.now from) result }
 {
@@ -156,85 +156,58 @@ pub fn read_numbers(s: &[u8], from: usize) -> Numbers
     let mut at = from;
     while at < s.len() {
         if count == 11 {
-            return Numbers { count: 12, values };
+            return None;
         }
         let a = at + 1;
         let e = end_of(s, a, b' ');
-        let value = number(&s[a..e]);
-        if value >= NONE {
-            return Numbers { count: 12, values };
-        }
-        values[count] = value as u32;
+        values[count] = number(&s[a..e])?;
         count += 1;
         at = e;
     }
-    Numbers { count, values }
+    Some(Numbers { count, values })
 }
 
-// The number that a word says, without leading zeros: NONE for any other word. It stops where the number passes 32 bits, so
-// that no sum wraps.
-fn number(w: &[u8]) -> u64
+// The number that a word says, without leading zeros: none for any other word. It stops where the number passes 32 bits, so that no sum
+// wraps.
+fn number(w: &[u8]) -> Option<u32>
     ensures { result ≡ number_of w.now }
 {
     let n = w.len();
     if n == 0 {
-        return NONE; // two spaces in a row, or one before the bracket
+        return None; // two spaces in a row, or one before the bracket
     }
     if (w[0] == b'0') & (n != 1) {
-        return NONE;
+        return None;
     }
     let mut v: u64 = 0;
-    let mut i = 0;
-    while i < n {
-        let x = w[i];
+    for &x in w {
         if (x < b'0') | (b'9' < x) {
-            return NONE;
+            return None;
         }
-        v = v * 10 + wide(x - b'0');
+        v = v * 10 + u64::from(x - b'0');
         if v > 4294967295 {
-            return NONE;
+            return None;
         }
-        i += 1;
     }
-    v
+    Some(v as u32)
 }
 
-// x as a number of 64 bits.
-fn wide(x: u8) -> u64
-    ensures { result ≡ x }
-{
-    x as u64
-}
-
-// The place of the first byte b from `at` on: the end where there is none.
+// The place of the first byte b from `at` on: the end where there is none. No option, since each caller takes what stands before it.
 pub fn end_of(s: &[u8], at: usize, b: u8) -> usize
     requires { at ≤ length s.now }
     ensures { result ≡ end_of b s.now at }
 {
-    let mut i = at;
-    while i < s.len() {
+    for i in at..s.len() {
         if s[i] == b {
             return i;
         }
-        i += 1;
     }
-    i
+    s.len()
 }
 
 // Whether w and word are the same bytes.
 pub fn is_word(w: &[u8], word: &[u8]) -> bool
     ensures { result ≡ same w.now word.now }
 {
-    let n = w.len();
-    if n != word.len() {
-        return false;
-    }
-    let mut i = 0;
-    while i < n {
-        if w[i] != word[i] {
-            return false;
-        }
-        i += 1;
-    }
-    true
+    w == word
 }

@@ -1,6 +1,6 @@
 -- A walk's start, and a line of it: what is printed and what is left to print stays the program's output.
 use mathlib.Core.Path.{◌≡◌, refl, sym, ap, ◌∙◌, subst}
-use mathlib.Core.Bool.{Bool, true, false, ◌&&◌}
+use mathlib.Core.Bool.{Bool, ◌&&◌}
 use mathlib.Core.List.{List, [], ◌++◌, append-nil, append_assoc}
 use Prim.Native.Nat.{ℕ, ◌+◌, ◌-◌, ◌≤◌, ◌<◌}
 use native.Mathlib.Omega.{arith}
@@ -8,8 +8,8 @@ use lib.Dec.{leb, ltb}
 use lib.ListN.{length, take, drop, length-drop}
 use lib.Seq.{length-take-le, take-append-add, take-append-le, take_at}
 use borrow.Rule.Slice.PartMut.{mid_of, post_of, put_mid, same_len_mid}
-use borrow.Author.Tests.{ltb-true, ltb-false, leb-true, lt-ltb, le-leb}
-use Rattle.prelude.proofs.Tests.{by-test, and_l, and_r, and_i, clash}
+use borrow.Author.Tests.{ltb-true, ltb-false}
+use Rattle.prelude.proofs.Tests.{by-test}
 use Rattle.model.specs.Directory.{blank_cache}
 use Rattle.model.specs.Directory as directory
 use Rattle.model.specs.Shelf.{no_entries, ShelfStore}
@@ -41,16 +41,6 @@ rest-none script s at i h = ap (printed_by s i) (lines_none script at h)
 module _ (script : List ℕ) (w : Walk) (out : List ℕ) where
   abbrev test : Bool
   test = ltb w.at (length script) && leb 45063 (length out - w.printed)
-
-  pub more-true : w.printed ≤ length out → test ≡ true → More script w out
-  more-true h t =
-      let a = ltb-true w.at (length script) (and_l (ltb w.at (length script)) (leb 45063 (length out - w.printed)) t) in
-      let b = leb-true 45063 (length out - w.printed) (and_r (ltb w.at (length script)) (leb 45063 (length out - w.printed)) t) in
-      record { line = a; room = omega arith }
-
-  pub more-false : test ≡ false → More script w out → ⊥
-  more-false t m = clash (and_i (lt-ltb w.at (length script) m.line)
-      (le-leb 45063 (length out - w.printed) (let r = m.room in omega arith))) t
 
 -- ---- several lines
 

@@ -1,4 +1,5 @@
-// A whole script: its lines carried out one after the other, and its output printed into a lent buffer.
+// A whole script: its lines carried out one after the other, and its output printed into a lent buffer. The store's buffers are lent one by
+// one, as the store's calls take them.
 #![tactic(auto)]
 
 ghost use Rattle.std.specs.Prelude.{◌≤◌, ◌<◌, length};
@@ -8,14 +9,13 @@ ghost use Rattle.interpret.specs.Lines.{output_of};
 ghost use Rattle.interpret.specs.View.{Memory};
 ghost use Rattle.walk.specs.Walk.{Ready, More, Started, Onward, Output};
 
-use script::reader::Item;
 use store::Cache;
 
 // Room for any line: the wear of 4,096 blocks takes the most.
 pub const LINE_ROOM: usize = 45063;
 
 // The record after the lines so far, the place and the number of the next line, and how many bytes are printed.
-#[derive(Clone, Copy)]
+#[derive(Clone, Copy, PartialEq, Eq, Debug)]
 pub struct Walk {
     pub cache: Cache,
     pub at: usize,
@@ -66,6 +66,7 @@ pub fn run(
     ensures ended { More script.now result out.new → ⊥ }
 {
     let mut r = w;
+    // No `for`: where the next line starts, and how much room is left, only the line before it tells.
     while (r.at < script.len()) & (LINE_ROOM <= out.len() - r.printed) {
         r = advance(script, r, flash, wear, pspace, bspace, page, out);
     }
@@ -93,15 +94,15 @@ fn advance(
 {
     let at = w.at;
     let number = w.number;
-    let item = script::reader::form_at(script, at, number);
-    let Item::Line { form, line, next } = item else {
+    let Some(item) = script::reader::form_at(script, at, number) else {
         return w;
     };
+    let line = item.line;
     let c = w.cache;
     let printed = w.printed;
     let r = interpret::line(
         c,
-        form,
+        item.form,
         line,
         flash,
         wear,
@@ -113,7 +114,7 @@ fn advance(
     let cache = r.cache;
     Walk {
         cache,
-        at: next,
+        at: item.next,
         number: line + 1,
         printed: printed + r.printed,
     }

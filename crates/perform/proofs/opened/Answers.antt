@@ -17,5 +17,5 @@ returns c =
     let none : 0 ≡ a.sizes.shelf_pages * a.sizes.page_size = no-pages _ _ (c.requires.0 ok).1 in
     rw c.printed-2.ensures (open_carries _ _ _ _ _ _ (fits.codes-length, fits.marks-length, none) ok
     (fresh-is _ (plain_lent a.flash.now a.wear.now a.pspace.now a.bspace.now) fits _ _ _ _
-    c.fill.ensures c.clear.ensures c.fill-2.ensures c.fill-3.ensures)
+    c.fill.ensures c.fill-2.ensures c.fill-3.ensures c.fill-4.ensures)
     c.open-r.result c.open-r.ensures c.opening.ensures)

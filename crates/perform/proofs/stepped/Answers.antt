@@ -5,5 +5,5 @@ use Rattle.perform.proofs.stepped.Goals as goal
 
 pub returns : goal.returns
 returns c =
-    step-carries _ _ _ (none_left _ _ _ _ _ _ _ (search rules) (search rules) refl) _ _ _
-    c.flush_step-r.result c.flush_step-r.ensures c.step-printed.ensures
+    rw c.printed.ensures (step-carries _ _ _ (none_left _ _ _ _ _ _ _ (search rules) (search rules) refl) _ _ _
+    c.flush_step-r.result c.flush_step-r.ensures c.step.ensures)

@@ -5,7 +5,8 @@ use lib.ListN.{take, drop}
 use Rattle.script.specs.Parts.{up_to}
 use Rattle.script.proofs.Words.{end-le, piece_is}
 use Rattle.print.proofs.Put.{printed-front}
-use Rattle.rehearsals.specs.declared.Line.{Line}
+use Rattle.std.specs.Prelude.{Option}
+use Rattle.rehearsal.specs.declared.Setting.{Setting}
 use Rattle.rehearsals.specs.Lines.{line_of, printed_for}
 use Rattle.rehearsals.proofs.line_at.Goals as goal
 
@@ -25,6 +26,6 @@ returns c =
     ∙ ap line_of (ap (λ (k : ℕ). take (k - a) (drop a s)) e ∙ piece_is 10 s a) in
     record {
       next-is = ap (λ (k : ℕ). k + 1) e;
-      printed-is = printed-front {at = 0} (omega arith) p ∙ ap (λ (x : Line). printed_for x c.args.number) l;
+      printed-is = printed-front {at = 0} (omega arith) p ∙ ap (λ (x : Option Setting). printed_for x c.args.number) l;
       within = let w = p.within in omega arith;
     }

@@ -1,5 +1,6 @@
-use mathlib.Core.Path.{◌≡◌, sym, ap, ◌∙◌}
 use mathlib.Core.Bool.{true}
+use mathlib.Core.Path.{◌≡◌, sym, ap, ◌∙◌}
+use Rattle.std.specs.Prelude.{Some}
 use Prim.Native.Nat.{ℕ, ◌+◌, ◌-◌, ◌*◌}
 use native.Mathlib.Omega.{arith}
 use lib.Dec.{eqb}
@@ -22,45 +23,39 @@ returns-then-w-n c =
 pub returns-then-x : goal.returns-then-x
 returns-then-x c =
     let w = c.args.w.now in
-    sym (none w (λ e. digit-out (get_or w c.loop-i.i 0) c.if-x.true
-    ((number-facts w e).digit c.loop-i.i c.loop-i-test.true)))
+    sym (none w (λ e. digit-out (get_or w c.loop-x.x-index 0) c.if-x.true
+    ((number-facts w e).digit c.loop-x.x-index c.loop-x-test.true)))
 
 pub returns-then-v-gt4294967295 : goal.returns-then-v-gt4294967295
 returns-then-v-gt4294967295 c =
     let w = c.args.w.now in
-    let v = c.loop-i.v * 10 + (get_or w c.loop-i.i 0 - 48) in
-    let e = c.wide.ensures in
-    let m : value_of w ≡ value_from v (drop (c.loop-i.i + 1) w) = c.loop-i.invariant.1.1.0
-    ∙ value-more c.loop-i.v w c.loop-i.i c.loop-i-test.true in
-    let l = value-le v (drop (c.loop-i.i + 1) w) in
+    let v = c.loop-x.v * 10 + (get_or w c.loop-x.x-index 0 - 48) in
+    let e = c.from.ensures in
+    let m : value_of w ≡ value_from v (drop (c.loop-x.x-index + 1) w) = c.loop-x.invariant.1
+    ∙ value-more c.loop-x.v w c.loop-x.x-index c.loop-x-test.true in
+    let l = value-le v (drop (c.loop-x.x-index + 1) w) in
     sym (none w (λ n. let s = (number-facts w n).small in omega arith))
 
-pub loop-i-preserved : goal.loop-i-preserved
-loop-i-preserved c =
+pub loop-x-preserved : goal.loop-x-preserved
+loop-x-preserved c =
     let w = c.args.w.now in
-    let x = get_or w c.loop-i.i 0 in
+    let x = get_or w c.loop-x.x-index 0 in
     let d = digit-in x c.if-x.false in
-    let e : c.loop-i.v * 10 + (x - 48) ≡ c.loop-i.v * 10 + c.wide.result = ap (λ (k : ℕ). c.loop-i.v * 10 + k)
-    (sym c.wide.ensures) in (
+    let e : c.loop-x.v * 10 + (x - 48) ≡ c.loop-x.v * 10 + c.from.result = ap (λ (k : ℕ). c.loop-x.v * 10 + k) (sym c.from.ensures) in (
       omega arith,
-      (
-        omega arith,
-        (
-          c.loop-i.invariant.1.1.0 ∙ value-more c.loop-i.v w c.loop-i.i c.loop-i-test.true
-              ∙ ap (λ (k : ℕ). value_from k (drop (c.loop-i.i + 1) w)) e,
-          below_more (λ (j : ℕ). is_digit (get_or w j 0) ≡ true) c.loop-i.i c.loop-i.invariant.1.1.1 (digit-is x d.0 d.1),
-        ),
-      ),
+      c.loop-x.invariant.1 ∙ value-more c.loop-x.v w c.loop-x.x-index c.loop-x-test.true
+          ∙ ap (λ (k : ℕ). value_from k (drop (c.loop-x.x-index + 1) w)) e,
+      below_more (λ (j : ℕ). is_digit (get_or w j 0) ≡ true) c.loop-x.x-index c.loop-x.invariant.2 (digit-is x d.0 d.1),
     )
 
 pub returns : goal.returns
 returns c =
     let w = c.args.w.now in
-    let m : value_of w ≡ c.loop-i.v = c.loop-i.invariant.1.1.0 ∙ value-end c.loop-i.v w c.loop-i.i c.loop-i-test.false in
+    let m : value_of w ≡ c.loop-x.v = c.loop-x.invariant.1 ∙ value-end c.loop-x.v w c.loop-x.x-index c.loop-x-test.false in
     let n : Number w = record {
       some = omega arith;
-      digit = λ j h. c.loop-i.invariant.1.1.1 j (omega arith);
+      digit = λ j h. c.loop-x.invariant.2 j (omega arith);
       first = lead-good (eqb (get_or w 0 0) 48) (eqb (length w) 1) c.if-w-n.false;
       small = omega arith;
     } in
-    sym (number_is w n ∙ m)
+    sym (number_is w n ∙ ap Some m)

@@ -9,14 +9,14 @@ use Rattle.walk.proofs.advance.Goals as goal
 
 pub returns-in_default-clause-advances : goal.returns-in_default-clause-advances
 returns-in_default-clause-advances c =
-    let s = subst (Stands _ _ _) (sym c.form_at-item.ensures ∙ ap item_of c.in_default.is)
+    let s = subst (Stands _ _ _) (sym c.form_at.ensures ∙ ap item_of c.in_default.is)
     (item_stands c.args.script.now c.args.w.at c.args.w.number) in
     let m = c.requires.more.line in
     absurd (omega arith)
 
 pub line-r-requires : goal.line-r-requires
 line-r-requires c =
-    let s = subst (Stands _ _ _) (sym c.form_at-item.ensures ∙ ap item_of c.in-Line.is)
+    let s = subst (Stands _ _ _) (sym c.form_at.ensures ∙ ap item_of c.in-Some.is)
     (item_stands c.args.script.now c.args.w.at c.args.w.number) in
     record {
       memory = c.requires.memory;
@@ -27,7 +27,7 @@ line-r-requires c =
 
 pub overflow_add-result : goal.overflow_add-result
 overflow_add-result c =
-    let s = subst (Stands _ _ _) (sym c.form_at-item.ensures ∙ ap item_of c.in-Line.is)
+    let s = subst (Stands _ _ _) (sym c.form_at.ensures ∙ ap item_of c.in-Some.is)
     (item_stands c.args.script.now c.args.w.at c.args.w.number) in
     let e = s.1.0 in
     let q = c.requires.ready.number-le in
@@ -40,11 +40,11 @@ returns-clause-onward c =
     let k = c.line-r.ensures.carries.within in
     let m = left-room c.args.w.printed 45063 c.args.out.now c.requires.more.room in
     (onward-line c.args.script.now c.args.w _ c.args.out.now c.requires.ready c.requires.more _ _ _
-    (sym c.form_at-item.ensures ∙ ap item_of c.in-Line.is) c.line-r.result _ _ _ _ _
+    (sym c.form_at.ensures ∙ ap item_of c.in-Some.is) c.line-r.result _ _ _ _ _
     c.line-r.ensures (length c.args.out.now - c.args.w.printed) (omega (arith, c.line-r.auto)) (omega (arith, c.line-r.auto))).0
 
 pub returns-clause-advances : goal.returns-clause-advances
 returns-clause-advances c =
-    let s = subst (Stands _ _ _) (sym c.form_at-item.ensures ∙ ap item_of c.in-Line.is)
+    let s = subst (Stands _ _ _) (sym c.form_at.ensures ∙ ap item_of c.in-Some.is)
     (item_stands c.args.script.now c.args.w.at c.args.w.number) in
     s.1.1.0

@@ -1,13 +1,6 @@
-use mathlib.Core.Path.{◌≡◌}
-use Prim.Native.Nat.{◌≤◌, ◌-◌}
-use lib.ListN.{length, replicate}
-use Rattle.page.proofs.Overlay.{overlay}
+use Rattle.std.proofs.Common.{◌≡◌, take, replicate}
 use Rattle.perform.proofs.memory.fill.Given as goal
 
--- the first i bytes are b, the rest as before
-abbrev pub invariant-loop-i : goal.invariant-loop-i
-invariant-loop-i l = (l.i ≤ length l.initial.bytes) × ((length l.bytes ≡ length l.initial.bytes)
-    × (l.bytes ≡ overlay l.i (replicate (length l.initial.bytes) l.b) l.initial.bytes))
-
-abbrev pub decreases-loop-i : goal.decreases-loop-i
-decreases-loop-i l = length l.initial.bytes - l.i
+-- the items so far are the value
+abbrev pub invariant-loop-item : goal.invariant-loop-item
+invariant-loop-item g l = take l.item-index l.items ≡ replicate l.item-index l.value

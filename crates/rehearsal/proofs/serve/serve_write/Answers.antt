@@ -10,5 +10,5 @@ returns c =
     let a = c.args in
     let l = c.write-r.new in
     write-gives (store_of a.c (plain_lent a.flash.now a.wear.now a.pspace.now a.bspace.now)) a.n a.byte
-    (length a.page.now) c.fill.new.bytes l.flash l.codes l.marks l.wear l.pspace l.bspace l.shelf
+    (length a.page.now) c.fill.new.items l.flash l.codes l.marks l.wear l.pspace l.bspace l.shelf
     (search rules) (search rules) (search rules) c.fill.ensures c.write-r.result c.write-r.ensures

@@ -5,23 +5,16 @@ use native.Mathlib.Omega.{arith}
 use lib.ListN.{take}
 use lib.Seq.{length-take-le}
 use Rattle.rehearsals.specs.Lines.{line_with, line_of_words}
-use Rattle.script.specs.Parts.{up_to, end_of, words_after, NumbersOf}
+use Rattle.script.specs.Parts.{up_to, end_of, words_after, AreNumbers}
 use Rattle.script.proofs.Words.{end-le, words_from, first_word}
 use Rattle.rehearsals.proofs.Reading.{words_line, words_bad}
 use Rattle.rehearsals.proofs.parse.inside.Goals as goal
 
-pub read_numbers-a-requires : goal.read_numbers-a-requires
-read_numbers-a-requires c =
+pub read_numbers-requires : goal.read_numbers-requires
+read_numbers-requires c =
     let k = end-le 32 c.args.s.now 0 (omega arith) in
     let e = c.end_of-e.ensures in
     omega arith
-
-pub returns-then-a-gt11 : goal.returns-then-a-gt11
-returns-then-a-gt11 c =
-    let s = c.args.s.now in
-    let n : NumbersOf (words_after s (end_of 32 s 0)) c.read_numbers-a.result = rw c.end_of-e.ensures
-    at c.read_numbers-a.ensures in
-    sym (ap line_of_words (words_from s 0) ∙ words_bad (up_to 32 s) _ _ n c.if-a-gt11.true)
 
 pub slice_bounds-with-end : goal.slice_bounds-with-end
 slice_bounds-with-end c =
@@ -29,12 +22,17 @@ slice_bounds-with-end c =
     let e = c.end_of-e.ensures in
     sym (length-take-le _ _ (omega arith))
 
+pub returns-in_err-numbers : goal.returns-in_err-numbers
+returns-in_err-numbers c =
+    let s = c.args.s.now in
+    c.from_residual.ensures
+    ∙ sym (ap line_of_words (words_from s 0) ∙ words_bad (up_to 32 s) _ (rw c.end_of-e.ensures at c.in_err-numbers.ensures))
+
 pub returns : goal.returns
 returns c =
     let s = c.args.s.now in
-    let n : NumbersOf (words_after s (end_of 32 s 0)) c.read_numbers-a.result = rw c.end_of-e.ensures
-    at c.read_numbers-a.ensures in
+    let r = c.in_ok-numbers.numbers in
+    let n : AreNumbers (words_after s (end_of 32 s 0)) r = rw c.end_of-e.ensures at c.in_ok-numbers.ensures in
     let w : take c.end_of-e.result s ≡ up_to 32 s = ap (λ (k : ℕ). take k s) c.end_of-e.ensures ∙ first_word s in
-    let r = c.read_numbers-a.result in
     c.with.ensures ∙ ap (λ (l : List ℕ). line_with l (take r.count r.values)) w
-    ∙ sym (ap line_of_words (words_from s 0) ∙ words_line (up_to 32 s) _ _ n c.if-a-gt11.false)
+    ∙ sym (ap line_of_words (words_from s 0) ∙ words_line (up_to 32 s) _ r n)

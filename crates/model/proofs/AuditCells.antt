@@ -1,11 +1,11 @@
 -- Histories of a store with a code and with marks: refusals 7 and 14, their order, mends, and the rewrite book, which is told of both. The
 -- code of these rows keeps two copies.
 use mathlib.Core.Path.{◌≡◌, refl}
-use mathlib.Core.Bool.{Bool, true, false, not, cond, ◌&&◌}
+use mathlib.Core.Bool.{true, false, not, cond, ◌&&◌}
 use mathlib.Core.List.{List, [], ◌∷◌, map, reverse, ◌++◌}
-use Prim.Native.Nat.{ℕ, ◌*◌}
+use Prim.Native.Nat.{ℕ}
 use lib.Dec.{eqb}
-use lib.ListN.{length, get_or, replicate, take}
+use lib.ListN.{length, get_or}
 use Rattle.prelude.specs.Tests.{every}
 use Rattle.prelude.specs.Scan.{first_from, first, count, all, all_pairs, nth, argmax, least, tab_from, tab}
 use Rattle.prelude.specs.Bits.{bit, mask}
@@ -22,12 +22,12 @@ use Rattle.model.specs.Moves.{cell_at, flash_page, programmed, worn, worn_by, re
 use Rattle.model.specs.Moves.{put_frame_page, joined, filled, joined_pages, unmet, spare, taken, given_slot, exchanged, exchanged_pages}
 use Rattle.model.specs.Moves.{vacated, merged, rewritten_pages, read_directory, written, stepped, read_page, written_pages, stepped_pages}
 use Rattle.model.specs.Moves.{oneMore}
-use Rattle.model.specs.Calls.{Answer, open_done, read_done, write_done, step_done, step_clean, flush_done, refused, Call, read, write, part}
+use Rattle.model.specs.Calls.{Answer, read_done, write_done, step_done, refused, Call, read, write, part}
 use Rattle.model.specs.Calls.{step, flush, checked, read_outcome, write_outcome, part_outcome, step_outcome, steps, flush_outcome, decide}
-use Rattle.model.specs.Calls.{steps_pages, combined, call_pages, Page, Cell, Format, Buffers, lent_ok, open_store, Store, zero_page}
+use Rattle.model.specs.Calls.{steps_pages, combined, call_pages, Page, Format, Buffers, lent_ok, open_store, Store, zero_page}
 use Rattle.model.specs.Calls.{memory_of, buffers_of, carried_out, reads_all, call_reading, call, heeding, fault_of, fault_met, some_page}
 use Rattle.model.specs.Calls.{mends_of, mends_met, sum, reads_flash, reads_page, steps_merge, merges_page, flash_cells}
-use Rattle.model.specs.Lists.{Chosen, Reference, array_after, log_after, before_after, book_says, base_after, fed, flash_pages, opened}
+use Rattle.model.specs.Lists.{Reference, array_after, log_after, before_after, book_says, base_after, fed, flash_pages, opened}
 use Rattle.model.specs.Formats.{Code, format_of, torn}
 
 -- pages of one byte, with two copies as their code: two that agree are read

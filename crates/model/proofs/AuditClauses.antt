@@ -28,7 +28,7 @@ use Rattle.model.specs.Calls.{flash_cells, call_reading, reads_all, heeding, fau
 use Rattle.model.specs.Calls.{reads_flash}
 use Rattle.model.specs.Calls.{reads_page, steps_merge, merges_page}
 use Rattle.model.specs.Formats.{format_of, torn, store_format}
-use Rattle.model.specs.Lists.{Chosen, book_says, flash_pages, base_after, Put, Reference, opened, fed, array_after, log_after, before_after}
+use Rattle.model.specs.Lists.{book_says, flash_pages, base_after, Put, Reference, opened, fed, array_after, log_after, before_after}
 use Rattle.model.specs.Lists.{block_pages, times_cached}
 
 abbrev pub sizes_a : Sizes

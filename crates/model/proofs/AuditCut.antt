@@ -1,16 +1,15 @@
 -- Request A12: histories of a marked store, and calls cut off after each number of operations. The rows were worked out by tools/cut-rows.
 use mathlib.Core.Path.{◌≡◌, refl}
-use mathlib.Core.Bool.{Bool, true, false, cond}
-use mathlib.Core.List.{List, [], ◌∷◌, ◌++◌, map, reverse}
-use Prim.Native.Nat.{ℕ, ◌-◌, ◌*◌}
-use lib.Dec.{eqb}
-use lib.ListN.{length, replicate, set}
+use mathlib.Core.Bool.{true}
+use mathlib.Core.List.{List, [], ◌∷◌, map, reverse}
+use Prim.Native.Nat.{ℕ, ◌-◌}
+use lib.ListN.{length, replicate}
 use Rattle.prelude.specs.Tests.{every}
 use Rattle.prelude.specs.Scan.{first_from, first, count, all, all_pairs, nth, argmax, least, tab_from, tab}
 use Rattle.prelude.specs.Bits.{bit, mask}
 use Rattle.prelude.specs.Pages.{page_at, laid, pages_of, flat}
 use Rattle.model.specs.Sizes.{Sizes, vacant, sizes_ok, is_coded, is_marked}
-use Rattle.model.specs.Directory.{Cache, inFrame, vacant_directory, blank_cache}
+use Rattle.model.specs.Directory.{inFrame, vacant_directory, blank_cache}
 use Rattle.model.specs.Soundness.{shape_ok, slot_ok, frame_ok, slots_differ, frames_differ, cached_once, listed_once, slot_past, framePast}
 use Rattle.model.specs.Soundness.{uses_ok, sound}
 use Rattle.model.specs.Policy.{in_block, slot_of, in_slots, frame_with, frame_of, valid_count, slot_count, read_way, least_recent, victim}
@@ -21,19 +20,19 @@ use Rattle.model.specs.Moves.{oneMore}
 use Rattle.model.specs.Moves.{put_slot_page, put_frame_page, joined, filled, joined_pages, unmet, spare, taken, given_slot, exchanged}
 use Rattle.model.specs.Moves.{exchanged_pages, vacated, merged, rewritten_pages, read_directory, written, stepped, read_page}
 use Rattle.model.specs.Moves.{written_pages, stepped_pages}
-use Rattle.model.specs.Calls.{Answer, read_done, write_done, step_done, flush_done, refused, Call, read, write, part, step, flush}
+use Rattle.model.specs.Calls.{Answer, read_done, step_done, flush_done, refused, read, write, part, step, flush}
 use Rattle.model.specs.Calls.{checked}
 use Rattle.model.specs.Calls.{read_outcome, write_outcome, part_outcome, step_outcome, steps, flush_outcome, decide, steps_pages, combined}
-use Rattle.model.specs.Calls.{call_pages, Page, Format, Buffers, lent_ok, torn_blocks, open_store, Store, raw_of, marks_of, zero_page}
+use Rattle.model.specs.Calls.{call_pages, Page, Format, Buffers, lent_ok, torn_blocks, open_store, raw_of, marks_of, zero_page}
 use Rattle.model.specs.Calls.{memory_of, buffers_of, carried_out}
 use Rattle.model.specs.Calls.{reads_all, call_reading, call, heeding, fault_of, fault_met, some_page, mends_of, mends_met, sum, reads_flash}
-use Rattle.model.specs.Calls.{reads_page, steps_merge, merges_page, flash_cells, page_seen, lent_buffer}
-use Rattle.model.specs.Formats.{no_code, format_of, torn, store_format}
+use Rattle.model.specs.Calls.{reads_page, steps_merge, merges_page, flash_cells, page_seen}
+use Rattle.model.specs.Formats.{format_of, torn, store_format}
 use Rattle.model.specs.Cut.{cut_rewrite, cut_step, cut_write, cut_steps, cut_call}
 use Rattle.model.specs.CutCalls.{left_after}
-use Rattle.model.specs.Shelf.{shelved, shelve, shelf_ok, ShelfCall, plainly, back, entries_after, shelf_after, ShelfStore, ShelfResult}
+use Rattle.model.specs.Shelf.{shelved, shelve, shelf_ok, ShelfCall, plainly, back, entries_after, shelf_after, ShelfStore}
 use Rattle.model.specs.Shelf.{shelving_reads, ordinary, shelf_call, no_entries}
-use Rattle.model.proofs.AuditRows.{way, directory_of}
+use Rattle.model.proofs.AuditRows.{way}
 use Rattle.model.proofs.AuditCells.{copies}
 
 -- 3 blocks of 2 pages of a byte with a mark each, a slot, a frame, and h shelf pages

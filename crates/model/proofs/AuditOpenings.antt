@@ -5,10 +5,10 @@ use Prim.Native.Nat.{ℕ}
 use lib.ListN.{replicate}
 use Rattle.model.specs.Sizes.{Sizes, plain_sizes, vacant}
 use Rattle.model.specs.Policy.{policy_choice}
-use Rattle.model.specs.Calls.{open_done, read_done, refused, Call, read, write, part, step, flush, Page, Buffers, Opened, open_store}
+use Rattle.model.specs.Calls.{open_done, refused, Call, read, write, part, step, flush, Page, Buffers, Opened, open_store}
 use Rattle.model.specs.Calls.{Store, Result, call}
 use Rattle.model.specs.Formats.{store_format}
-use Rattle.model.proofs.AuditRows.{Row, way, directory_of}
+use Rattle.model.proofs.AuditRows.{Row, directory_of}
 
 -- a refused opening leaves the blank record, on which every call is refused 4
 abbrev pub blank-record : Row

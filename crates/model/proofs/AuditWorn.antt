@@ -1,6 +1,6 @@
 -- Histories with worn blocks: refusal 6, whom it names, and way 7 passing worn blocks over (request A4).
 use mathlib.Core.List.{List, [], ◌∷◌}
-use Rattle.model.specs.Sizes.{plain_sizes, vacant}
+use Rattle.model.specs.Sizes.{plain_sizes}
 use Rattle.model.specs.Calls.{open_done, read_done, write_done, refused, read, write, part, step, flush}
 use Rattle.model.proofs.AuditRows.{Row, way}
 

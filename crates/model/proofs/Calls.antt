@@ -16,10 +16,10 @@ use Rattle.model.specs.Directory.{Directory}
 use Rattle.model.specs.Soundness.{sound, Sound}
 use Rattle.model.specs.Policy.{in_slots, frame_with, slot_count, read_way, Choice, victim, Plan, plan, erased_by, merge_reads, clean, due}
 use Rattle.model.specs.Policy.{occupied, lowest_in_slots, due_of, cached, is_worn, lowest_worn}
-use Rattle.model.specs.Moves.{Chip, Memory, flash_page, cell_at, worn_by, joined, read_directory, written, stepped}
+use Rattle.model.specs.Moves.{Chip, worn_by, joined, read_directory, written, stepped}
 use Rattle.model.specs.Calls.{step_done, step_clean, flush_done, is_refused, Call, read, write, part, step, flush, State, Outcome}
 use Rattle.model.specs.Calls.{checked, read_outcome, write_outcome, part_outcome, step_outcome, Tally, steps, flush_outcome, decide}
-use Rattle.model.specs.Calls.{heeding, Page, Format, lent_ok, Store, Result, state_of, told, fault_of, carried_out, call_reading}
+use Rattle.model.specs.Calls.{heeding, Page, Format, lent_ok, Store, Result, state_of, told, carried_out, call_reading}
 use Rattle.model.specs.Lists.{Picks}
 use Rattle.model.specs.RulesCalls.{StepsUntilClean}
 use Rattle.model.proofs.Soundness.{sound-facts, facts-sound}

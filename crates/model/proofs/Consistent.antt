@@ -16,7 +16,7 @@ use Rattle.model.specs.Directory.{Directory, slot_at, frame_at, valid_at, inFram
 use Rattle.model.specs.Soundness.{Sound}
 use Rattle.model.specs.Policy.{slot_of, in_slots, frame_with, frame_of, valid_count, slot_count, Choice, victim, Plan, frame_hit, exchange}
 use Rattle.model.specs.Policy.{evict, eviction_plan, plan, due}
-use Rattle.model.specs.Moves.{Chip, Memory, programmed, flash_page, touched, put_slot, entered, put_slot_page, put_frame_page, joined}
+use Rattle.model.specs.Moves.{Chip, Memory, programmed, touched, put_slot, entered, put_slot_page, put_frame_page, joined}
 use Rattle.model.specs.Moves.{filled, joined_pages, exchanged, exchanged_pages, vacated, rewritten_pages, stepped, written, stepped_pages}
 use Rattle.model.specs.Moves.{written_pages}
 use Rattle.model.specs.Lists.{Picks}

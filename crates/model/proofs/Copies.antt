@@ -1,17 +1,17 @@
 -- The hypotheses of demand 3 with flips can be met: the rows' code bears any change of a page's byte.
-use mathlib.Core.Path.{◌≡◌, refl, sym, ap, ◌∙◌}
-use mathlib.Core.Bool.{Bool, true, false, cond, ◌&&◌}
-use mathlib.Core.List.{List, [], ◌∷◌, ◌++◌}
-use Prim.Native.Nat.{ℕ, zero, suc, ◌+◌, ◌*◌, ◌<◌}
+use mathlib.Core.Path.{◌≡◌, refl, sym, ◌∙◌}
+use mathlib.Core.Bool.{Bool, ◌&&◌}
+use mathlib.Core.List.{List, [], ◌∷◌}
+use Prim.Native.Nat.{ℕ}
 use native.Mathlib.Omega.{arith}
 use lib.Dec.{eqb}
 use lib.ListN.{length, get_or}
-use borrow.Author.Tests.{eqb-true, eqb-false, eq-eqb}
-use Rattle.prelude.proofs.Tests.{by-test, clash, and_l}
+use borrow.Author.Tests.{eqb-true, eq-eqb}
+use Rattle.prelude.proofs.Tests.{by-test}
 use Rattle.model.specs.Sizes.{Sizes}
 use Rattle.model.specs.Calls.{Page}
 use Rattle.model.specs.Lists.{Demand3}
-use Rattle.model.specs.Formats.{Code, format_of, Matches, NearBy, Corrects}
+use Rattle.model.specs.Formats.{format_of, Matches, NearBy, Corrects}
 use Rattle.model.proofs.AuditCells.{copies}
 use Rattle.model.proofs.Formats.{demand_3_coded}
 

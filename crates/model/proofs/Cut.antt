@@ -1,31 +1,31 @@
 -- A call that is cut off leaves every block but one as it was or as its rewrite leaves it, and that one half programmed; with enough
 -- operations it is the whole call.
-use mathlib.Core.Path.{◌≡◌, refl, sym, ap, ◌∙◌}
+use mathlib.Core.Path.{◌≡◌, refl, sym, ◌∙◌}
 use mathlib.Core.Logic.{◌⊎◌, inl, inr}
-use mathlib.Core.Bool.{Bool, true, false, cond, ◌&&◌}
+use mathlib.Core.Bool.{true, false, cond, ◌&&◌}
 use mathlib.Core.List.{List}
 use Prim.Native.Nat.{ℕ, zero, suc, ◌+◌, ◌-◌, ◌*◌, ◌/◌, ◌%◌, ◌≤◌, ◌<◌}
 use native.Mathlib.Omega.{arith}
 use lib.Dec.{leb, ltb, eqb}
 use lib.ListN.{length, get_or}
-use borrow.Author.Tests.{ltb-true, ltb-false, eqb-true, eqb-false, eq-eqb, ne_eqb, lt-ltb, lt-leb}
+use borrow.Author.Tests.{eqb-true, eqb-false, eq-eqb, ne_eqb, lt-ltb, lt-leb}
 use Rattle.prelude.proofs.Tests.{by-test, clash}
 use Rattle.prelude.proofs.Tab.{get_d_tab}
 use Rattle.model.specs.Sizes.{Sizes, vacant}
 use Rattle.model.specs.Directory.{Directory, frame_at}
 use Rattle.model.specs.Soundness.{Sound}
-use Rattle.model.specs.Policy.{Choice, victim, Plan, slot_hit, frame_hit, free_slot, join, fill, exchange, evict, plan, Due, clean, due}
+use Rattle.model.specs.Policy.{Choice, Plan, slot_hit, frame_hit, free_slot, join, fill, exchange, evict, plan, Due, clean, due}
 use Rattle.model.specs.Policy.{due_of, cached, is_worn, lowest_worn, erased_by, merge_reads}
 use Rattle.model.specs.Moves.{Chip, Memory, cell_at, programmed, programmed_to, worn_by, put_slot_page, put_frame_page, joined}
 use Rattle.model.specs.Moves.{joined_pages}
 use Rattle.model.specs.Moves.{exchanged_pages, merged, rewritten_pages, stepped, stepped_pages, written_pages}
 use Rattle.model.specs.Calls.{is_refused, Outcome, checked, read_outcome, write_outcome, part_outcome, step_outcome, Tally, steps}
 use Rattle.model.specs.Calls.{flush_outcome, decide, told}
-use Rattle.model.specs.Calls.{Call, read, write, part, step, flush, State, Page, no_bytes, steps_pages, combined, call_pages}
+use Rattle.model.specs.Calls.{Call, read, write, part, step, flush, State, Page, no_bytes, steps_pages, call_pages}
 use Rattle.model.specs.Lists.{Picks}
 use Rattle.model.specs.Cut.{Left, cut_rewrite, cut_step, cut_write, cut_steps, cut_call, operations, BlockAs, CutShort}
 use Rattle.model.proofs.Lookup.{block-lt}
-use Rattle.model.proofs.Steps.{Ready, due-elim, stepped-sound, cached-now, cached-back, worn-other}
+use Rattle.model.proofs.Steps.{due-elim, stepped-sound, cached-now, cached-back, worn-other}
 use Rattle.model.proofs.Parts.{programmed_to-all}
 
 -- the wear of another block stays

@@ -1,32 +1,29 @@
 -- The rules of the store's calls that are cut off hold.
 use mathlib.Core.Path.{◌≡◌, refl, sym, ap, ◌∙◌}
-use mathlib.Core.Logic.{◌⊎◌, inl, inr}
+use mathlib.Core.Logic.{inl, inr}
 use mathlib.Core.Bool.{Bool, true, false, ◌&&◌}
-use mathlib.Core.List.{List, []}
-use Prim.Native.Nat.{ℕ, zero, suc, ◌*◌, ◌/◌, ◌≤◌, ◌<◌}
+use mathlib.Core.List.{List}
+use Prim.Native.Nat.{ℕ, zero, suc, ◌*◌}
 use native.Mathlib.Omega.{arith}
 use lib.Dec.{eqb}
 use lib.ListN.{length, get_or}
-use borrow.Author.Tests.{eqb-true}
-use Rattle.prelude.proofs.Tests.{by-test, clash, and_l}
+use Rattle.prelude.proofs.Tests.{by-test, clash}
 use Rattle.prelude.proofs.Tab.{length-tab}
 use Rattle.prelude.specs.Pages.{flat}
-use Rattle.model.specs.Sizes.{Sizes, is_coded, is_marked, InLimits}
+use Rattle.model.specs.Sizes.{Sizes, is_marked, InLimits}
 use Rattle.model.specs.Directory.{Directory, frame_at}
 use Rattle.model.specs.Soundness.{sound, Sound}
-use Rattle.model.specs.Policy.{Choice, Plan, slot_hit, frame_hit, free_slot, join, fill, exchange, evict, plan, Due, clean, due, due_of}
+use Rattle.model.specs.Policy.{Choice, Plan, slot_hit, frame_hit, free_slot, join, fill, exchange, evict, Due, clean, due, due_of}
 use Rattle.model.specs.Moves.{Memory, cell_at, programmed, put_slot_page, put_frame_page, joined_pages, exchanged_pages, rewritten_pages}
 use Rattle.model.specs.Moves.{stepped_pages, written_pages}
 use Rattle.model.specs.Calls.{is_refused, Call, read, write, part, step, flush, State, Outcome, decide, heeding, steps_pages, call_pages}
 use Rattle.model.specs.Calls.{Page, Cell, CellFits, no_bytes, Buffers, Fits, lent_ok, Store, zero_page, flash_cells, memory_of, buffers_of}
-use Rattle.model.specs.Calls.{state_of, told, fault_of, reads_all, carried_out, call_reading}
+use Rattle.model.specs.Calls.{state_of, told, carried_out, call_reading}
 use Rattle.model.specs.Formats.{format_of, store_format, chip_for}
-use Rattle.model.specs.Lists.{Picks}
 use Rattle.model.specs.Shelf.{ShelfCall, ShelfStore, is_back, shelved, shelf_ok, shelving_reads, ordinary, shelf_call, store_call}
-use Rattle.model.specs.Cut.{Left, cut_call, CutShort}
-use Rattle.model.specs.CutCalls.{left_in, meant_by, left_after, CutTo, left_whole, CutRule, WholeRule, MarkedZeroRule}
+use Rattle.model.specs.CutCalls.{left_in, meant_by, left_whole, CutRule, WholeRule, MarkedZeroRule}
 use Rattle.model.proofs.Soundness.{sound-facts}
-use Rattle.model.proofs.EachPage.{Each, EachM, step-each, flush-each}
+use Rattle.model.proofs.EachPage.{Each, step-each, flush-each}
 use Rattle.model.proofs.Buffers.{OfS, zero-long, zero_cell, Whole, cells-again, memory-whole, cells-length, fits-of}
 use Rattle.model.proofs.Formats.{store-bears}
 use Rattle.model.proofs.Torn.{heeding-same}
@@ -167,9 +164,6 @@ module _ (pick : Choice) (besides : ℕ → Bool) (s : Store) (c : Call Page) wh
 -- ---- the call with its shelf
 
 module _ (pick : Choice) (s : ShelfStore) (c : ShelfCall) where
-  abbrev sizes : Sizes
-  sizes = s.store.cache.sizes
-
   abbrev besides : ℕ → Bool
   besides = shelving_reads store_format s.store.cache.sizes.shelf_pages pick s c
 

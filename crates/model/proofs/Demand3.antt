@@ -1,7 +1,7 @@
 -- Demand 3: one theorem about a whole list of calls after an accepted opening.
 use mathlib.Core.Path.{subst, ◌≡◌, refl, sym, ap, ◌∙◌}
 use mathlib.Core.Logic.{◌⊎◌, inl, inr}
-use mathlib.Core.Bool.{Bool, true, false, cond, ◌&&◌, ◌||◌}
+use mathlib.Core.Bool.{Bool, true, false, cond, ◌&&◌}
 use mathlib.Core.List.{List, [], ◌∷◌, map}
 use Prim.Native.Nat.{ℕ, zero, suc, ◌+◌, ◌-◌, ◌*◌, ◌/◌, ◌≤◌, ◌<◌}
 use native.Mathlib.Nat.{not-suc-le-zero}
@@ -11,7 +11,7 @@ use lib.Arith.{digits_lt}
 use lib.ListN.{length, get_or, set, replicate, get_or-replicate, length-map, get_or-map}
 use lib.Seq.{get_or-set_same, get_or-set_other, ext_get_or}
 use borrow.Author.Tests.{leb-true, ltb-true, eqb-true, eqb-false, lt-ltb, le-ltb}
-use Rattle.prelude.specs.Pages.{laid, flat}
+use Rattle.prelude.specs.Pages.{laid}
 use Rattle.prelude.proofs.Tests.{by-test, clash}
 use Rattle.prelude.proofs.Scan.{count-le}
 use Rattle.prelude.proofs.Tab.{get_d_tab, tab-ext}
@@ -25,12 +25,12 @@ use Rattle.model.specs.Policy.{lowest_worn}
 use Rattle.model.specs.Moves.{Chip, Memory, cell_at, flash_page, worn_by, joined, written, merged_by, stepped, read_page, stepped_pages}
 use Rattle.model.specs.Calls.{Answer, open_done, read_done, write_done, step_done, step_clean, flush_done, refused, is_refused, Call, read}
 use Rattle.model.specs.Calls.{write, part, step, flush, State, Outcome, turned_down, checked, read_outcome, write_outcome, part_outcome}
-use Rattle.model.specs.Calls.{step_outcome, Tally, steps, flush_outcome, decide, heeding, some_page, fault_met, reads_flash, steps_pages}
-use Rattle.model.specs.Calls.{combined, no_bytes, call_pages, Page, Cell, Format, CellFits, Buffers, Fits, lent_ok, open_store, Store}
+use Rattle.model.specs.Calls.{step_outcome, Tally, steps, flush_outcome, decide, heeding, some_page, fault_met, steps_pages}
+use Rattle.model.specs.Calls.{combined, no_bytes, call_pages, Page, Cell, Format, CellFits, Buffers, Fits, open_store, Store}
 use Rattle.model.specs.Calls.{Result, zero_page, flash_cells, memory_of, buffers_of, told, lent_buffer, filled_buffer, fault_of, mends_of}
 use Rattle.model.specs.Calls.{reads_all, carried_out, call_reading, page_seen}
 use Rattle.model.specs.Lists.{Chosen, Picks, AllPick, no_cell, Put, Accepted, Reference, array_after, log_after, before_after, base_after}
-use Rattle.model.specs.Lists.{is_flush, added_cause, book_says, fed, flash_pages, opened, block_pages, ReadGives, flipped, Borne, After}
+use Rattle.model.specs.Lists.{is_flush, added_cause, fed, flash_pages, opened, block_pages, ReadGives, flipped, Borne, After}
 use Rattle.model.specs.Lists.{Step, Claim, Quiet, Bears, Demand3}
 use Rattle.model.proofs.Soundness.{limits_of, facts-sound}
 use Rattle.model.proofs.Lookup.{block-lt, page-div}

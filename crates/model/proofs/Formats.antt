@@ -1,10 +1,9 @@
 -- Each format bears what its code corrects, with marks or without; the store's own does.
-use mathlib.Core.Path.{◌≡◌, refl, sym, ap, ap₂, ◌∙◌}
-use mathlib.Core.Logic.{◌⊎◌, inl, inr}
-use mathlib.Core.Bool.{Bool, true, false, cond, false≢true}
+use mathlib.Core.Path.{◌≡◌, refl, sym, ap, ◌∙◌}
+use mathlib.Core.Logic.{inl, inr}
+use mathlib.Core.Bool.{Bool, true, false, cond}
 use mathlib.Core.List.{List, [], ◌∷◌}
 use Prim.Native.Nat.{ℕ, ◌*◌, ◌/◌, ◌<◌}
-use native.Mathlib.Omega.{arith}
 use lib.ListN.{length, get_or}
 use Rattle.prelude.specs.Pages.{page_at, pages_of, flat}
 use Rattle.prelude.proofs.Pages.{flat-pages}
@@ -13,7 +12,7 @@ use Rattle.codes.specs.Code.{codes_of}
 use Rattle.codes.specs.Reading.{page_legible, page_mended, PageReadAs}
 use Rattle.codes.proofs.Pages.{page-read, read-own, length-codes, length-read}
 use Rattle.model.specs.Sizes.{Sizes, is_coded, is_marked, InLimits}
-use Rattle.model.specs.Calls.{Page, Cell, Format, CellFits, Buffers, Fits, Store, open_store, open_done, flash_cells}
+use Rattle.model.specs.Calls.{Page, Cell, Buffers, Fits, Store, open_store, open_done, flash_cells}
 use Rattle.model.specs.Lists.{Chosen, AllPick, no_cell, Reference, flipped, Borne, Quiet, opened, flash_pages, Bears, Demand3}
 use Rattle.model.specs.Formats.{Code, no_code, format_of, plain, Matches, NearBy, NoFlips, Corrects}
 use Rattle.model.specs.Formats.{page_code, code_for, store_format, PageFlips, flips_for, StoreMatches, StoreNear}

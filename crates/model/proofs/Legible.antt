@@ -1,35 +1,34 @@
 -- While flips are borne no call is refused 7, and one that finds every cell as it was programmed mends nothing.
 use mathlib.Core.Path.{◌≡◌, refl, sym, ap, ◌∙◌}
-use mathlib.Core.Logic.{inl, inr}
 use mathlib.Core.Bool.{Bool, true, false, cond, ◌&&◌}
 use mathlib.Core.List.{List, [], ◌∷◌}
 use Prim.Native.Nat.{ℕ, ◌+◌, ◌*◌, ◌/◌, ◌≤◌, ◌<◌}
 use native.Mathlib.Omega.{arith}
 use lib.Dec.{leb, ltb, eqb}
-use lib.ListN.{length, get_or, get_or-replicate, length-replicate}
+use lib.ListN.{length, get_or}
 use borrow.Author.Tests.{ltb-true, eqb-true, eqb-false}
 use Rattle.prelude.specs.Scan.{first}
-use Rattle.prelude.proofs.Tests.{by-test, clash, and_l, and_r, fails}
+use Rattle.prelude.proofs.Tests.{by-test, clash, and_r, fails}
 use Rattle.prelude.proofs.Scan.{first-hit}
 use Rattle.model.specs.Sizes.{Sizes, vacant, is_coded, is_marked, InLimits}
 use Rattle.model.specs.Soundness.{sound}
 use Rattle.model.specs.Policy.{Choice, Plan, erased_by, Due, clean, due, due_of, is_worn, lowest_worn}
 use Rattle.model.specs.Moves.{cell_at}
-use Rattle.model.specs.Calls.{Answer, refused, is_refused, Call, read, write, part, step, flush, State, Outcome, checked, read_outcome}
+use Rattle.model.specs.Calls.{refused, is_refused, Call, read, write, part, step, flush, State, Outcome, checked, read_outcome}
 use Rattle.model.specs.Calls.{write_outcome, part_outcome, step_outcome, flush_outcome, decide, heeding, some_page}
-use Rattle.model.specs.Calls.{fault_met, mends_met, sum}
+use Rattle.model.specs.Calls.{fault_met, mends_met}
 use Rattle.model.specs.Calls.{Page, Cell, Format, Buffers, lent_ok, Store, zero_page, flash_cells, memory_of, state_of}
 use Rattle.model.specs.Calls.{told, fault_of, mends_of}
 use Rattle.model.specs.Calls.{reads_all, carried_out, call_reading, open_store, open_done}
 use Rattle.model.specs.Lists.{no_cell, added_cause, flipped, Borne}
-use Rattle.model.specs.Formats.{no_code, page_code, code_for, format_of, torn, chip_for, store_format, flips_for, StoreMatches, StoreNear}
+use Rattle.model.specs.Formats.{code_for, format_of, torn, chip_for, store_format, flips_for, StoreMatches, StoreNear}
 use Rattle.model.specs.Shelf.{ShelfStore, ShelfReference, ShelfChosen, ShelfCall, is_back, shelved, shelf_ok, shelf_call, ordinary}
-use Rattle.model.specs.Shelf.{shelving_reads, meant, pages_of_shelf, shelf_flipped, shelf_opened, no_entries}
+use Rattle.model.specs.Shelf.{shelf_flipped, shelf_opened, no_entries}
 use Rattle.model.specs.Legible.{AsProgrammed, ShelfLegible}
 use Rattle.model.proofs.Soundness.{limits_of}
 use Rattle.model.proofs.Opening.{open_accepted}
 use Rattle.model.proofs.Plain.{nothing}
-use Rattle.model.proofs.Demand3.{get_d_any, cells_fit, Holds, holds_opened, holds-sound}
+use Rattle.model.proofs.Demand3.{get_d_any, cells_fit, Holds, holds-sound}
 use Rattle.model.proofs.Buffers.{cells-length}
 use Rattle.model.proofs.RulesCalls.{heeds-rule}
 use Rattle.model.proofs.Formats.{page-legible, own-page_mends, store-bears}

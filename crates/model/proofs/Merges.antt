@@ -1,28 +1,27 @@
 -- What a flush merges, in closed form: the pages that are not cached, of the blocks that are.
 use mathlib.Core.Path.{◌≡◌, refl, sym, ap, ◌∙◌}
-use mathlib.Core.Logic.{◌⊎◌, inl, inr}
-use mathlib.Core.Bool.{Bool, true, false, not, cond, ◌&&◌, ◌||◌}
+use mathlib.Core.Logic.{inl, inr}
+use mathlib.Core.Bool.{Bool, true, false, cond, ◌||◌}
 use Prim.Native.Nat.{ℕ, zero, suc, ◌+◌, ◌-◌, ◌*◌, ◌/◌, ◌%◌, ◌≤◌, ◌<◌}
 use native.Mathlib.Omega.{arith}
 use lib.Dec.{ltb, eqb}
-use lib.ListN.{get_or}
-use borrow.Author.Tests.{ltb-true, ltb-false, eqb-true, eqb-false, eq-eqb, ne_eqb}
+use borrow.Author.Tests.{ltb-false, eqb-true, eqb-false, eq-eqb}
 use Rattle.prelude.specs.Scan.{count}
 use Rattle.prelude.specs.Bits.{bit}
 use Rattle.prelude.proofs.Tests.{by-test, clash, and_l, and_r, and_i, or_l, or_r, or_cases, not_t, not-i}
-use Rattle.prelude.proofs.Scan.{count_past, count-le}
-use Rattle.model.specs.Sizes.{Sizes, vacant}
-use Rattle.model.specs.Directory.{Directory, slot_at, frame_at, valid_at, inFrame}
+use Rattle.prelude.proofs.Scan.{count_past}
+use Rattle.model.specs.Sizes.{Sizes}
+use Rattle.model.specs.Directory.{Directory, valid_at}
 use Rattle.model.specs.Soundness.{Sound}
 use Rattle.model.specs.Policy.{Choice, in_block, in_slots, frame_with, read_way, clean, due, due_of, cached}
-use Rattle.model.specs.Moves.{joined, vacated, stepped}
+use Rattle.model.specs.Moves.{joined, stepped}
 use Rattle.model.specs.Calls.{merges_page, steps_merge, sum, mends_met}
 use Rattle.model.specs.Lists.{Picks}
 use Rattle.model.proofs.Lookup.{NoSlot, NoFrame, block-lt, offset_lt, page-split, found-slot, not-in_slots, frame_has, has-frame}
 use Rattle.model.proofs.Lookup.{block_of, own_block, no-frame_with}
 use Rattle.model.proofs.Reflects.{joined-bits, joined-bits', vacated-bits'}
-use Rattle.model.proofs.Steps.{Ready, Empty, due-elim, stepped-sound, stepped-frame', cached-now, cached-back, cached-on}
-use Rattle.model.proofs.Steps.{cached-less, empty-count, none-empty, stepped-absent, after-slot, joined-ready}
+use Rattle.model.proofs.Steps.{Ready, due-elim, stepped-sound, stepped-frame', cached-now, cached-back, cached-on}
+use Rattle.model.proofs.Steps.{cached-less, empty-count, stepped-absent, after-slot, joined-ready}
 
 -- page n is cached nowhere, and its block is
 pub record Uncached (sz : Sizes) (d : Directory) (n : ℕ) : Type 0 where

@@ -1,14 +1,13 @@
 -- For code, which has a slice of bytes, one of codes and one of marks: each part of a programmed flash is programmed as it is.
-use mathlib.Core.Path.{◌≡◌, refl, sym, ap, ◌∙◌}
-use mathlib.Core.Bool.{cond, ◌&&◌}
-use mathlib.Core.List.{List, [], map}
-use Prim.Native.Nat.{ℕ, suc, ◌*◌, ◌/◌, ◌%◌, ◌≤◌, ◌<◌}
+use mathlib.Core.Path.{◌≡◌, sym, ap, ◌∙◌}
+use mathlib.Core.Bool.{◌&&◌}
+use mathlib.Core.List.{List, map}
+use Prim.Native.Nat.{ℕ, suc, ◌*◌, ◌/◌, ◌%◌, ◌≤◌}
 use native.Mathlib.Omega.{arith}
 use lib.Dec.{ltb, eqb}
 use lib.ListN.{length, get_or, get_or-map}
 use lib.Seq.{ext_get_or}
 use borrow.Author.Tests.{lt-ltb}
-use Rattle.prelude.specs.Scan.{tab}
 use Rattle.prelude.proofs.Tests.{by-test}
 use Rattle.prelude.proofs.Tab.{tab-ext}
 use Rattle.model.specs.Sizes.{Sizes, InLimits}

@@ -1,18 +1,18 @@
 -- A store without codes and marks: no read meets a fault, and nothing is mended.
-use mathlib.Core.Path.{◌≡◌, refl, sym, ap, ◌∙◌}
-use mathlib.Core.Bool.{Bool, true, false, cond, ◌&&◌}
+use mathlib.Core.Path.{◌≡◌, refl}
+use mathlib.Core.Bool.{Bool, true, false, ◌&&◌}
 use mathlib.Core.List.{List}
-use Prim.Native.Nat.{ℕ, zero, suc, ◌+◌, ◌*◌, ◌<◌}
+use Prim.Native.Nat.{ℕ, zero, suc, ◌*◌, ◌<◌}
 use native.Mathlib.Omega.{arith}
 use lib.Dec.{ltb, eqb}
 use borrow.Author.Tests.{ltb-true}
 use Rattle.prelude.specs.Scan.{first}
 use Rattle.prelude.proofs.Tests.{by-test, clash}
 use Rattle.prelude.proofs.Scan.{first-hit}
-use Rattle.model.specs.Sizes.{Sizes, is_coded, is_marked, InLimits}
+use Rattle.model.specs.Sizes.{Sizes, is_coded, is_marked}
 use Rattle.model.specs.Policy.{Choice}
-use Rattle.model.specs.Calls.{Cell, State, Outcome, is_refused, some_page, fault_met, sum, mends_met, heeding, fault_of, mends_of}
-use Rattle.model.specs.Formats.{torn, format_of, code_for, chip_for, store_format}
+use Rattle.model.specs.Calls.{Cell, some_page, fault_met, sum, mends_met, mends_of}
+use Rattle.model.specs.Formats.{torn, format_of, chip_for, store_format}
 use Rattle.model.proofs.Soundness.{coded-off, marked-off}
 
 -- without the options
@@ -59,15 +59,6 @@ module _ (sz : Sizes) where
     plain-mends x = rw c
 
     module _ (pick : Choice) (fl : List Cell) (reads : ℕ → Bool) where
-      pub faultless : fault_of store_format pick sz fl reads ≡ 0
-      unfolding fault_of
-      faultless = no-faults _ reads (λ i. plain-fault _)
-
       pub mendless : mends_of store_format pick sz fl reads ≡ 0
       unfolding mends_of
       mendless = no-mends _ reads (λ i. plain-mends _)
-
--- where nothing is met, the outcome stays
-pub heeds-none : (k : State) (o : Outcome) → heeding k 0 o ≡ o
-unfolding heeding
-heeds-none k o = by-test (is_refused o.answer) (λ e. rw (e, heeding)) (λ e. rw (e, heeding))

@@ -28,7 +28,7 @@ use Rattle.model.specs.Calls.{carried_out, lent_buffer, buffers_of, call_reading
 use Rattle.model.specs.Lists.{Picks}
 use Rattle.model.specs.RulesCalls.{RefusedRule, CellRule, MemoryRule, ToldRule, HeedsRule, NoneMeets, MeetsRule, CallRule}
 use Rattle.model.specs.RulesCalls.{RefusesRecordRule, RefusesBufferRule, Good, says, RefusesThenRule, is_read, fault_at}
-use Rattle.model.specs.RulesCalls.{RefusesUnreadableRule, RefusesTornRule, Passes, Case, unsound, lengths, turned, unreadable, torn}
+use Rattle.model.specs.RulesCalls.{RefusesUnreadableRule, RefusesTornRule, Passes, unsound, lengths, turned, unreadable, torn}
 use Rattle.model.specs.RulesCalls.{accepted, CasesRule, AcceptsRule, AcceptsMendsRule, KeepsPageRule}
 use Rattle.model.specs.RulesCalls.{FillsReadRule, FillsWriteRule, FillsPartRule, FillsNothingRule, RefusesLengthRule, RefusesPageRule}
 use Rattle.model.specs.RulesCalls.{AnswersReadRule, AnswersWriteRule, AnswersEvictRule, RefusesWornRule, RefusesReachRule}

@@ -8,7 +8,7 @@ use Prim.Native.Nat.{ℕ, ◌-◌, ◌≤◌, ◌<◌}
 use native.Mathlib.Omega.{arith}
 use lib.Dec.{leb, ltb, eqb}
 use lib.ListN.{get_or}
-use borrow.Author.Tests.{leb-true, le-leb, ltb-true, ltb-false, eqb-true, eqb-false, lt-ltb, le-ltb, eq-eqb, ne_eqb}
+use borrow.Author.Tests.{leb-true, le-leb, ltb-true, ltb-false, eqb-true, eqb-false, lt-ltb, eq-eqb, ne_eqb}
 use Rattle.prelude.specs.Scan.{first}
 use Rattle.prelude.proofs.Tests.{by-test, clash, fails, and_l, and_r, and_i}
 use Rattle.prelude.proofs.Scan.{first-hit, first-at, first-is, first-miss, argmax-ge, argmax-first, leads-is}

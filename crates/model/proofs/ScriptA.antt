@@ -21,7 +21,7 @@ use Rattle.model.specs.Calls.{Call, read, write, flush, checked, read_outcome, w
 use Rattle.model.specs.Calls.{steps_pages, call_pages, Page, lent_ok, open_store, Store, zero_page, memory_of, buffers_of, carried_out}
 use Rattle.model.specs.Calls.{reads_all, call_reading, call, heeding, fault_of, fault_met, some_page, mends_of, mends_met, sum, reads_flash}
 use Rattle.model.specs.Calls.{reads_page, steps_merge, merges_page, flash_cells}
-use Rattle.model.specs.Formats.{format_of, torn, plain, NearBy, NoFlips, Matches, no_code}
+use Rattle.model.specs.Formats.{format_of, torn, plain, NearBy, NoFlips}
 use Rattle.model.proofs.Formats.{demand_3_plain}
 use Rattle.model.specs.Lists.{Quiet, flash_pages, base_after, opened, fed, array_after}
 use Rattle.model.proofs.AuditClauses.{sizes_a, lent_a}

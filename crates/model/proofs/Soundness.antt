@@ -15,7 +15,7 @@ use Rattle.prelude.specs.Scan.{all, all_pairs}
 use Rattle.prelude.proofs.Tests.{each, every_of, by-test, clash, and_l, and_r, or_l, or_r, or_cases, not_t, not-i}
 use Rattle.prelude.proofs.Scan.{all-at, all_of, pairs-at, pairs_of, listed_at, once-has, has-once}
 use Rattle.model.specs.Sizes.{Sizes, vacant, sizes_ok, is_coded, is_marked, InLimits}
-use Rattle.model.specs.Directory.{Directory, slot_at, frame_at, valid_at, recency_at, uses_at, inFrame}
+use Rattle.model.specs.Directory.{Directory, slot_at, frame_at, valid_at, recency_at, inFrame}
 use Rattle.model.specs.Soundness.{shape_ok, slot_ok, frame_ok, slots_differ, frames_differ, cached_once, listed_once, slot_past, framePast}
 use Rattle.model.specs.Soundness.{uses_ok, sound, Shape, Entries, Listed, Counted, Sound}
 
@@ -124,21 +124,6 @@ pages-small sz h = let a : sz.N * sz.K ≤ 4096 * 64 = mul-le-mul h.N_high h.K_h
 
 pub K_pos : (sz : Sizes) → InLimits sz → 0 < sz.K
 K_pos sz h = let k = h.K_low in omega arith
-
--- the buffers' lengths are small
-module _ (sz : Sizes) (h : InLimits sz) where
-  pub flash-small : sz.N * sz.K * sz.S ≤ 536870912
-  flash-small = let a : sz.N * sz.K ≤ 4096 * 64 = mul-le-mul h.N_high h.K_high in
-      let b : sz.N * sz.K * sz.S ≤ 4096 * 64 * 2048 = mul-le-mul a h.S_high in omega arith
-
-  pub pspace-small : sz.P * sz.S ≤ 262144
-  pspace-small = let a : sz.P * sz.S ≤ 128 * 2048 = mul-le-mul h.P_high h.S_high in omega arith
-
-  pub frames_small : sz.B * sz.K ≤ 512
-  frames_small = let a : sz.B * sz.K ≤ 8 * 64 = mul-le-mul h.B_high h.K_high in omega arith
-
-  pub bspace-small : sz.B * sz.K * sz.S ≤ 1048576
-  bspace-small = let a : sz.B * sz.K * sz.S ≤ 512 * 2048 = mul-le-mul frames_small h.S_high in omega arith
 
 -- ---- two of a list of distinct entries
 

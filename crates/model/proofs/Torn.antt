@@ -3,13 +3,13 @@ use mathlib.Core.Path.{◌≡◌, refl, sym, ap, ◌∙◌}
 use mathlib.Core.Logic.{◌⊎◌, inl, inr}
 use mathlib.Core.Bool.{Bool, true, false, cond, ◌&&◌, ◌||◌}
 use mathlib.Core.List.{List, [], ◌∷◌}
-use Prim.Native.Nat.{ℕ, ◌+◌, ◌-◌, ◌*◌, ◌/◌, ◌%◌, ◌≤◌, ◌<◌}
+use Prim.Native.Nat.{ℕ, ◌+◌, ◌-◌, ◌*◌, ◌/◌, ◌≤◌, ◌<◌}
 use native.Mathlib.Omega.{arith}
 use lib.Arith.{digits_lt}
 use lib.Dec.{leb, ltb, eqb}
 use lib.ListN.{length, get_or, set, drop, replicate, length-replicate, get_or-replicate}
 use lib.Seq.{get_or-set_same, get_or-set_other, get_or-take, get_or-drop}
-use borrow.Author.Tests.{ltb-true, ltb-false, eqb-true, eqb-false, lt-ltb, le-ltb}
+use borrow.Author.Tests.{ltb-true, ltb-false, eqb-true, eqb-false, lt-ltb}
 use Rattle.prelude.specs.Scan.{tab, first}
 use Rattle.prelude.specs.Bits.{bit}
 use Rattle.prelude.specs.Pages.{page_at}
@@ -20,7 +20,7 @@ use Rattle.prelude.proofs.Tab.{length-tab, get_d_tab}
 use Rattle.model.specs.Sizes.{Sizes, vacant, is_marked, InLimits}
 use Rattle.model.specs.Directory.{Directory, slot_at, frame_at, valid_at, inFrame}
 use Rattle.model.specs.Soundness.{Sound}
-use Rattle.model.specs.Policy.{Choice, slot_of, in_slots, frame_with, Plan, plan, erased_by, is_worn, lowest_worn, Due, clean, due, due_of}
+use Rattle.model.specs.Policy.{Choice, in_slots, frame_with, plan, erased_by, is_worn, lowest_worn, due}
 use Rattle.model.specs.Moves.{Chip, Memory, cell_at, flash_page, worn_by, written, stepped, read_directory, written_pages, stepped_pages}
 use Rattle.model.specs.Calls.{Answer, is_refused, Call, read, write, part, step, flush, State, Outcome, turned_down, checked}
 use Rattle.model.specs.Calls.{read_outcome}
@@ -36,7 +36,7 @@ use Rattle.model.specs.CutCalls.{WholeBlocks, ShelfEnds}
 use Rattle.model.proofs.Soundness.{pages-small, limits_of}
 use Rattle.model.proofs.Opening.{open_accepted, opened-sound}
 use Rattle.model.proofs.Buffers.{fits-of}
-use Rattle.model.proofs.Lookup.{NoSlot, NoFrame, block-lt, block-vacant, offset_lt, page-div, page-mod, page-split, in_slots_lem}
+use Rattle.model.proofs.Lookup.{NoSlot, NoFrame, block-lt, block-vacant, page-div, page-mod, in_slots_lem}
 use Rattle.model.proofs.Lookup.{not-in_slots, frame_has, has-frame, no-frame_with, found-slot, some-pages, in_block_lem}
 use Rattle.model.proofs.Consistent.{Consistent, write-good, step-good}
 use Rattle.model.proofs.Steps.{Ready, Empty, due-elim, steps-clean}

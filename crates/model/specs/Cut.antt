@@ -5,7 +5,7 @@ use Rattle.model.specs.Sizes.{Sizes}
 use Rattle.model.specs.Directory.{Directory, frame_at}
 use Rattle.model.specs.Policy.{Choice, Plan, slot_hit, frame_hit, free_slot, join, fill, exchange, evict, plan, Due, clean, due, due_of}
 use Rattle.model.specs.Moves.{Chip, Memory, cell_at, programmed_to, worn_by, joined, joined_pages, merged, stepped, stepped_pages}
-use Rattle.model.specs.Calls.{Call, read, write, part, step, flush, State, Page, no_bytes, call_pages}
+use Rattle.model.specs.Calls.{Call, read, write, part, step, flush, State, Page, no_bytes}
 
 -- flash and wear
 pub record Left (C : Type 0) : Type 0 where

@@ -7,10 +7,9 @@ use Rattle.model.specs.Sizes.{Sizes}
 use Rattle.model.specs.Directory.{Directory, slot_at, inFrame, vacant_directory}
 use Rattle.model.specs.Soundness.{Listed}
 use Rattle.model.specs.Policy.{Choice}
-use Rattle.model.specs.Moves.{cell_at}
 use Rattle.model.specs.Calls.{Answer, open_done, read_done, write_done, step_done, step_clean, flush_done, refused, is_refused, Call, read}
 use Rattle.model.specs.Calls.{write, part, step, flush, State, Outcome, decide, heeding, Page, no_bytes, Cell, Format, CellFits}
-use Rattle.model.specs.Calls.{Buffers, Fits, Store, Result, zero_page, flash_cells, told, open_store, call_reading, page_seen}
+use Rattle.model.specs.Calls.{Buffers, Fits, Store, Result, flash_cells, told, open_store, call_reading, page_seen}
 
 -- ---- the list
 

@@ -1,5 +1,5 @@
 -- Request A8: a layer on the store that shelves what a write replaces, and takes the latest write back. h is the number of shelf pages.
-use Rattle.std.specs.Prelude.{◌≡◌, Bool, true, false, not, cond, ◌&&◌, List, [], ◌∷◌, ℕ, suc, ◌+◌, ◌-◌, ◌*◌, ◌<◌, leb, ltb, eqb, length}
+use Rattle.std.specs.Prelude.{◌≡◌, Bool, true, false, not, cond, ◌&&◌, List, [], ◌∷◌, ℕ, suc, ◌-◌, ◌*◌, ◌<◌, leb, ltb, eqb, length}
 use Rattle.std.specs.Prelude.{get_or, set, replicate}
 use Rattle.prelude.specs.Tests.{every}
 use Rattle.prelude.specs.Scan.{first, all, tab}
@@ -8,11 +8,11 @@ use Rattle.model.specs.Sizes.{Sizes, vacant, sizes_ok}
 use Rattle.model.specs.Directory.{Cache, blank_cache}
 use Rattle.model.specs.Soundness.{sound}
 use Rattle.model.specs.Policy.{Choice}
-use Rattle.model.specs.Calls.{Answer, refused, is_refused, Call, read, write, part, step, flush, State, Outcome, turned_down, reads_page}
-use Rattle.model.specs.Calls.{Page, no_bytes, Format, lent_ok, Store, Result, zero_page, flash_cells, lent_buffer, call_reading, page_seen}
+use Rattle.model.specs.Calls.{Answer, refused, is_refused, Call, read, write, part, step, flush, Outcome, turned_down, reads_page}
+use Rattle.model.specs.Calls.{Page, no_bytes, Format, lent_ok, Store, Result, flash_cells, lent_buffer, call_reading, page_seen}
 use Rattle.model.specs.Calls.{Cell, Buffers, open_store}
 use Rattle.model.specs.Formats.{store_format}
-use Rattle.model.specs.Lists.{Chosen, Picks, Reference, opened, book_says, fed, ReadGives, flipped, Borne, After}
+use Rattle.model.specs.Lists.{Chosen, Reference, opened, book_says, fed, ReadGives, flipped, Borne, After}
 
 -- ---- entries: page numbers from index 0 on, oldest first, then vacant
 

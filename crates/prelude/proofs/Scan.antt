@@ -162,14 +162,6 @@ first-upto n p i l = by-test (ltb (first n p) i)
 -- ---- a search under way, which goes on from o
 
 module _ (n : ℕ) (p : ℕ → Bool) where
-  pub from-hit : (o : ℕ) → o < n → p o ≡ true → first_from o (n - o) p ≡ o
-  unfolding first_from
-  from-hit o l e = ap (λ (k : ℕ). first_from o k p) (let h : n - o ≡ suc (n - suc o) = omega arith in h) ∙ rw (e, first_from)
-
-  pub from-miss : (o : ℕ) → o < n → p o ≡ false → first_from o (n - o) p ≡ first_from (o + 1) (n - (o + 1)) p
-  unfolding first_from
-  from-miss o l e = ap (λ (k : ℕ). first_from o k p) (let h : n - o ≡ suc (n - suc o) = omega arith in h) ∙ rw (e, first_from, add-one o)
-
   pub from_end : (o : ℕ) → n ≤ o → first_from o (n - o) p ≡ o
   unfolding first_from
   from_end o l = ap (λ (k : ℕ). first_from o k p) (let h : n - o ≡ 0 = omega arith in h)
@@ -443,28 +435,6 @@ first-least n m p g f h = let top = least-top m g n in first-is n p (least m g n
     (λ l. let w = least-is m g n l in let e = w.2 in rw (← e) (f w.0 w.1 (omega arith)))
 
 -- ---- greatest
-
--- a loop that keeps the greatest of the numbers that pass: none seen yet, and one more turn
-pub greatest-none : (g : ℕ → ℕ) → greatest 0 g ≡ 0
-unfolding greatest
-greatest-none g = refl
-
-module _ (i : ℕ) (g : ℕ → ℕ) {best : ℕ} (x : ℕ) (b : Bool) (e : best ≡ greatest i g) (f : cond b x 0 ≡ g i) where
-  pub greatest-taken : (ltb best x && b) ≡ true → x ≡ greatest (i + 1) g
-  unfolding greatest
-  greatest-taken t = let l = ltb-true best x (and_l (ltb best x) b t) in
-      let h : x ≡ g i = sym (ap (λ (d : Bool). cond d x 0) (and_r (ltb best x) b t)) ∙ f in rw add-one (omega arith)
-
-  pub greatest-left : (ltb best x && b) ≡ false → best ≡ greatest (i + 1) g
-  unfolding greatest
-  greatest-left t = rw add-one (by-test b
-      (λ u. let h : x ≡ g i = sym (ap (λ (d : Bool). cond d x 0) u) ∙ f in
-      let l = ltb-false best x (by-test (ltb best x) (λ v. clash (and_i v u) t) (λ v. v)) in omega arith)
-      (λ u. let h : 0 ≡ g i = sym (ap (λ (d : Bool). cond d x 0) u) ∙ f in omega arith))
-
--- and where it ends
-pub greatest-end : (g : ℕ → ℕ) (i n : ℕ) {best : ℕ} → best ≡ greatest i g → i ≡ n → best ≡ greatest n g
-greatest-end g i n e q = e ∙ ap (λ (k : ℕ). greatest k g) q
 
 pub greatest-ge : (n : ℕ) (g : ℕ → ℕ) (i : ℕ) → i < n → g i ≤ greatest n g
 unfolding greatest

@@ -1,5 +1,5 @@
 -- What a write puts on the shelf asks and leaves.
-use Rattle.std.specs.Prelude.{◌≡◌, Bool, cond, List, [], ℕ, ◌*◌, ◌≤◌, ◌<◌, length}
+use Rattle.std.specs.Prelude.{◌≡◌, Bool, cond, List, [], ℕ, suc, ◌*◌, ◌≤◌, ◌<◌, length}
 use Rattle.prelude.specs.Pages.{page_at, pages_of}
 use Rattle.model.specs.Sizes.{Sizes, vacant, InLimits}
 use Rattle.model.specs.Calls.{Page}
@@ -16,6 +16,11 @@ pub record Room (sz : Sizes) (es shelf earlier : List ℕ) : Type 0 where
   pub few : shelved es ≤ sz.shelf_pages
   pub shelf-length : length shelf ≡ sz.shelf_pages * sz.S
   pub earlier-length : length earlier ≡ 2048
+
+-- each of the h pages but the first went down by one
+pub record Lowered (s h : ℕ) (shelf shelf' : List ℕ) : Type 0 where
+  pub long : length shelf' ≡ length shelf
+  pub pages-are : (i : ℕ) → suc i < h → page_at s shelf' i ≡ page_at s shelf (suc i)
 
 -- page n joined entries and shelf
 pub record Shelved (sz : Sizes) (es shelf : List ℕ) (n : ℕ) (earlier es' shelf' : List ℕ) : Type 0 where

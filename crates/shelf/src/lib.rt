@@ -9,7 +9,7 @@ ghost use Rattle.model.specs.Calls.{is_refused};
 ghost use Rattle.model.specs.Shelf.{all_vacant, shelved, shelf_ok, shelf_fits};
 ghost use Rattle.cache.specs.View.{sizes_of};
 ghost use Rattle.answer.specs.Numbers.{write_of};
-ghost use Rattle.shelf.specs.Shelf.{Room, Shelved, Kept};
+ghost use Rattle.shelf.specs.Shelf.{Room, Lowered, Shelved, Kept};
 
 use address::PageNo;
 use answer::{Refusal, Write};
@@ -115,7 +115,7 @@ pub fn drop_latest(entries: &mut [u32; 8], latest: usize, answer: Result<Write, 
 }
 
 // Page n joins the shelf: after the entries in use or, where all are, at the end, the oldest leaving: the others go down by one, and so do
-// their pages, while the oldest page comes last, in the place of the new one.
+// their pages.
 fn put(z: Sizes, entries: &mut [u32; 8], shelf: &mut [u8], n: PageNo, earlier: &[u8])
     requires { Room (sizes_of z) entries.old shelf.old earlier.now }
     ensures { Shelved (sizes_of z) entries.old shelf.old n.0 earlier.now entries.new
@@ -131,7 +131,19 @@ fn put(z: Sizes, entries: &mut [u32; 8], shelf: &mut [u8], n: PageNo, earlier: &
     }
     let last = h - 1;
     entries.copy_within(1..h, 0);
-    shelf.rotate_left(s);
+    lower_pages(shelf, h, s);
     entries[last] = n.0;
     page::copy_page(shelf, last, earlier, 0, s);
+}
+
+// Each of the h pages but the first goes down by one. A copy a page: with `rotate_left` a write takes up to 1.3 times as long, and
+// `copy_within` goes byte by byte.
+fn lower_pages(shelf: &mut [u8], h: usize, s: usize)
+    requires { length shelf.old ≡ h * s }
+    ensures { Lowered s h shelf.old shelf.new }
+{
+    for i in 1..h {
+        let (low, high) = shelf.split_at_mut(i * s);
+        page::copy_page(low, i - 1, high, 0, s);
+    }
 }

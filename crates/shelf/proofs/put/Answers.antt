@@ -15,4 +15,4 @@ returns c =
     let m = c.copy_within.ensures.by_index in
     put_full _ _ _ _ _ c.requires _ _ _ _ _ c.used-k.ensures c.if-k-h.false (omega arith) c.copy_within.ensures.len
     (λ i l. m.0 i vacant (omega arith) (omega arith) ∙ ap (λ (j : ℕ). get_or c.args.entries.now j vacant) (omega arith))
-    (λ i l. m.2 i vacant (omega arith)) c.rotate_left.ensures.after refl c.copy_page-2.ensures
+    (λ i l. m.2 i vacant (omega arith)) c.lower_pages.ensures refl c.copy_page-2.ensures

@@ -1,5 +1,5 @@
 // A flush step, and a flush.
-ghost use Rattle.std.specs.Prelude.{false, []};
+ghost use Rattle.std.specs.Prelude.{◌≡◌, false, []};
 ghost use Rattle.model.specs.Policy.{policy_choice};
 ghost use Rattle.model.specs.Calls.{step, flush};
 ghost use Rattle.cache.specs.View.{directory_of};
@@ -22,6 +22,7 @@ pub fn step(
     ops: u32,
 ) -> Result<Option<Step>, Refusal>
     ensures loan { IsSameLent lent.old lent.new }
+    ensures order { directory.new.recency ≡ directory.old.recency }
     ensures called { let d = directory_of directory.old in
         let u = buffers_of lent.old pspace.now in
         let d' = directory_of directory.new in
@@ -49,6 +50,7 @@ pub fn flush(
     ops: u32,
 ) -> Result<Flush, Refusal>
     ensures loan { IsSameLent lent.old lent.new }
+    ensures order { directory.new.recency ≡ directory.old.recency }
     ensures called { let d = directory_of directory.old in
         let u = buffers_of lent.old pspace.now in
         let d' = directory_of directory.new in

@@ -14,7 +14,7 @@ use Rattle.model.specs.Directory.{Directory}
 use Rattle.model.specs.Policy.{policy_choice, clean, due}
 use Rattle.model.specs.Policy.{due_of}
 use Rattle.model.specs.Policy.{is_worn}
-use Rattle.model.specs.Moves.{worn_by, stepped_pages}
+use Rattle.model.specs.Moves.{worn_by, joined, vacated, stepped, stepped_pages}
 use Rattle.model.specs.Calls.{step_done, step_clean, refused, is_refused, step_outcome, merges_page, step_merges, Buffers}
 use Rattle.model.specs.Calls.{flash_cells, memory_of}
 use Rattle.model.specs.Cut.{cut_rewrite, cut_step}
@@ -22,6 +22,8 @@ use Rattle.model.proofs.Lookup.{block-vacant}
 use Rattle.model.proofs.Plan.{policy_choice-picks}
 use Rattle.model.proofs.Steps as steps
 use Rattle.model.proofs.Calls.{not-worn}
+use Rattle.cache.specs.View.{directory_of}
+use Rattle.cache.specs.declared.Directory as code
 use Rattle.chip.specs.declared.BlockSeen.{BlockSeen}
 use Rattle.chip.specs.declared.Rewrote.{Rewrote}
 use Rattle.chip.specs.Chip.{fault_in}
@@ -34,6 +36,12 @@ use Rattle.answer.proofs.Refusals.{fault_refused}
 use Rattle.answer.proofs.Heeding.{down-before, down-late, goes_on}
 use Rattle.clean.specs.Clean.{Lookable, MergesLooked, Cleanable, BlockCleaned}
 use Rattle.flushes.specs.Flushes.{state_in, StepCarried}
+
+-- a cleaning leaves the order of use
+pub order-kept : (sz : Sizes) (d d' : code.Directory) (b f : ℕ) → directory_of d' ≡ stepped sz (directory_of d) (due b f)
+    → d'.recency ≡ d.recency
+unfolding directory_of stepped vacated joined
+order-kept sz d d' b f e = ap (λ (x : Directory). x.recency) e
 
 -- a fault's number
 pub some-fault : (fault : Fault) → fault_number (Some fault) ≢ 0

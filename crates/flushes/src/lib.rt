@@ -32,6 +32,7 @@ pub fn step(
 ) -> Result<Option<Step>, Refusal>
     requires { Ready (sizes_of chip.old.sizes) (directory_of directory.old) (buffers_of chip.old pspace.now bspace.old) }
     ensures loan { IsSameLoan chip.old chip.new }
+    ensures order { directory.new.recency ≡ directory.old.recency }
     ensures carried { let u = buffers_of chip.old pspace.now bspace.old in
         let u' = buffers_of chip.new pspace.now bspace.new in
         StepCarried (sizes_of chip.old.sizes) (directory_of directory.old) u ops (step_of result) (mends_of_step result)
@@ -71,6 +72,7 @@ pub fn flush(
 ) -> Result<Flush, Refusal>
     requires { Ready (sizes_of chip.old.sizes) (directory_of directory.old) (buffers_of chip.old pspace.now bspace.old) }
     ensures loan { IsSameLoan chip.old chip.new }
+    ensures order { directory.new.recency ≡ directory.old.recency }
     ensures carried { let u = buffers_of chip.old pspace.now bspace.old in
         let u' = buffers_of chip.new pspace.now bspace.new in
         FlushCarried (sizes_of chip.old.sizes) (directory_of directory.old) u ops (flush_of result) (mends_of_flush result)
@@ -102,6 +104,7 @@ fn clean_all(
 ) -> Flush
     requires { Flushable (sizes_of chip.old.sizes) (directory_of directory.old) (buffers_of chip.old pspace.now bspace.old) mends }
     ensures loan { IsSameLoan chip.old chip.new }
+    ensures order { directory.new.recency ≡ directory.old.recency }
     ensures carried { let u = buffers_of chip.old pspace.now bspace.old in
         let u' = buffers_of chip.new pspace.now bspace.new in
         FlushCarried (sizes_of chip.old.sizes) (directory_of directory.old) u ops (flush_of (Ok result)) (mends_of_flush (Ok result))

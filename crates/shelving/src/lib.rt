@@ -110,6 +110,7 @@ pub fn step(
     ops: u32,
 ) -> Result<Option<Step>, Refusal>
     ensures loan { IsSameLent lent.old lent.new }
+    ensures order { directory.new.recency ≡ directory.old.recency }
     ensures shelved { let d = directory_of directory.old in
         let d' = directory_of directory.new in
         let u = buffers_of lent.old pspace.now in
@@ -132,6 +133,7 @@ pub fn flush(
     ops: u32,
 ) -> Result<Flush, Refusal>
     ensures loan { IsSameLent lent.old lent.new }
+    ensures order { directory.new.recency ≡ directory.old.recency }
     ensures shelved { let d = directory_of directory.old in
         let d' = directory_of directory.new in
         let u = buffers_of lent.old pspace.now in

@@ -1,11 +1,12 @@
 use native.Mathlib.Omega.{arith}
 use borrow.Author.Rules.{rules}
 use mathlib.Core.Path.{refl, ◌∙◌}
+use Rattle.flushes.proofs.Stepping.{order-kept}
 use Rattle.flushes.proofs.Flushing.{fits_kept, begins, flush-done, flush-cut, lookable, mends-due, cleanable, left, turns}
 use Rattle.flushes.proofs.clean_all.Goals as goal
 
 pub loop-due-init : goal.loop-due-init
-loop-due-init c = (search rules, begins c.args.ops c.requires, refl)
+loop-due-init c = (search rules, begins c.args.ops c.requires, refl, refl)
 
 pub mend_due-mend-requires : goal.mend_due-mend-requires
 mend_due-mend-requires c =
@@ -20,6 +21,9 @@ clean_block-rewrote-requires c =
     let v = c.view.ensures in
     rw k.0.sizes (cleanable k.1 _ _ c.in-Some.ensures _
     (rw (v.sizes, k.0.sizes, v.flash, v.codes) at c.mend_due-mend.ensures))
+
+pub returns-then-left-z-clause-order : goal.returns-then-left-z-clause-order
+returns-then-left-z-clause-order c = order-kept _ _ _ _ _ c.clean_block-rewrote.ensures.cleaned.directory-is ∙ c.loop-due.invariant.3
 
 pub returns-then-left-z-clause-carried : goal.returns-then-left-z-clause-carried
 returns-then-left-z-clause-carried c =
@@ -42,6 +46,7 @@ loop-due-preserved c =
       turns k.1 _ _ c.in-Some.ensures (rw k.0.sizes at w.ensures.cleaned) c.if-left-z.false fits _ _
           (omega arith) (omega arith),
       k.2,
+      order-kept _ _ _ _ _ w.ensures.cleaned.directory-is ∙ k.3,
     )
 
 pub returns-clause-carried : goal.returns-clause-carried

@@ -11,7 +11,7 @@ abbrev pub invariant-loop-due : goal.invariant-loop-due
 invariant-loop-due l = let old = l.initial.chip in
     IsSameLoan old l.chip × Underway (sizes_of old.sizes) (directory_of l.initial.directory) (buffers_of old l.pspace l.initial.bspace)
     l.mends l.ops (directory_of l.directory) (buffers_of l.chip l.pspace l.bspace) l.done.rewrites l.done.merged l.left
-    × (l.done.mends ≡ l.mends)
+    × (l.done.mends ≡ l.mends) × (l.directory.recency ≡ l.initial.directory.recency)
 
 abbrev pub decreases-loop-due : goal.decreases-loop-due
 decreases-loop-due l = l.z.blocks - l.done.rewrites

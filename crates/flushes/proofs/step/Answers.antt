@@ -1,7 +1,7 @@
 use mathlib.Core.Path.{sym, ◌∙◌}
 use Rattle.cache.specs.View.{sizes_of, directory_of}
 use Rattle.clean.specs.Clean.{MergesLooked}
-use Rattle.flushes.proofs.Stepping.{due-lookable, step-clean, has-wear, step-worn, step-late, cleanable, step-done}
+use Rattle.flushes.proofs.Stepping.{due-lookable, step-clean, has-wear, step-worn, step-late, cleanable, step-done, order-kept}
 use Rattle.flushes.proofs.step.Goals as goal
 use Rattle.flushes.proofs.step.Goals.{After-look-seen}
 
@@ -39,3 +39,6 @@ returns-clause-carried c =
     let at = goal.at.returns-clause-carried c in
     step-done c.requires _ _ _ c.in-Some.ensures (sym c.is_worn.ensures ∙ c.if-is_worn.false) _ (looked at.After-look-seen)
     c.in_default-fault.is c.clean_block-done.ensures.cleaned
+
+pub returns-clause-order : goal.returns-clause-order
+returns-clause-order c = order-kept _ _ _ _ _ c.clean_block-done.ensures.cleaned.directory-is

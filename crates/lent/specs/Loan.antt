@@ -1,5 +1,5 @@
 -- Lent buffers as the model's, and what a function that is lent them keeps.
-use Rattle.std.specs.Prelude.{◌≡◌, List, ℕ}
+use Rattle.std.specs.Prelude.{◌≡◌, List, ℕ, length}
 use Rattle.model.specs.Calls.{Buffers}
 use Rattle.answer.specs.Carried.{buffers}
 use Rattle.lent.specs.declared.Lent.{Lent}
@@ -13,10 +13,15 @@ buffers_of l pspace = buffers l.flash.now l.codes.now l.marks.now l.wear.now psp
 abbrev pub buffers_seen : LentView → Buffers
 buffers_seen v = buffers v.flash.now v.codes.now v.marks.now v.wear.now v.pspace.now v.bspace.now
 
--- the fields are still the same references
+-- the fields are still the same references, to as many bytes
 pub record IsSameLent (old new : Lent) : Type 0 where
   pub flash : new.flash.ghost_name ≡ old.flash.ghost_name
   pub codes : new.codes.ghost_name ≡ old.codes.ghost_name
   pub marks : new.marks.ghost_name ≡ old.marks.ghost_name
   pub wear : new.wear.ghost_name ≡ old.wear.ghost_name
   pub bspace : new.bspace.ghost_name ≡ old.bspace.ghost_name
+  pub flash-long : length new.flash.now ≡ length old.flash.now
+  pub codes-long : length new.codes.now ≡ length old.codes.now
+  pub marks-long : length new.marks.now ≡ length old.marks.now
+  pub wear-long : length new.wear.now ≡ length old.wear.now
+  pub bspace-long : length new.bspace.now ≡ length old.bspace.now

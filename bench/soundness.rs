@@ -20,7 +20,8 @@ use std::time::Instant;
 
 extern "C" {
     fn record_sound(r: Numbers) -> bool;
-    fn lists_sound(opening: Opening, directory: &Directory) -> bool;
+    fn directory_sound(opening: Opening, directory: &Directory) -> bool;
+    fn lists_sound(opening: Opening, slots: &[u32; 128], frames: &[u32; 8], valid: &[u64; 8], recency: &[u8; 8], uses: &[u32; 8]) -> bool;
 }
 
 fn proved(r: Numbers) -> bool {
@@ -28,7 +29,12 @@ fn proved(r: Numbers) -> bool {
 }
 
 fn lent(r: &Numbers) -> bool {
-    unsafe { lists_sound(r.opening, &r.directory) }
+    unsafe { directory_sound(r.opening, &r.directory) }
+}
+
+fn lists(r: &Numbers) -> bool {
+    let d = &r.directory;
+    unsafe { lists_sound(r.opening, &d.slots, &d.frames, &d.valid, &d.recency, &d.uses) }
 }
 
 #[inline(never)]
@@ -109,13 +115,14 @@ fn agree(random: &mut Random) {
             let next = spoilt(random, r);
             let answer = proved(next);
             assert_eq!(answer, lent(&next));
+            assert_eq!(answer, lists(&next));
             assert_eq!(answer, by_value(next));
             assert_eq!(answer, by_reference(&next));
             all += 1;
             unsound += !answer as u32;
         }
     }
-    println!("{all} records, {unsound} of them unsound: all four tests agree");
+    println!("{all} records, {unsound} of them unsound: all five tests agree");
 }
 
 // The time of one call in nanoseconds.

@@ -3,7 +3,7 @@
 
 ghost use Rattle.std.specs.Prelude.{◌≡◌};
 ghost use Rattle.model.specs.Soundness.{sound};
-ghost use Rattle.cache.specs.View.{sizes_of, directory_of};
+ghost use Rattle.cache.specs.View.{sizes_of, directory_of, numbers};
 
 use cache::{Directory, Sizes};
 
@@ -23,10 +23,26 @@ pub extern "C" fn record_sound(r: Record) -> bool
     sound::directory_sound(r.sizes, &r.directory)
 }
 
-// The same of a directory that is lent, as the store's calls have it tested. The name is the one that bench/soundness.rs links.
+// The same of a directory that is lent, as the store's calls have it tested.
 #[unsafe(no_mangle)]
-pub extern "C" fn lists_sound(sizes: Sizes, directory: &Directory) -> bool
+pub extern "C" fn directory_sound(sizes: Sizes, directory: &Directory) -> bool
     ensures { result ≡ sound (sizes_of sizes) (directory_of directory.now) }
 {
     sound::directory_sound(sizes, directory)
+}
+
+// The same of the directory's lists. Each list has as many entries as its type says.
+#[unsafe(no_mangle)]
+pub extern "C" fn lists_sound(
+    sizes: Sizes,
+    slots: &[u32; 128],
+    frames: &[u32; 8],
+    valid: &[u64; 8],
+    recency: &[u8; 8],
+    uses: &[u32; 8],
+) -> bool
+    ensures { let d = numbers slots.now frames.now valid.now recency.now uses.now in
+        result ≡ sound (sizes_of sizes) d }
+{
+    sound::lists_sound(sizes, slots, frames, valid, recency, uses)
 }

@@ -1,6 +1,7 @@
 // The cache record's numbers by value: its sizes and its directory, which says what stands where.
 #![tactic(auto)]
 
+mod lists; // lists.rt: a directory from lists of plain numbers
 pub mod search; // search.rt: what a search of the slots may pass over
 
 ghost use Rattle.std.specs.Prelude.{◌≡◌};

@@ -7,7 +7,7 @@ ghost use Rattle.prelude.specs.Scan.{all, all_pairs};
 ghost use Rattle.model.specs.Sizes.{vacant, InLimits};
 ghost use Rattle.model.specs.Directory.{slot_at, frame_at, inFrame};
 ghost use Rattle.model.specs.Soundness.{sound, frames_differ, listed_once, framePast, slot_past, uses_ok, Shape};
-ghost use Rattle.cache.specs.View.{sizes_of, directory_of};
+ghost use Rattle.cache.specs.View.{sizes_of, directory_of, numbers};
 ghost use Rattle.sound.specs.Soundness.{slot_good, FramesTested, Ready};
 
 use address::PageNo;
@@ -17,11 +17,27 @@ use cache::{Directory, Sizes, VACANT};
 pub fn directory_sound(sizes: Sizes, directory: &Directory) -> bool
     ensures { result ≡ sound (sizes_of sizes) (directory_of directory.now) }
 {
-    sizes.ok() && lists_sound(sizes, directory)
+    sizes.ok() && entries_sound(sizes, directory)
 }
 
-// The same where the sizes are within their limits.
-fn lists_sound(sizes: Sizes, directory: &Directory) -> bool
+// The same of five lists, for a caller that has no directory.
+pub fn lists_sound(
+    sizes: Sizes,
+    slots: &[u32; 128],
+    frames: &[u32; 8],
+    valid: &[u64; 8],
+    recency: &[u8; 8],
+    uses: &[u32; 8],
+) -> bool
+    ensures { let d = numbers slots.now frames.now valid.now recency.now uses.now in
+        result ≡ sound (sizes_of sizes) d }
+{
+    let directory = Directory::of(*slots, *frames, *valid, *recency, *uses);
+    directory_sound(sizes, &directory)
+}
+
+// The soundness test where the sizes are within their limits.
+fn entries_sound(sizes: Sizes, directory: &Directory) -> bool
     requires { InLimits (sizes_of sizes) }
     ensures { result ≡ sound (sizes_of sizes) (directory_of directory.now) }
 {

@@ -6,8 +6,8 @@ use Rattle.model.proofs.Soundness.{limits-test}
 use Rattle.cache.specs.View.{sizes_of, directory_of}
 use Rattle.sound.specs.Soundness.{slot_good}
 use Rattle.sound.proofs.Whole.{shape-ok, whole}
-use Rattle.sound.proofs.lists_sound.Goals as goal
-use Rattle.sound.proofs.lists_sound.Goals.{After-uses_ok}
+use Rattle.sound.proofs.entries_sound.Goals as goal
+use Rattle.sound.proofs.entries_sound.Goals.{After-uses_ok}
 
 -- the tests that do without the filter, and the rest, are the model's test
 rest : (c : After-uses_ok) {others : Bool}

@@ -1,5 +1,8 @@
 // What reading a flash page meets.
-ghost use Rattle.std.specs.Prelude.{◌≡◌};
+ghost use Rattle.std.specs.Prelude.{◌≡◌, cond, eqb};
+ghost use Rattle.model.specs.Sizes.{vacant};
+ghost use Rattle.model.specs.Calls.{refused};
+ghost use Rattle.answer.specs.Numbers.{refusal_of};
 
 use crate::Refusal;
 
@@ -24,4 +27,14 @@ impl From<Fault> for Refusal {
             Fault::Torn => Refusal::Torn,
         }
     }
+}
+
+// The same by the fault's number, 7 or 14.
+pub fn late(fault: u32) -> Refusal
+    ensures { refusal_of result ≡ refused (cond (eqb fault 7) 7 14) vacant }
+{
+    if fault == 7 {
+        return Refusal::Unreadable;
+    }
+    Refusal::Torn
 }

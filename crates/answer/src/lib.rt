@@ -5,7 +5,7 @@ mod fault; // fault.rt: what reading a flash page meets, and the refusal for it
 mod way; // way.rt: the ways of reads and writes, and their numbers
 
 use address::BlockNo;
-pub use fault::Fault;
+pub use fault::{Fault, late};
 pub use way::{ReadWay, WriteWay};
 
 // Why a call is turned down: document 01's refusals 1 to 6, and those that requests add.

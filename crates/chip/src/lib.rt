@@ -5,6 +5,7 @@
 
 pub mod lent; // lent.rt: the chip as it is lent, and its operations
 mod merge; // merge.rt: the merge reads of a rewrite
+pub mod numbers; // numbers.rt: faults by their numbers
 mod reading; // reading.rt: pages are looked at, and read
 pub mod torn; // torn.rt: the torn blocks
 

@@ -9,7 +9,9 @@ use address::{BlockNo, PageNo};
 use cache::{Directory, Sizes, VACANT};
 
 // The pages of block b in slots go into frame f, which is b's or vacant, and their slots are vacant then. Only the frame's own
-// stretch of b-space is lent to the copying.
+// stretch of b-space is lent to the copying. In line, as `take` is: apart from its callers the copies become calls of memmove, which the
+// archive of a rehearsal then needs from outside.
+#[inline(always)]
 pub fn join(
     z: Sizes,
     directory: &mut Directory,
@@ -29,6 +31,7 @@ pub fn join(
 
 // Each slot of block b in turn: its page goes to its offset in frame f's stretch, and the slot is vacant then. A frame that was vacant has
 // its first use. No `for`: a turn changes the slots that are searched.
+#[inline(always)]
 fn take(z: Sizes, directory: &mut Directory, pspace: &[u8], frame: &mut [u8], b: BlockNo, f: usize)
     requires { Fills (sizes_of z) (directory_of directory.old) b.0 pspace.now frame.old × (f < z.frames) }
     ensures { Took (sizes_of z) (directory_of directory.old) b.0 f pspace.now frame.old (directory_of directory.new) frame.new }

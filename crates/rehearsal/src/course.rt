@@ -40,14 +40,12 @@ pub(crate) fn run(
         let u' = plain_lent flash.new wear.new pspace.new bspace.new in
         scene_of result u' ≡ rehearsed z z.turns (scene (blank_class z.state) (store_of k u)) }
 {
-    let mut s = Seat {
-        class: blank(z.state),
-        cache: k,
-    };
+    let mut class = blank(z.state);
+    let mut cache = k;
     for t in 0..z.turns {
-        s = turn(z, s, flash, wear, pspace, bspace, page, t);
+        cache = turn(z, &mut class, cache, flash, wear, pspace, bspace, page, t);
     }
-    s
+    Seat { class, cache }
 }
 
 // Before the first turn.
@@ -62,29 +60,28 @@ fn blank(state: u32) -> Class
     }
 }
 
-// One turn: a call of bench t mod benches.
+// One turn: a call of bench t mod benches. The class is changed where it lies: handed back beside the record, it costs a copy more of both.
 fn turn(
     z: Setting,
-    s: Seat,
+    class: &mut Class,
+    cache: Cache,
     flash: &mut [u8],
     wear: &mut [u32],
     pspace: &mut [u8],
     bspace: &mut [u8],
     page: &mut [u8],
     t: u32,
-) -> Seat
-    requires { Ready z × Seated z s.class 1023 × ((sizes_of s.cache.sizes).K ≤ 64) × (length page.old ≡ z.page_size) }
+) -> Cache
+    requires { Ready z × Seated z class.old 1023 × ((sizes_of cache.sizes).K ≤ 64) × (length page.old ≡ z.page_size) }
     ensures { let u = plain_lent flash.old wear.old pspace.old bspace.old in
         let u' = plain_lent flash.new wear.new pspace.new bspace.new in
-        scene_of result u' ≡ turned z t (scene_of s u) }
+        scene class.new (store_of result u') ≡ turned z t (scene class.old (store_of cache u)) }
 {
     let b = (t % z.benches) as usize;
-    let u = turns::take(s.class.state, s.class.last[b], z.rates());
-    let served = serve::serve(s.cache, flash, wear, pspace, bspace, page, u.call);
-    Seat {
-        class: seated(s.class, b, u.page, u.state, served.answered),
-        cache: served.cache,
-    }
+    let u = turns::take(class.state, class.last[b], z.rates());
+    let served = serve::serve(cache, flash, wear, pspace, bspace, page, u.call);
+    *class = seated(*class, b, u.page, u.state, served.answered);
+    served.cache
 }
 
 // The class after a turn: the page is bench b's last page, refused or not, and the answer is counted.

@@ -2,13 +2,15 @@
 use mathlib.Core.Path.{◌≡◌, sym, ap, ◌∙◌}
 use mathlib.Core.Bool.{Bool, true, false}
 use mathlib.Core.List.{List}
-use Prim.Native.Nat.{ℕ, ◌*◌}
+use Prim.Native.Nat.{ℕ, ◌*◌, ◌≤◌}
+use native.Mathlib.Omega.{arith}
+use native.Mathlib.Nat.{mul-le-mul}
 use lib.Dec.{leb, eqb}
 use lib.ListN.{length, get_or}
 use borrow.Author.Tests.{eqb-true, eqb-false}
 use Rattle.prelude.specs.Scan.{all}
 use Rattle.prelude.proofs.Tests.{by-test, each}
-use Rattle.model.specs.Sizes.{Sizes, vacant, sizes_ok}
+use Rattle.model.specs.Sizes.{Sizes, InLimits, vacant, sizes_ok}
 use Rattle.model.specs.Directory.{vacant_directory, blank_cache}
 use Rattle.model.specs.Formats.{store_format}
 use Rattle.model.specs.Shelf.{ShelfOpened, no_entries, store_open}
@@ -18,6 +20,10 @@ use Rattle.model.proofs.Shelving.{opened_below, open_fit, open_unfit, open_unsiz
 pub wear-length : (sz : Sizes) (u : Buffers) → lent_ok store_format sz u ≡ true → length u.wear ≡ sz.N
 unfolding lent_ok
 wear-length sz u h = eqb-true _ _ (each _ h).1.1.1.0
+
+-- the shelf is short
+pub shelf-small : (sz : Sizes) → InLimits sz → sz.shelf_pages * sz.S ≤ 16384
+shelf-small sz h = let a : sz.shelf_pages * sz.S ≤ 8 * 2048 = mul-le-mul h.shelf-high h.S_high in omega arith
 
 module _ (sz : Sizes) (u : Buffers) where
   abbrev refused_as : ℕ → ShelfOpened

@@ -24,7 +24,9 @@ impl Cache {
             Contract self u (made.back result (buffers flash.new codes.new marks.new wear.new
             pspace.new bspace.new)) }
     {
-        let mut cache = self;
+        let sizes = self.sizes;
+        let mut entries = self.entries;
+        let mut directory = self.directory;
         let mut lent = Lent {
             flash,
             codes,
@@ -33,14 +35,21 @@ impl Cache {
             bspace,
         };
         let answer = shelving::back::back(
-            cache.sizes,
-            &mut cache.entries,
-            &mut cache.directory,
+            sizes,
+            &mut entries,
+            &mut directory,
             &mut lent,
             pspace,
             shelf,
             checked::UNCUT,
         );
-        WriteOut { cache, answer }
+        WriteOut {
+            cache: Cache {
+                sizes,
+                entries,
+                directory,
+            },
+            answer,
+        }
     }
 }

@@ -1,6 +1,7 @@
 // The page store: the cache record, and the calls on it. Each call takes the record by value with the lent buffers and hands back the next
 // record beside its answer; a refused call changes nothing. The buffers are lent one by one, since C hands them on so: each call makes a
-// `Lent` of them for the crates below.
+// `Lent` of them for the crates below. A read and a write take the record apart and put it together again: lent as a part of it, the
+// directory keeps the whole record in memory, which costs a copy more of it, and a rehearsal then can't tell that its options are 0.
 #![tactic(auto)]
 
 mod back; // back.rt: taking a write back

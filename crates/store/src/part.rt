@@ -30,7 +30,9 @@ impl Cache {
             wear.new pspace.new bspace.new shelf.new in
             Contract self u (made.part n first bytes.now page.old result u' page.new) }
     {
-        let mut cache = self;
+        let sizes = self.sizes;
+        let mut entries = self.entries;
+        let mut directory = self.directory;
         let mut lent = Lent {
             flash,
             codes,
@@ -39,9 +41,9 @@ impl Cache {
             bspace,
         };
         let answer = shelving::part(
-            cache.sizes,
-            &mut cache.entries,
-            &mut cache.directory,
+            sizes,
+            &mut entries,
+            &mut directory,
             &mut lent,
             pspace,
             shelf,
@@ -51,6 +53,13 @@ impl Cache {
             page,
             checked::UNCUT,
         );
-        WriteOut { cache, answer }
+        WriteOut {
+            cache: Cache {
+                sizes,
+                entries,
+                directory,
+            },
+            answer,
+        }
     }
 }

@@ -26,7 +26,9 @@ impl Cache {
             wear.now pspace.now bspace.now shelf.now in
             Contract self u (made.read n page.old result page.new) }
     {
-        let mut cache = self;
+        let sizes = self.sizes;
+        let entries = self.entries;
+        let mut directory = self.directory;
         let lent = LentView {
             flash,
             codes,
@@ -35,15 +37,14 @@ impl Cache {
             pspace,
             bspace,
         };
-        let answer = shelving::read(
-            cache.sizes,
-            &cache.entries,
-            &mut cache.directory,
-            lent,
-            shelf,
-            n,
-            page,
-        );
-        ReadOut { cache, answer }
+        let answer = shelving::read(sizes, &entries, &mut directory, lent, shelf, n, page);
+        ReadOut {
+            cache: Cache {
+                sizes,
+                entries,
+                directory,
+            },
+            answer,
+        }
     }
 }

@@ -27,7 +27,9 @@ impl Cache {
             wear.new pspace.new bspace.new shelf.new in
             Contract self u (made.write n page.now result u') }
     {
-        let mut cache = self;
+        let sizes = self.sizes;
+        let mut entries = self.entries;
+        let mut directory = self.directory;
         let mut lent = Lent {
             flash,
             codes,
@@ -36,9 +38,9 @@ impl Cache {
             bspace,
         };
         let answer = shelving::write(
-            cache.sizes,
-            &mut cache.entries,
-            &mut cache.directory,
+            sizes,
+            &mut entries,
+            &mut directory,
             &mut lent,
             pspace,
             shelf,
@@ -46,6 +48,13 @@ impl Cache {
             page,
             checked::UNCUT,
         );
-        WriteOut { cache, answer }
+        WriteOut {
+            cache: Cache {
+                sizes,
+                entries,
+                directory,
+            },
+            answer,
+        }
     }
 }

@@ -2,7 +2,7 @@ use native.Mathlib.Omega.{arith}
 use mathlib.Core.Path.{refl, ap, ◌∙◌}
 use Rattle.store.specs.View.{plain_lent, store_of}
 use Rattle.rehearsal.specs.declared.course.Class.{Class}
-use Rattle.rehearsal.specs.Class.{scene, scene_of}
+use Rattle.rehearsal.specs.Class.{scene}
 use Rattle.rehearsal.proofs.Seats.{seated_few, again, no-turn}
 use Rattle.rehearsal.proofs.course.run.Goals as goal
 
@@ -12,16 +12,16 @@ loop-t-init c =
     let a = c.args in
     let opened = store_of a.k (plain_lent a.flash.now a.wear.now a.pspace.now a.bspace.now) in (
       record { flash = refl; wear = refl; pspace = refl; bspace = refl; page = refl },
-      ap (λ (y : Class). scene y opened) c.blank.ensures ∙ no-turn a.z _,
+      ap (λ (y : Class). scene y opened) c.blank-class.ensures ∙ no-turn a.z _,
     )
 
-pub turn-s-requires : goal.turn-s-requires
-turn-s-requires c =
+pub turn-cache-requires : goal.turn-cache-requires
+turn-cache-requires c =
     let a = c.args in
     let opened = store_of a.k (plain_lent a.flash.now a.wear.now a.pspace.now a.bspace.now) in
     let q = c.requires in
     let l = c.loop-t in
-    let here = scene_of l.s (plain_lent l.flash l.wear l.pspace l.bspace) in
+    let here = scene l.class (store_of l.cache (plain_lent l.flash l.wear l.pspace l.bspace)) in
     let few = seated_few a.z l.t opened here q.0 q.1 (omega arith) l.invariant.1 in
     (q.0, few.0, few.1, l.invariant.0.page ∙ q.2)
 
@@ -30,8 +30,8 @@ loop-t-preserved c =
     let a = c.args in
     let opened = store_of a.k (plain_lent a.flash.now a.wear.now a.pspace.now a.bspace.now) in
     let l = c.loop-t in
-    let here = scene_of l.s (plain_lent l.flash l.wear l.pspace l.bspace) in
-    let k = c.turn-s.auto in
+    let here = scene l.class (store_of l.cache (plain_lent l.flash l.wear l.pspace l.bspace)) in
+    let k = c.turn-cache.auto in
     let s = l.invariant.0 in (
       record {
         flash = omega (arith, k, s);
@@ -40,5 +40,5 @@ loop-t-preserved c =
         bspace = omega (arith, k, s);
         page = omega (arith, k, s);
       },
-      again a.z l.t (scene _ opened) here _ l.invariant.1 c.turn-s.ensures,
+      again a.z l.t (scene _ opened) here _ l.invariant.1 c.turn-cache.ensures,
     )

@@ -2,10 +2,10 @@ use native.Mathlib.Omega.{arith}
 use mathlib.Core.Path.{refl, sym, ap, subst, ◌∙◌}
 use Prim.Native.Nat.{◌%◌}
 use lib.ListN.{get_or}
-use Rattle.store.specs.View.{plain_lent}
+use Rattle.store.specs.View.{plain_lent, store_of}
 use Rattle.tally.specs.Count.{Ranged}
 use Rattle.turns.specs.Turns.{turn_of}
-use Rattle.rehearsal.specs.Class.{Gave, scene_of}
+use Rattle.rehearsal.specs.Class.{Gave, scene}
 use Rattle.rehearsal.proofs.Seats.{served-ranged, turn_is}
 use Rattle.rehearsal.proofs.course.turn.Goals as goal
 
@@ -13,7 +13,7 @@ use Rattle.rehearsal.proofs.course.turn.Goals as goal
 pub seated-requires : goal.seated-requires
 seated-requires c =
     let a = c.args in
-    let before = scene_of a.s (plain_lent a.flash.now a.wear.now a.pspace.now a.bspace.now) in
+    let before = scene a.class.now (store_of a.cache (plain_lent a.flash.now a.wear.now a.pspace.now a.bspace.now)) in
     let r = c.requires.0 in (
       omega arith,
       record {
@@ -26,7 +26,7 @@ seated-requires c =
 pub returns : goal.returns
 returns c =
     let a = c.args in
-    let before = scene_of a.s (plain_lent a.flash.now a.wear.now a.pspace.now a.bspace.now) in
+    let before = scene a.class.now (store_of a.cache (plain_lent a.flash.now a.wear.now a.pspace.now a.bspace.now)) in
     turn_is a.z a.t before (a.t % a.z.benches) _ c.take-u.result _ c.seated.result refl
-    (c.take-u.ensures ∙ ap (turn_of a.s.class.state (get_or a.s.class.last (a.t % a.z.benches) 0)) c.rates.ensures)
+    (c.take-u.ensures ∙ ap (turn_of a.class.now.state (get_or a.class.now.last (a.t % a.z.benches) 0)) c.rates.ensures)
     c.requires.3 c.serve-served.ensures c.seated.ensures

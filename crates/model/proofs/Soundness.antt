@@ -125,6 +125,21 @@ pages-small sz h = let a : sz.N * sz.K ≤ 4096 * 64 = mul-le-mul h.N_high h.K_h
 pub K_pos : (sz : Sizes) → InLimits sz → 0 < sz.K
 K_pos sz h = let k = h.K_low in omega arith
 
+-- the buffers' lengths are small
+module _ (sz : Sizes) (h : InLimits sz) where
+  pub flash-small : sz.N * sz.K * sz.S ≤ 536870912
+  flash-small = let a : sz.N * sz.K ≤ 4096 * 64 = mul-le-mul h.N_high h.K_high in
+      let b : sz.N * sz.K * sz.S ≤ 4096 * 64 * 2048 = mul-le-mul a h.S_high in omega arith
+
+  pub pspace-small : sz.P * sz.S ≤ 262144
+  pspace-small = let a : sz.P * sz.S ≤ 128 * 2048 = mul-le-mul h.P_high h.S_high in omega arith
+
+  pub frames_small : sz.B * sz.K ≤ 512
+  frames_small = let a : sz.B * sz.K ≤ 8 * 64 = mul-le-mul h.B_high h.K_high in omega arith
+
+  pub bspace-small : sz.B * sz.K * sz.S ≤ 1048576
+  bspace-small = let a : sz.B * sz.K * sz.S ≤ 512 * 2048 = mul-le-mul frames_small h.S_high in omega arith
+
 -- ---- two of a list of distinct entries
 
 apart : (n : ℕ) (g : ℕ → ℕ) → ((i j : ℕ) → i < j → j < n → (g j ≡ vacant) ⊎ (g i ≡ g j → ⊥)) → (i j : ℕ) → i < n → j < n → g i < vacant

@@ -15,12 +15,14 @@ pub struct Record {
     pub directory: Directory,
 }
 
-// Whether the record is sound.
+// Whether the record is sound. It is taken apart: of a part that is lent the compiler makes a copy, by C's memcpy, which a program that
+// links no C library has not.
 #[unsafe(no_mangle)]
 pub extern "C" fn record_sound(r: Record) -> bool
     ensures { result ≡ sound (sizes_of r.sizes) (directory_of r.directory) }
 {
-    sound::directory_sound(r.sizes, &r.directory)
+    let Record { sizes, directory } = r;
+    sound::directory_sound(sizes, &directory)
 }
 
 // The same of a directory that is lent, as the store's calls have it tested.

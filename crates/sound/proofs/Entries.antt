@@ -52,9 +52,8 @@ module _ (d : Directory) where
   abbrev x : ℕ → ℕ
   x f = (get_or d.frames f (block_no 0)).0
 
-  pub slot_new_read : (j : ℕ) → j < length d.slots → not (list_any (λ n. eqb n.0 (s j)) (take j d.slots))
-      ≡ all j (λ i. not (eqb (slot_at (directory_of d) i) (slot_at (directory_of d) j)))
-  slot_new_read j l = none-in (λ n. eqb n.0 (s j)) d.slots (page_no 0) j (omega arith) ∙ simp (slot-of d)
+  pub slot_differs_read : (i j : ℕ) → not (eqb (slot_at (directory_of d) i) (slot_at (directory_of d) j)) ≡ not (eqb (s i) (s j))
+  slot_differs_read i j = rw (slot-of d i, slot-of d j) refl
 
   pub frame_new_read : (f : ℕ) → f < length d.frames → not (list_any (λ b. eqb b.0 (x f)) (take f d.frames))
       ≡ all f (λ e. not (eqb (frame_at (directory_of d) e) (frame_at (directory_of d) f)))
@@ -82,4 +81,15 @@ module _ (d : Directory) where
     outside_read n f = ap (λ (y : ℕ). not (eqb y (n / sz.K) && bit (get_or d.valid f 0) (n % sz.K))) (frame-of d f)
 
 -- a loop that makes such a test at each turn
-pub ruleset testing = (all_none, all_more, all_end, slots_below, frames_below, slot_past_read, frame_past_read, uses_read, outside_read)
+pub ruleset testing = (
+  all_none,
+  all_more,
+  all_end,
+  slots_below,
+  frames_below,
+  slot_past_read,
+  frame_past_read,
+  uses_read,
+  outside_read,
+  slot_differs_read,
+)

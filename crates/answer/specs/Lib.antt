@@ -1,3 +1,4 @@
 pub mod Ways
 pub mod Numbers
+pub mod ByNumber
 pub mod Carried

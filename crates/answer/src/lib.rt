@@ -2,6 +2,7 @@
 #![tactic(auto)]
 
 mod fault; // fault.rt: what reading a flash page meets, and the refusal for it
+pub mod numbers; // numbers.rt: accepted reads and writes in numbers
 mod way; // way.rt: the ways of reads and writes, and their numbers
 
 use address::BlockNo;

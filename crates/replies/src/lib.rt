@@ -6,7 +6,7 @@ ghost use Rattle.model.specs.Sizes.{vacant};
 ghost use Rattle.answer.specs.Numbers.{refusal_of};
 ghost use Rattle.replies.specs.Numbers.{accepted, numbers_of};
 
-use answer::{Flush, Opening, Read, Refusal, Step, Write};
+use answer::{Flush, Opening, Read, Refusal, Step, Write, numbers};
 use cache::VACANT;
 
 // `refusal` is document 01's number, and 0 where the call is accepted. What a call does not answer is 0, and `block` is VACANT where no
@@ -100,17 +100,18 @@ impl From<Result<Opening, Refusal>> for Answer {
     }
 }
 
-impl From<Result<Read, Refusal>> for Answer {
+impl From<Result<numbers::Read, Refusal>> for Answer {
     ghost use Rattle.std.specs.Prelude.{◌≡◌};
-    ghost use Rattle.answer.specs.Numbers.{read_of, mends_of_read};
+    ghost use Rattle.answer.specs.ByNumber.{numbered_read, mends_of_numbered_read};
     ghost use Rattle.replies.specs.Numbers.{numbers_of};
 
-    ghost from_gives = { λ a r. r ≡ numbers_of (read_of a) (mends_of_read a) };
+    ghost from_gives = { λ a r. r ≡ numbers_of (numbered_read a) (mends_of_numbered_read a) };
 
-    fn from(a: Result<Read, Refusal>) -> Answer {
+    // A read's, of any way.
+    fn from(a: Result<numbers::Read, Refusal>) -> Answer {
         match a {
             Ok(read) => Answer {
-                way: u32::from(read.way),
+                way: read.way,
                 mended: read.mends,
                 ..done()
             },
@@ -119,7 +120,40 @@ impl From<Result<Read, Refusal>> for Answer {
     }
 }
 
-// Of a page or of part of one.
+impl From<Result<Read, Refusal>> for Answer {
+    ghost use Rattle.std.specs.Prelude.{◌≡◌};
+    ghost use Rattle.answer.specs.Numbers.{read_of, mends_of_read};
+    ghost use Rattle.replies.specs.Numbers.{numbers_of};
+
+    ghost from_gives = { λ a r. r ≡ numbers_of (read_of a) (mends_of_read a) };
+
+    fn from(a: Result<Read, Refusal>) -> Answer {
+        Answer::from(numbers::of_read(a))
+    }
+}
+
+impl From<Result<numbers::Write, Refusal>> for Answer {
+    ghost use Rattle.std.specs.Prelude.{◌≡◌};
+    ghost use Rattle.answer.specs.ByNumber.{numbered_write, mends_of_numbered_write};
+    ghost use Rattle.replies.specs.Numbers.{numbers_of};
+
+    ghost from_gives = { λ a r. r ≡ numbers_of (numbered_write a) (mends_of_numbered_write a) };
+
+    // A write's, of a page or of part of one, of any way.
+    fn from(a: Result<numbers::Write, Refusal>) -> Answer {
+        match a {
+            Ok(write) => Answer {
+                way: write.way,
+                block: write.block.0,
+                merged: write.merged,
+                mended: write.mends,
+                ..done()
+            },
+            Err(why) => Answer::from(why),
+        }
+    }
+}
+
 impl From<Result<Write, Refusal>> for Answer {
     ghost use Rattle.std.specs.Prelude.{◌≡◌};
     ghost use Rattle.answer.specs.Numbers.{write_of, mends_of_write};
@@ -128,27 +162,7 @@ impl From<Result<Write, Refusal>> for Answer {
     ghost from_gives = { λ a r. r ≡ numbers_of (write_of a) (mends_of_write a) };
 
     fn from(a: Result<Write, Refusal>) -> Answer {
-        match a {
-            Ok(Write::Done { way, mends }) => Answer {
-                way: u32::from(way),
-                mended: mends,
-                ..done()
-            },
-            Ok(
-                Write::Rewrote {
-                    block,
-                    merged,
-                    mends,
-                },
-            ) => Answer {
-                way: 7,
-                block: block.0,
-                merged,
-                mended: mends,
-                ..done()
-            },
-            Err(why) => Answer::from(why),
-        }
+        Answer::from(numbers::of_write(a))
     }
 }
 

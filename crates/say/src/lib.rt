@@ -2,13 +2,14 @@
 // `Printed` says which bytes of the buffer are what, and which stay.
 #![tactic(auto)]
 
+pub mod numbers; // numbers.rt: the lines of reads and writes whose answers are in numbers
+
 ghost use Rattle.std.specs.Prelude.{◌≤◌, length};
 ghost use Rattle.answer.specs.Numbers.{opening_of, read_of, write_of, step_of, flush_of};
 ghost use Rattle.print.specs.Print.{Printed, line_room, open_line, write_line, read_line, step_line, flush_line};
 
 use address::PageNo;
 use answer::{Flush, Opening, Read, Refusal, Step, Write};
-use cache::VACANT;
 use replies::number;
 
 // An opening's.
@@ -22,18 +23,12 @@ pub fn opening(out: &mut [u8], answer: Result<Opening, Refusal>) -> usize
     }
 }
 
-// A write's, of page n. Way and block go on as numbers, since way 7 and `none` are printed beside them.
+// A write's, of page n. Its way goes on as a number, since way 7 is printed beside the others.
 pub fn write(out: &mut [u8], n: PageNo, answer: Result<Write, Refusal>) -> usize
     requires { line_room ≤ length out.old }
     ensures { Printed line_room (write_line n.0 (write_of answer)) out.old 0 out.new result }
 {
-    match answer {
-        Ok(Write::Done { way, .. }) => print::put_write(out, 0, n, u32::from(way), VACANT, 0),
-        Ok(Write::Rewrote { block, merged, .. }) => {
-            print::put_write(out, 0, n, 7, block.0, merged)
-        }
-        Err(why) => print::put_write_refused(out, 0, n, number(why)),
-    }
+    numbers::write(out, n, answer::numbers::of_write(answer))
 }
 
 // A read's, of page n, with the page's first byte.
@@ -41,10 +36,7 @@ pub fn read(out: &mut [u8], n: PageNo, answer: Result<Read, Refusal>, byte: u8) 
     requires { line_room ≤ length out.old }
     ensures { Printed line_room (read_line n.0 (read_of answer) byte) out.old 0 out.new result }
 {
-    match answer {
-        Ok(done) => print::put_read(out, 0, n, u32::from(done.way), byte),
-        Err(why) => print::put_read_refused(out, 0, n, number(why)),
-    }
+    numbers::read(out, n, answer::numbers::of_read(answer), byte)
 }
 
 // A flush step's.

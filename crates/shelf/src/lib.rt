@@ -2,17 +2,16 @@
 // write puts there, and what taking back leaves.
 #![tactic(auto)]
 
-ghost use Rattle.std.specs.Prelude.{◌≡◌, false, cond, ◌*◌, ◌<◌, ltb, eqb, length, get_or, set};
+ghost use Rattle.std.specs.Prelude.{◌≡◌, true, not, cond, ◌*◌, ◌<◌, ltb, eqb, length, get_or, set};
+ghost use Rattle.std.specs.Result.{is_ok};
 ghost use Rattle.prelude.specs.Scan.{all};
 ghost use Rattle.model.specs.Sizes.{vacant};
-ghost use Rattle.model.specs.Calls.{is_refused};
 ghost use Rattle.model.specs.Shelf.{all_vacant, shelved, shelf_ok, shelf_fits};
 ghost use Rattle.cache.specs.View.{sizes_of};
-ghost use Rattle.answer.specs.Numbers.{write_of};
 ghost use Rattle.shelf.specs.Shelf.{Room, Lowered, Shelved, Kept};
 
 use address::PageNo;
-use answer::{Refusal, Write};
+use answer::Refusal;
 use cache::{Sizes, VACANT};
 
 // How many entries are in use: the first vacant one's index.
@@ -85,17 +84,17 @@ fn entry_ok(e: u32, used: bool, pages: u64) -> bool
     e == VACANT
 }
 
-// After a write of page n: where it was accepted, the page's earlier contents, the first of `earlier`, are shelved.
-pub fn keep(
+// After a write of page n: where it was accepted, whatever it answers, the page's earlier contents, the first of `earlier`, are shelved.
+pub fn keep<T: Copy>(
     z: Sizes,
     entries: &mut [u32; 8],
     shelf: &mut [u8],
-    answer: Result<Write, Refusal>,
+    answer: Result<T, Refusal>,
     n: PageNo,
     earlier: &[u8],
 )
-    requires { is_refused (write_of answer) ≡ false → Room (sizes_of z) entries.old shelf.old earlier.now }
-    ensures { Kept (sizes_of z) (is_refused (write_of answer)) entries.old shelf.old n.0 earlier.now
+    requires { is_ok answer ≡ true → Room (sizes_of z) entries.old shelf.old earlier.now }
+    ensures { Kept (sizes_of z) (not (is_ok answer)) entries.old shelf.old n.0 earlier.now
         entries.new shelf.new }
 {
     if answer.is_ok() {
@@ -103,11 +102,10 @@ pub fn keep(
     }
 }
 
-// After taking back: where it was accepted, the latest entry is vacant.
-pub fn drop_latest(entries: &mut [u32; 8], latest: usize, answer: Result<Write, Refusal>)
+// After taking back: where it was accepted, whatever it answers, the latest entry is vacant.
+pub fn drop_latest<T: Copy>(entries: &mut [u32; 8], latest: usize, answer: Result<T, Refusal>)
     requires { latest < 8 }
-    ensures { entries.new ≡ cond (is_refused (write_of answer)) entries.old (set entries.old
-        latest vacant) }
+    ensures { entries.new ≡ cond (not (is_ok answer)) entries.old (set entries.old latest vacant) }
 {
     if answer.is_ok() {
         entries[latest] = VACANT;

@@ -3,14 +3,21 @@ use Rattle.std.specs.Prelude.{cond, List, ℕ, ◌+◌, ◌*◌, ◌<◌, ◌≤
 use Rattle.model.specs.Sizes.{vacant}
 use Rattle.model.specs.Calls.{Answer, open_done, read_done, write_done, step_done, step_clean, flush_done, refused}
 use Rattle.answer.specs.Numbers.{read_of, write_of}
+use Rattle.answer.specs.ByNumber.{numbered_read, numbered_write}
 use Rattle.tally.specs.declared.Tallies.{Tallies}
 use Rattle.tally.specs.declared.Answered.{Answered}
 use Rattle.tally.specs.declared.Answered.TheVariants as answers
+use Rattle.tally.specs.declared.numbers.Answered as numbers
+use Rattle.tally.specs.declared.numbers.Answered.TheVariants as numbered
 
 -- the model's answer, for each case of the code's
 abbrev pub answer_of : Answered → Answer
 answer_of (answers.Read r) = read_of r
 answer_of (answers.Write w) = write_of w
+
+abbrev pub numbered_answer : numbers.Answered → Answer
+numbered_answer (numbered.Read r) = numbered_read r
+numbered_answer (numbered.Write w) = numbered_write w
 
 -- nothing is counted yet
 abbrev pub no_tallies : Tallies

@@ -1,11 +1,13 @@
 // The tallies of a rehearsal (request A13), brought up to date after every call.
 #![tactic(auto)]
 
+pub mod numbers; // numbers.rt: tallies of answers in numbers
+
 ghost use Rattle.std.specs.Prelude.{◌≡◌};
 ghost use Rattle.tally.specs.Count.{answer_of, counted, no_tallies, May};
 
+use answer::numbers::{of_read, of_write};
 use answer::{Read, Refusal, Write};
-use cache::VACANT;
 
 // What a bench's call was answered.
 #[derive(Clone, Copy, PartialEq, Eq, Debug)]
@@ -39,29 +41,14 @@ pub fn none() -> Tallies
     }
 }
 
-// The tallies after a call is answered: one value to another. Way 7 erases a block, if it names one, and merges; a refused call has no way.
-fn count(t: Tallies, a: Answered) -> Tallies
-    requires { May t (answer_of a) }
-    ensures { result ≡ counted t (answer_of a) }
-{
-    let mut r = t;
-    match a {
-        Answered::Read(Ok(read)) => r.reads[u32::from(read.way) as usize] += 1,
-        Answered::Write(Ok(Write::Done { way, .. })) => r.writes[u32::from(way) as usize] += 1,
-        Answered::Write(Ok(Write::Rewrote { block, merged, .. })) => {
-            r.writes[7] += 1;
-            r.erased += u32::from(block.0 < VACANT);
-            r.merged += merged;
-        }
-        Answered::Read(Err(_)) | Answered::Write(Err(_)) => r.refused += 1,
-    }
-    r
-}
-
-// Brings the tallies that are lent up to date.
+// Brings the tallies that are lent up to date, by the answer in numbers, where way 7 stands beside the others.
 pub fn bring_up_to_date(t: &mut Tallies, a: Answered)
     requires { May t.old (answer_of a) }
     ensures { t.new ≡ counted t.old (answer_of a) }
 {
-    *t = count(*t, a);
+    let numbered = match a {
+        Answered::Read(answer) => numbers::Answered::Read(of_read(answer)),
+        Answered::Write(answer) => numbers::Answered::Write(of_write(answer)),
+    };
+    numbers::bring_up_to_date(t, numbered);
 }

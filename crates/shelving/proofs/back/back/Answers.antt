@@ -1,5 +1,5 @@
 use native.Mathlib.Omega.{arith}
-use mathlib.Core.Path.{◌≡◌, refl}
+use mathlib.Core.Path.{◌≡◌, refl, sym}
 use Prim.Native.Nat.{◌+◌, ◌-◌, ◌*◌}
 use Rattle.std.proofs.lemmas.Result.{err_from_is_err_and}
 use Rattle.prelude.specs.Pages.{page_at}
@@ -8,6 +8,7 @@ use Rattle.model.specs.Shelf as model
 use Rattle.cache.specs.View.{directory_of}
 use Rattle.lent.specs.Loan.{buffers_of}
 use Rattle.answer.specs.declared.Refusal.TheVariants as refusals
+use Rattle.answer.proofs.Refusals.{write_refused}
 use Rattle.checked.proofs.Carrying.{checked-at, down-at}
 use Rattle.shelving.proofs.OnLists.{turned_down_lem, down-back, nothing-back, latest-page, latest-small, latest-there, back_on}
 use Rattle.shelving.proofs.back.back.Goals as goal
@@ -76,4 +77,5 @@ returns-clause-shelved c =
     let a = c.args in let k = c.used-used.result in
     let q : (k - 1) * a.z.page_size + a.z.page_size - (k - 1) * a.z.page_size ≡ a.z.page_size = omega arith in
     back_on a.z _ a.entries.now (buffers_of a.lent.now a.pspace.now) a.shelf.now c.in_ok-fitting.ensures
-    _ c.used-used.ensures c.if-used-eq0.false _ _ _ _ _ _ _ c.drop_latest.ensures (rw q at c.carry-answer.ensures.called)
+    _ c.used-used.ensures c.if-used-eq0.false _ _ _ _ _ _ _
+    (rw (sym (write_refused c.carry-answer.result)) at c.drop_latest.ensures) (rw q at c.carry-answer.ensures.called)
